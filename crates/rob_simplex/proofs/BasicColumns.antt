@@ -22,17 +22,18 @@ use Rattle.rob_linear.proofs.MultipleStages.{multiple_last, multiple_cleared, mu
 use Rattle.rob_linear.proofs.Multiples.{parallel_refl}
 use Rattle.rob_linear.proofs.WithoutColumn.{cleared_without, parallel_without}
 use Rattle.rob_entries.specs.Updates.{IsWideCleared}
-use Rattle.rob_simplex.specs.Dictionaries.{Table, positions, width_of, columns_of, spare_column, rows_of, IsFree, IsAlone, IsOpen}
-use Rattle.rob_simplex.specs.Lowering.{IsLowered, amount_of, HasCleared, HasRefusedCost}
+use Rattle.rob_simplex.specs.Dictionaries.{Table, positions, width_of, columns_of, spare_column, rows_of, IsFree, IsAlone, IsOpen, KeepsOwn}
+use Rattle.rob_simplex.specs.Pivots.{CanClear}
+use Rattle.rob_simplex.specs.Lowering.{IsLowered, amount_of, HasCleared, HasRefusedCost, HasWay}
 use Rattle.rob_simplex.specs.Phases.{StandsFor}
 use Rattle.rob_simplex.proofs.FreeColumns.{basic_column_low, way_free}
 use Rattle.rob_simplex.proofs.CostStages.{narrowed, cleared_parallel, equal_parallel, rows_is, columns_is, width_is, half, auxiliary_zero, spare_zero, half_wide, next_stands}
 use Rattle.rob_simplex.proofs.PivotLemmas.{set_twice, cleared_by_times, zero_stays, free_opened}
-use Rattle.rob_simplex.proofs.Replacing.{basic_low, basic_high}
-use Rattle.rob_simplex.proofs.SecondPhase.{shorter}
+use Rattle.rob_simplex.proofs.ReadRows.{basic_low, basic_high}
+use Rattle.rob_simplex.proofs.Ranks.{shorter}
 
 -- ---- a basic column in a dictionary at stage j
-module _ (P : Program) (j : ℕ) (jl : j < P.n) (t : Table) (h : StandsFor (truncated P j) t) (i : ℕ) (il : i < positions t) (oi : columns_of t.basis i ≡ j) where
+module _ (P : Program) (j : ℕ) (jl : j < P.n) {t : Table} (h : StandsFor (truncated P j) t) (i : ℕ) (il : i < positions t) (oi : columns_of t.basis i ≡ j) where
   rows_at : positions t ≡ P.m
   rows_at = rows_is P j jl t h
 
@@ -137,15 +138,14 @@ module _ (P : Program) (j : ℕ) (jl : j < P.n) (t : Table) (h : StandsFor (trun
               let s : suc j ≡ P.n = omega (arith, jl) in
               let row : IsMultipleRow (system_of P) (own_of (system_of P) (columns_of t.basis)) P.m (λ k. v.0 (auxiliary_place P k)) =
               multiple_last P (own_of (system_of P) (columns_of t.basis)) (λ k. v.0 (auxiliary_place P k)) (subst (λ k. IsMultipleStage P (own_of (system_of P) (columns_of t.basis)) k (λ k. v.0 (auxiliary_place P k))) s stage) in
-              inl (λ k. v.0 (auxiliary_place P k), basic_column_low (truncated P j) t h, record { along = row.along; positive = row.positive; primitive = x.0 }, x.1)
+              inl (λ k. v.0 (auxiliary_place P k), basic_column_low h, record { along = row.along; positive = row.positive; primitive = x.0 }, x.1)
         ]
 
     pub refused_wide : (limit : ℕ) → HasRefusedCost limit t i j factor → IsOwnWideAt limit P (columns_of t.basis) P.m
     refused_wide limit x = elim x [ inl a ↦ half_wide P j jl t h limit factor ef a | inr a ↦ stage_wide limit a.0 a.1 a.2 ]
 
   -- ---- its position opened by the spare column
-  module _ (s : ℕ) (es : s ≡ spare_column t.columns (positions t)) (t1 : Table) (b1 : t1.basis ≡ set t.basis i s) (n1 : t1.columns ≡ t.columns)
-      (r1 : IsAlone t i s → (k c : ℕ) → k ≤ positions t → c < t.columns + positions t + 4 → rows_of t1 k c ≡ rows_of t k c) where
+  module _ {s : ℕ} (es : s ≡ spare_column t.columns (positions t)) (t1 : Table) (b1 : t1.basis ≡ set t.basis i s) (n1 : t1.columns ≡ t.columns) (r1 : IsAlone t i s → (k c : ℕ) → k ≤ positions t → c < t.columns + positions t + 4 → rows_of t1 k c ≡ rows_of t k c) where
     m1 : positions t1 ≡ positions t
     m1 = ap length b1 ∙ length-set t.basis i s
 
@@ -155,10 +155,10 @@ module _ (P : Program) (j : ℕ) (jl : j < P.n) (t : Table) (h : StandsFor (trun
     free_in : (c : ℕ) → IsFree t.columns (set t.basis i s) c → IsFree t1.columns t1.basis c
     free_in c f = subst (λ (b : List ℕ). IsFree t1.columns b c) (sym b1) (subst (λ n. IsFree n (set t.basis i s) c) (sym n1) f)
 
-    pub way1 : IsFree t1.columns t1.basis (t1.columns + positions t1)
+    way1 : IsFree t1.columns t1.basis (t1.columns + positions t1)
     way1 =
         let e : t.columns + positions t ≡ t1.columns + positions t1 = omega (arith, m1, n1) in
-        subst (λ c. IsFree t1.columns t1.basis c) e (free_in (t.columns + positions t) (free_opened t i (t.columns + positions t) s es il (way_free (truncated P j) t h) (λ x. absurd (omega arith))))
+        subst (λ c. IsFree t1.columns t1.basis c) e (free_in (t.columns + positions t) (free_opened t i (t.columns + positions t) s es il (way_free h) (λ x. absurd (omega arith))))
 
     pub free1 : IsFree t1.columns t1.basis j
     free1 = free_in j record {
@@ -178,7 +178,7 @@ module _ (P : Program) (j : ℕ) (jl : j < P.n) (t : Table) (h : StandsFor (trun
     spare1 : spare_column t1.columns (positions t1) ≡ s
     spare1 = omega (arith, es, n1, m1)
 
-    pub open1 : IsOpen t1 i
+    open1 : IsOpen t1 i
     open1 = record {
       spare = ap (λ (b : List ℕ). columns_of b i) b1 ∙ get_or-set_same t.basis i s 0 il ∙ sym spare1;
       zero = ap (rows_of t1 i) spare1 ∙ same1 i s (omega (arith, il)) (omega (arith, es)) ∙ ap (rows_of t i) es ∙ h.closed.zero i (omega (arith, il));
@@ -187,19 +187,25 @@ module _ (P : Program) (j : ℕ) (jl : j < P.n) (t : Table) (h : StandsFor (trun
     column_in : j < width_of t
     column_in = omega (arith, jl, columns_at)
 
-    pub positive1 : pos 0 <ℤ rows_of t1 i j
+    positive1 : pos 0 <ℤ rows_of t1 i j
     positive1 = subst (λ z. pos 0 <ℤ z) (sym (same1 i j (omega (arith, il)) column_in)) own_positive
 
     pub alone1 : IsAlone t1 i j
     alone1 k kl d = same1 k j (omega (arith, m1)) column_in ∙ low_zero k (omega (arith, m1, rows_at)) d
 
-    pub zero1 : rows_of t1 (positions t1) (t1.columns + positions t1) ≡ pos 0
+    zero1 : rows_of t1 (positions t1) (t1.columns + positions t1) ≡ pos 0
     zero1 =
         let e : t1.columns + positions t1 ≡ P.n + P.m = omega (arith, m1, n1, rows_at, columns_at) in
         ap (rows_of t1 (positions t1)) e ∙ same1 (positions t1) (P.n + P.m) (omega (arith, m1)) (omega (arith, rows_at, columns_at)) ∙ h.empty (positions t1) (omega (arith, m1, rows_at))
 
-    pub not_way : j ≢ t1.columns + positions t1
+    not_way : j ≢ t1.columns + positions t1
     not_way e = absurd (omega (arith, jl, n1, columns_at))
+
+    pub clears1 : KeepsOwn (positions t1 + 1) t1 i → CanClear (positions t1 + 1) t1 i j
+    clears1 own = record { row_in = omega (arith, il, m1); free = free1; opened = open1; below = omega arith; positive = positive1; own = own }
+
+    pub has_way : HasWay t1 j
+    has_way = record { free = free1; way = way1; other = not_way; zero = zero1 }
 
     -- ---- and brought in again
     pub basis_back : (t3 t4 : Table) → t3.basis ≡ t1.basis → t4.basis ≡ set t3.basis i j → t4.basis ≡ t.basis

@@ -21,8 +21,9 @@ use Rattle.rob_simplex.proofs.BrokenPivots.{IsPivotable}
 use Rattle.rob_simplex.proofs.Causes.{ends_wide}
 use Rattle.rob_simplex.proofs.OwnEntries.{own_positive, some_of}
 use Rattle.rob_simplex.proofs.JudgingLemmas.{stands_own}
+use Rattle.rob_simplex.proofs.FreeColumns.{basics_inside}
 use Rattle.rob_simplex.proofs.PathsFrom.{from_here, one_turn, second_from, wide_from, refused_from}
-use Rattle.rob_simplex.proofs.Replacing.{basic_low, basic_high}
+use Rattle.rob_simplex.proofs.ReadRows.{basic_low, basic_high}
 use Rattle.rob_simplex.proofs.SecondPhase.{entering_free, not_spare, turn_second, turns_on, wide_second}
 
 -- ---- what is known where a path stopped
@@ -62,7 +63,7 @@ halted_path limit P s i First h = h
 halted_path limit P s i Elsewhere h = h
 
 -- ---- a turn that was begun is ended
-module _ (P : Program) (t : Table) (row : ℕ) (h : HasBegunTurn (InSecond P) t row) where
+module _ (P : Program) {t : Table} {row : ℕ} (h : HasBegunTurn (InSecond P) t row) where
   st : StandsFor P h.before
   st = h.stood.own
 
@@ -85,22 +86,14 @@ module _ (P : Program) (t : Table) (row : ℕ) (h : HasBegunTurn (InSecond P) t 
             ap (rows_of h.before row) (basic_high h.before.columns h.before.basis i l ∙ x ∙ sym (place_high P (P.n + P.m) (omega arith)) ∙ ap (auxiliary_place P) (sym e)) ∙ z
       ]
 
-  own_inside : (i : ℕ) → i ≤ positions h.before → basic_columns h.before.columns h.before.basis i < width_of h.before
-  own_inside i il = elim (cases_lt i (positions h.before)) [
-    | inl l ↦
-        let c : columns_of h.before.basis i < h.before.columns + positions h.before = ((stands_own P h.before st).rows i l).0 in
-        subst (λ v. v < width_of h.before) (sym (basic_low h.before.columns h.before.basis i l)) (omega arith)
-    | inr l ↦ subst (λ v. v < width_of h.before) (sym (basic_high h.before.columns h.before.basis i l)) (omega arith)
-  ]
-
   pub pivotable_turn : IsPivotable h.before row h.column
   pivotable_turn = record {
     row_in = h.leaves.inside;
-    free = entering_free P h.before st h.column h.enters;
-    apart = not_spare P h.before st h.column h.enters;
+    free = entering_free st h.enters;
+    apart = not_spare st h.enters;
     others_apart = λ i il d. st.closed.free i il;
     positive = h.leaves.positive;
-    inside = λ i il d. own_inside i il;
+    inside = λ i il d. basics_inside st i il;
     own = λ i il d. some_of (rows_of h.before i (basic_columns h.before.columns h.before.basis i)) (own_positive h.before (stands_own P h.before st) i il);
     top_zero = top_zero;
   }
@@ -109,12 +102,12 @@ module _ (P : Program) (t : Table) (row : ℕ) (h : HasBegunTurn (InSecond P) t 
     pub turn_ended : IsPivoted h.before t' row h.column → IsClosed t' → t'.columns ≡ h.before.columns → InSecond P t'
     turn_ended p c en =
         stands_on P h.before h.stood t' (
-          turn_second P h.before st h.column h.enters row h.leaves t' p c eb en,
-          one_turn P (columns_of h.before.basis) h.before t' (from_here P h.before st) (turns_on P h.before st h.column h.enters row h.leaves t' eb),
+          turn_second st h.enters h.leaves t' p c eb en,
+          one_turn P (columns_of h.before.basis) h.before t' (from_here P h.before st) (turns_on st h.enters h.leaves t' eb),
         )
 
     pub turn_wide : (limit i : ℕ) → i ≤ positions h.before → i ≢ row → IsWideCleared limit (width_of h.before) h.column (rows_of h.before i) (rows_of h.before row) → HasWideRow limit P (columns_of t'.basis) i
     turn_wide limit i il d w =
         wide_from limit P h.before (columns_of t'.basis) i h.stood
         (refused_from limit P (columns_of h.before.basis) h.before t' i (from_here P h.before st)
-        (wide_second P h.before st h.column h.enters row h.leaves limit i il d w t' eb))
+        (wide_second st h.enters h.leaves limit i il d w t' eb))

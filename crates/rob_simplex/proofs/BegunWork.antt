@@ -34,12 +34,12 @@ begun_stopped P s h = stopped_in P s s.state h
 pub turn_row : (P : Program) (t : Table) (row : ℕ) → HasBegunTurn (InSecond P) t row → row < rows_count t
 turn_row P t row h =
     let l : row < rows_count h.before = h.leaves.inside in
-    let e = begun_size h.before t row h.column (pivotable_turn P t row h) h.broken in
+    let e = begun_size (pivotable_turn P h) h.broken in
     omega arith
 
 pub begun_rows : (P : Program) (v : Solver) (cause : Cause) → HasBegunAt (InSecond P) cause v.dictionary → P.m ≡ positions v
 begun_rows P v (Turn row) h =
-    let e = begun_size h.before v.dictionary row h.column (pivotable_turn P v.dictionary row h) h.broken in
+    let e = begun_size (pivotable_turn P h) h.broken in
     sym h.stood.own.rows_are ∙ sym e
 begun_rows P v First h = absurd h
 begun_rows P v Told h = absurd h

@@ -15,7 +15,7 @@ use Rattle.rob_simplex.specs.Dictionaries.{Table, positions, width_of, columns_o
 use Rattle.rob_simplex.specs.Begun.{IsBroken}
 use Rattle.rob_simplex.proofs.OwnEntries.{basic_set}
 use Rattle.rob_simplex.proofs.PivotLemmas.{set_twice, zero_stays, free_opened, times_ring}
-use Rattle.rob_simplex.proofs.Replacing.{basic_low, basic_high}
+use Rattle.rob_simplex.proofs.ReadRows.{basic_low, basic_high}
 
 -- ---- a row that is cleared again
 -- by a multiple of the row that cleared it
@@ -101,7 +101,7 @@ pub record IsPivotable (t : Table) (row column : ℕ) : Type 0 where
   pub own : (i : ℕ) → i ≤ positions t → i ≢ row → rows_of t i (basic_columns t.columns t.basis i) ≢ pos 0
   pub top_zero : (i : ℕ) → i ≤ positions t → i ≢ row → rows_of t row (basic_columns t.columns t.basis i) ≡ pos 0
 
-module _ (b t : Table) (row column : ℕ) (a : IsPivotable b row column) (h : IsBroken b t row column) where
+module _ {b t : Table} {row column : ℕ} (a : IsPivotable b row column) (h : IsBroken b t row column) where
   column_in : column < width_of b
   column_in = a.free.inside
 
@@ -141,7 +141,7 @@ module _ (b t : Table) (row column : ℕ) (a : IsPivotable b row column) (h : Is
     not_right = λ x. absurd (omega arith);
   }
 
-  module _ (k z : ℕ) (ek : k ≡ columns_of t.basis row) (ez : z ≡ spare_column t.columns (positions t)) (r : Table) (x : IsExchanged t r row (columns_of t.basis row) z) where
+  module _ {k z : ℕ} (ek : k ≡ columns_of t.basis row) (ez : z ≡ spare_column t.columns (positions t)) {r : Table} (x : IsExchanged t r row (columns_of t.basis row) z) where
     k_is : k ≡ column
     k_is = ek ∙ column_is
 

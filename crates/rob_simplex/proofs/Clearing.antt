@@ -1,27 +1,14 @@
 -- A table's rows, cleared one by one.
-use Rattle.std.proofs.Common.{◌≡◌, ◌≢◌, ℕ, ◌+◌, ◌*◌, ◌<◌, ◌≤◌, sym, ap, ◌∙◌, refl, subst, arith, inl, inr, ◌⊎◌, List, length}
+use Rattle.std.proofs.Common.{◌≡◌, ◌≢◌, ℕ, ◌+◌, ◌*◌, ◌<◌, ◌≤◌, sym, ◌∙◌, refl, subst, arith, inl, inr, ◌⊎◌, List, length}
 use Rattle.std.proofs.lemmas.Bool.{cases_eq, cases_order}
 use lib.IntN.{ℤ, pos, ◌-ℤ◌, ◌*ℤ◌}
 use Rattle.rob_linear.specs.Vectors.{Matrix, Vector, at}
 use Rattle.rob_linear.specs.Multiples.{IsClearedBy}
 use Rattle.rob_linear.proofs.Multiples.{zero_clears}
-use Rattle.rob_number.specs.Counts.{raised}
 use Rattle.rob_entries.specs.Updates.{IsWideCleared}
+use Rattle.rob_entries.proofs.ClearingLemmas.{cleared_ext}
 use Rattle.rob_simplex.specs.Tables.{row_at, HasBounds, AreCleared, IsStopped}
 use Rattle.rob_simplex.proofs.Places.{row_within}
-
--- rows with the same entries are cleared alike
-pub cleared_ext : (width place : ℕ) (low low' top new new' : Vector) → ((k : ℕ) → k < width → low k ≡ low' k) → ((k : ℕ) → k < width → new k ≡ new' k) → place < width
-    → IsClearedBy width place low top new → IsClearedBy width place low' top new'
-cleared_ext width place low low' top new new' el en pl c = record {
-  divisor = c.divisor;
-  p = c.p;
-  q = c.q;
-  divides = c.divides;
-  positive = c.positive;
-  entries = λ k l. ap (λ t. c.divisor *ℤ t) (sym (en k l)) ∙ c.entries k l ∙ ap (λ t. (c.p *ℤ t) -ℤ (c.q *ℤ top k)) (el k l);
-  cleared = sym (en place pl) ∙ c.cleared;
-}
 
 -- ---- a row of the table
 pub row_in : (limit width : ℕ) (rows : List ℤ) (bounds : List ℕ) → HasBounds limit width rows bounds → (i : ℕ) → i < length bounds → i * width + width ≤ length rows
@@ -87,6 +74,3 @@ module _ (width e place : ℕ) (top : Vector) (pl : place < width) (rows : Matri
     before = h;
     wide = (w.0, cleared_ext width place (now i) (rows i) top w.0 w.0 (λ k kl. h.others i k (omega arith) kl) (λ k kl. refl) pl w.1, w.2, w.3);
   }
-
-pub rises : (n : ℕ) → n ≤ raised n
-rises n = omega arith

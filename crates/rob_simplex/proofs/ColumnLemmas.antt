@@ -5,9 +5,9 @@ use lib.IntN.{ℤ}
 use Rattle.rob_simplex.specs.Dictionaries.{columns_of, basic_columns, IsSound}
 use Rattle.rob_simplex.specs.Solutions.{position_of}
 use Rattle.rob_simplex.proofs.Positions.{position_found, position_none}
-use Rattle.rob_simplex.proofs.Replacing.{basic_low, basic_high}
+use Rattle.rob_simplex.proofs.ReadRows.{basic_low, basic_high}
 
-module _ (limit n : ℕ) (basis places near : List ℕ) (table : List ℤ) (bounds : List ℕ) (room : ℕ) (sound : IsSound limit n basis places near table bounds room) where
+module _ {limit n : ℕ} {basis places near : List ℕ} {table : List ℤ} {bounds : List ℕ} {workspace : ℕ} (sound : IsSound limit n basis places near table bounds workspace) where
   basic_place : (j : ℕ) → j < length basis → columns_of places (columns_of basis j) ≡ n + 3 + j
   basic_place j l = ap (columns_of places) (sym (basic_low n basis j l)) ∙ sound.placed.basic_at j (omega arith)
 

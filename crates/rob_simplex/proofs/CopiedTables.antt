@@ -16,15 +16,15 @@ pub same_table : (l l' n n' : ℕ) (b b' p p' : List ℕ) (t t' : List ℤ) → 
 same_table l l' n n' b b' p p' t t' el en eb ep et =
     ap (λ v. table_of v n b p t) el ∙ ap (λ v. table_of l' v b p t) en ∙ ap (λ v. table_of l' n' v p t) eb ∙ ap (λ v. table_of l' n' b' v t) ep ∙ ap (λ v. table_of l' n' b' p' v) et
 
-pub copied_sound : (l l' n n' : ℕ) (b b' p p' k k' : List ℕ) (t t' : List ℤ) (u u' : List ℕ) (room room' : ℕ) → l ≡ l' → n ≡ n' → b ≡ b' → p ≡ p' → k ≡ k' → t ≡ t' → u ≡ u' → room ≡ room'
-    → IsSound l' n' b' p' k' t' u' room' → IsSound l n b p k t u room
-copied_sound l l' n n' b b' p p' k k' t t' u u' room room' el en eb ep ek et eu er h =
-    subst (λ v. IsSound v n b p k t u room) (sym el)
-    (subst (λ v. IsSound l' v b p k t u room) (sym en)
-    (subst (λ v. IsSound l' n' v p k t u room) (sym eb)
-    (subst (λ v. IsSound l' n' b' v k t u room) (sym ep)
-    (subst (λ v. IsSound l' n' b' p' v t u room) (sym ek)
-    (subst (λ v. IsSound l' n' b' p' k' v u room) (sym et) (subst (λ v. IsSound l' n' b' p' k' t' v room) (sym eu) (subst (λ v. IsSound l' n' b' p' k' t' u' v) (sym er) h)))))))
+pub copied_sound : (l l' n n' : ℕ) (b b' p p' k k' : List ℕ) (t t' : List ℤ) (u u' : List ℕ) (workspace workspace' : ℕ) → l ≡ l' → n ≡ n' → b ≡ b' → p ≡ p' → k ≡ k' → t ≡ t' → u ≡ u' → workspace ≡ workspace'
+    → IsSound l' n' b' p' k' t' u' workspace' → IsSound l n b p k t u workspace
+copied_sound l l' n n' b b' p p' k k' t t' u u' workspace workspace' el en eb ep ek et eu er h =
+    subst (λ v. IsSound v n b p k t u workspace) (sym el)
+    (subst (λ v. IsSound l' v b p k t u workspace) (sym en)
+    (subst (λ v. IsSound l' n' v p k t u workspace) (sym eb)
+    (subst (λ v. IsSound l' n' b' v k t u workspace) (sym ep)
+    (subst (λ v. IsSound l' n' b' p' v t u workspace) (sym ek)
+    (subst (λ v. IsSound l' n' b' p' k' v u workspace) (sym et) (subst (λ v. IsSound l' n' b' p' k' t' v workspace) (sym eu) (subst (λ v. IsSound l' n' b' p' k' t' u' v) (sym er) h)))))))
 
 abbrev pub solver_of : State → Table → List ℤ → Solver
 solver_of s t w = record { state = s; dictionary = t; weights = w }
@@ -33,8 +33,8 @@ pub same_solver : (s : State) (t t' : Table) (w w' : List ℤ) → t ≡ t' → 
 same_solver s t t' w w' et ew = ap (λ v. solver_of s v w) et ∙ ap (λ v. solver_of s t' v) ew
 
 -- ---- rows of a greater limit
-pub raised_sound : (l l' n : ℕ) (b p k : List ℕ) (t : List ℤ) (u : List ℕ) (room room' : ℕ) → l ≤ l' → room' ≡ n + 4 → IsSound l n b p k t u room → IsSound l' n b p k t u room'
-raised_sound l l' n b p k t u room room' up er h = record {
+pub raised_sound : (l l' n : ℕ) (b p k : List ℕ) (t : List ℤ) (u : List ℕ) (workspace workspace' : ℕ) → l ≤ l' → workspace' ≡ n + 4 → IsSound l n b p k t u workspace → IsSound l' n b p k t u workspace'
+raised_sound l l' n b p k t u workspace workspace' up er h = record {
   few = h.few;
   limit_low = omega (arith, h.limit_low);
   count = h.count;
@@ -43,7 +43,7 @@ raised_sound l l' n b p k t u room room' up er h = record {
   near_size = h.near_size;
   placed = h.placed;
   right_at = h.right_at;
-  room_is = er;
+  workspace_is = er;
 }
 
 -- a place stands in a row

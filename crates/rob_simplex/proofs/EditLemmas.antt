@@ -10,8 +10,7 @@ use Rattle.rob_linear.proofs.BesidePaths.{exchanged_q, exchanged_p, exchanged_ot
 use Rattle.rob_linear.proofs.CondensedRows.{placed_swapped, swapped_entry}
 use Rattle.rob_simplex.specs.Tables.{row_at, bound_at, HasBounds}
 use Rattle.rob_simplex.specs.Dictionaries.{Table, columns_of, basic_columns, right_column, read_row, rows_of, kept_row_of, IsSound, IsFree}
-use Rattle.rob_simplex.proofs.Replacing.{basic_low, basic_high}
-use Rattle.rob_simplex.proofs.TableClearing.{read_near, read_own, read_none, read_same}
+use Rattle.rob_simplex.proofs.ReadRows.{read_near, read_own, read_none, read_same, basic_low, basic_high}
 
 -- ---- rows and bounds that were lent and written back
 pub carry : (table old new t : List ℤ) (width i j k : ℕ) → old ≡ table → t ≡ new → row_at new width i k ≡ row_at old width j k → row_at t width i k ≡ row_at table width j k
@@ -23,7 +22,7 @@ carry_value new t width i k v et h = ap (λ (s : List ℤ). row_at s width i k) 
 pub bounds_carry : (limit width : ℕ) (new t : List ℤ) (news ts : List ℕ) → t ≡ new → ts ≡ news → HasBounds limit width new news → HasBounds limit width t ts
 bounds_carry limit width new t news ts et es h = subst (λ (s : List ℤ). HasBounds limit width s ts) (sym et) (subst (λ (s : List ℕ). HasBounds limit width new s) (sym es) h)
 
-module _ (limit n : ℕ) (basis places near : List ℕ) (table : List ℤ) (bounds : List ℕ) (room : ℕ) (sound : IsSound limit n basis places near table bounds room) where
+module _ {limit n : ℕ} {basis places near : List ℕ} {table : List ℤ} {bounds : List ℕ} {workspace : ℕ} (sound : IsSound limit n basis places near table bounds workspace) where
   abbrev pub table_with : List ℤ → Table
   table_with t = record { limit = limit; columns = n; basis = basis; places = places; table = t }
 
@@ -190,7 +189,7 @@ module _ (limit n : ℕ) (basis places near : List ℕ) (table : List ℤ) (boun
       ]
     ]
 
-    pub exchanged_sound : (new : List ℤ) (news : List ℕ) → HasBounds limit (n + 4) new news → length news ≡ length bounds → IsSound limit n basis' places' near new news room
+    pub exchanged_sound : (new : List ℤ) (news : List ℕ) → HasBounds limit (n + 4) new news → length news ≡ length bounds → IsSound limit n basis' places' near new news workspace
     exchanged_sound new news h ln = record {
       few = subst (λ t. n + t < 2 ^ 31) (sym same_length) sound.few;
       limit_low = sound.limit_low;
@@ -204,7 +203,7 @@ module _ (limit n : ℕ) (basis places near : List ℕ) (table : List ℤ) (boun
           ap (λ t. columns_of places' (right_column n t)) same_length
           ∙ stays (right_column n (length basis)) (let s : columns_of places (right_column n (length basis)) ≡ n + 2 = sound.right_at in omega arith)
           ∙ sound.right_at;
-      room_is = sound.room_is;
+      workspace_is = sound.workspace_is;
     }
 
     read_exchanged : (rows rows' : Matrix) (i : ℕ) → i ≤ length basis → ((k : ℕ) → k < n + 4 → rows' i k ≡ rows (exchanged a b i) k) → (c : ℕ) → c < n + length basis + 4

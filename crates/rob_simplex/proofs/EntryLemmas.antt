@@ -9,9 +9,9 @@ use Rattle.rob_simplex.specs.Tables.{row_at, bound_at}
 use Rattle.rob_simplex.specs.Dictionaries.{Table, columns_of, basic_columns, right_column, read_row, rows_of, IsSound, FirstNegative}
 use Rattle.rob_entries.specs.Choices.{IsLowest}
 use Rattle.rob_simplex.proofs.Places.{row_within}
-use Rattle.rob_simplex.proofs.TableClearing.{read_near, read_own, read_none}
+use Rattle.rob_simplex.proofs.ReadRows.{read_near, read_own, read_none}
 
-module _ (limit n : ℕ) (basis places near : List ℕ) (table : List ℤ) (bounds : List ℕ) (room : ℕ) (sound : IsSound limit n basis places near table bounds room) (i : ℕ) (il : i ≤ length basis) where
+module _ {limit n : ℕ} {basis places near : List ℕ} {table : List ℤ} {bounds : List ℕ} {workspace : ℕ} (sound : IsSound limit n basis places near table bounds workspace) (i : ℕ) (il : i ≤ length basis) where
   abbrev pub shown : Table
   shown = record { limit = limit; columns = n; basis = basis; places = places; table = table }
 
@@ -77,19 +77,19 @@ module _ (limit n : ℕ) (basis places near : List ℕ) (table : List ℤ) (boun
         (λ j jl jn. none_before (n + length basis) b low j jl jn) own_nonneg k (omega arith) l
 
 -- ---- no entry is over the limit
-pub small_entries : (limit n : ℕ) (basis places near : List ℕ) (table : List ℤ) (bounds : List ℕ) (room : ℕ) → IsSound limit n basis places near table bounds room → (i c : ℕ) → i ≤ length basis
-    → nat_abs (read_row (n + 3) (columns_of places) i (row_at table (n + 4) i) c) ≤ limit
-small_entries limit n basis places near table bounds room s i c il =
-    let il2 : i < length bounds = omega (arith, s.count) in
-    let low : bound_at bounds i ≤ limit = s.bounded.low i il2 in
-    elim (cases_lt (columns_of places c) (n + 3)) [
-      | inl l ↦
-          let b : nat_abs (row_at table (n + 4) i (columns_of places c)) ≤ bound_at bounds i = s.bounded.within i (columns_of places c) il2 (omega arith) in
-          subst (λ z. nat_abs z ≤ limit) (sym (read_near (n + 3) (columns_of places) i (row_at table (n + 4) i) c l)) (omega arith)
-      | inr l ↦ elim (cases_eq (columns_of places c) (n + 3 + i)) [
-        | inl e ↦
-            let b : nat_abs (row_at table (n + 4) i (n + 3)) ≤ bound_at bounds i = s.bounded.within i (n + 3) il2 (omega arith) in
-            subst (λ z. nat_abs z ≤ limit) (sym (read_own (n + 3) (columns_of places) i (row_at table (n + 4) i) c e)) (omega arith)
-        | inr d ↦ subst (λ z. nat_abs z ≤ limit) (sym (read_none (n + 3) (columns_of places) i (row_at table (n + 4) i) c l d)) (omega arith)
+module _ {limit n : ℕ} {basis places near : List ℕ} {table : List ℤ} {bounds : List ℕ} {workspace : ℕ} (s : IsSound limit n basis places near table bounds workspace) where
+  pub small_entries : (i c : ℕ) → i ≤ length basis → nat_abs (read_row (n + 3) (columns_of places) i (row_at table (n + 4) i) c) ≤ limit
+  small_entries i c il =
+      let il2 : i < length bounds = omega (arith, s.count) in
+      let low : bound_at bounds i ≤ limit = s.bounded.low i il2 in
+      elim (cases_lt (columns_of places c) (n + 3)) [
+        | inl l ↦
+            let b : nat_abs (row_at table (n + 4) i (columns_of places c)) ≤ bound_at bounds i = s.bounded.within i (columns_of places c) il2 (omega arith) in
+            subst (λ z. nat_abs z ≤ limit) (sym (read_near (n + 3) (columns_of places) i (row_at table (n + 4) i) c l)) (omega arith)
+        | inr l ↦ elim (cases_eq (columns_of places c) (n + 3 + i)) [
+          | inl e ↦
+              let b : nat_abs (row_at table (n + 4) i (n + 3)) ≤ bound_at bounds i = s.bounded.within i (n + 3) il2 (omega arith) in
+              subst (λ z. nat_abs z ≤ limit) (sym (read_own (n + 3) (columns_of places) i (row_at table (n + 4) i) c e)) (omega arith)
+          | inr d ↦ subst (λ z. nat_abs z ≤ limit) (sym (read_none (n + 3) (columns_of places) i (row_at table (n + 4) i) c l d)) (omega arith)
+        ]
       ]
-    ]

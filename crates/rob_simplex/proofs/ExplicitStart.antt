@@ -4,9 +4,9 @@ use Rattle.std.proofs.lemmas.Bool.{cases_eq, cases_lt}
 use Rattle.std.proofs.lemmas.Int.{ints}
 use Rattle.std.proofs.lemmas.List.{get_or-set_same, get_or-set_other, length-set}
 use Rattle.std.specs.Int.RustNames.{unsigned_abs}
-use lib.IntN.{pos, ◌*ℤ◌, neg_ℤ}
+use lib.IntN.{pos, ◌*ℤ◌}
 use lib.Signed.{◌<ℤ◌}
-use Rattle.rob_linear.specs.Vectors.{Vector, Columns}
+use Rattle.rob_linear.specs.Vectors.{Vector}
 use Rattle.rob_linear.specs.Systems.{IsPrimitive}
 use Rattle.rob_linear.specs.Programs.{Program, auxiliary_row, auxiliary_of, kept_of}
 use Rattle.rob_linear.specs.Turns.{own_of}
@@ -16,7 +16,6 @@ use Rattle.rob_linear.specs.Multiples.{IsMultipleRow, IsClearedBy, StandsMultipl
 use Rattle.rob_linear.specs.Beside.{StandsBeside, IsBackPivot, path_basis}
 use Rattle.rob_linear.proofs.Programs.{auxiliary_cost_zero, auxiliary_cost_entry, auxiliary_cost_objective}
 use Rattle.rob_linear.proofs.OtherCosts.{turned_same}
-use Rattle.rob_linear.proofs.Multiples.{parallel_sym, parallel_positive}
 use Rattle.rob_linear.proofs.Beside.{put_same}
 use Rattle.rob_linear.proofs.BesideColumns.{holds_stands, stands_multiple_same}
 use Rattle.rob_linear.proofs.BesideLoops.{beside_needs}
@@ -27,18 +26,16 @@ use Rattle.rob_simplex.specs.Phases.{IsOpenBeside}
 use Rattle.rob_simplex.specs.Explicit.{InExplicit, IsPrepared}
 use Rattle.rob_simplex.proofs.Prepared.{cleared_same, row_of_same, wide_same}
 use Rattle.rob_simplex.proofs.PivotLemmas.{set_twice, zero_stays, free_opened}
-use Rattle.rob_simplex.proofs.FirstPhase.{set_is, auxiliary_free}
-use Rattle.rob_simplex.proofs.ExplicitTurns.{wide_cleared, wide_primitive, wide_entry}
+use Rattle.rob_simplex.proofs.RoundRows.{set_is}
+use Rattle.rob_simplex.proofs.BesideRows.{auxiliary_free, open_positive}
+use Rattle.rob_simplex.proofs.SpareColumns.{wide_cleared, wide_primitive, wide_entry}
 
-module _ (P : Program) (q : ℕ) (t : Table) (h : IsOpenBeside P q t) where
+module _ {P : Program} {q : ℕ} {t : Table} (h : IsOpenBeside P q t) where
   q_low : q < P.m
   q_low = h.stood.holds.inside
 
   pub open_size : positions t ≡ P.m
   open_size = ap length h.basis ∙ length-set h.before.basis q (spare_column P.n P.m) ∙ h.stood.rows_are
-
-  pub open_row : q < positions t
-  open_row = omega (arith, open_size, q_low)
 
   size_is : t.columns + positions t ≡ P.n + P.m
   size_is = omega (arith, open_size, h.columns_are)
@@ -49,22 +46,12 @@ module _ (P : Program) (q : ℕ) (t : Table) (h : IsOpenBeside P q t) where
       let ql : q < positions h.before = omega (arith, h.stood.rows_are, q_low) in
       subst (λ n. IsFree n t.basis (P.n + P.m)) (h.stood.columns_are ∙ sym h.columns_are)
       (subst (λ (b : List ℕ). IsFree h.before.columns b (P.n + P.m)) (sym h.basis)
-      (free_opened h.before q (P.n + P.m) (spare_column P.n P.m) e ql (auxiliary_free P q h.before h.stood) (λ x. absurd (omega (arith, e)))))
+      (free_opened h.before q (P.n + P.m) (spare_column P.n P.m) e ql (auxiliary_free h.stood) (λ x. absurd (omega (arith, e)))))
 
   pub open_free : IsFree t.columns t.basis (t.columns + positions t)
   open_free = subst (λ x. IsFree t.columns t.basis x) (sym size_is) free
 
-  positive : pos 0 <ℤ rows_of t q (P.n + P.m)
-  positive =
-      let b : rows_of h.before q (P.n + P.m) <ℤ pos 0 = h.stood.holds.below in
-      let n : pos 0 <ℤ neg_ℤ (rows_of h.before q (P.n + P.m)) = omega (arith, ints) in
-      parallel_positive (suc (suc (suc (P.n + P.m)))) (λ k. neg_ℤ (rows_of h.before q k)) (rows_of t q) (P.n + P.m)
-      (parallel_sym (suc (suc (suc (P.n + P.m)))) (rows_of t q) (λ k. neg_ℤ (rows_of h.before q k)) h.begun.row_at) (omega arith) n
-
   -- the basis of the path
-  abbrev on_path : Columns
-  on_path = path_basis P (columns_of h.before.basis) q
-
   path_auxiliary : HasAuxiliary P (path_basis P (columns_of h.before.basis) q)
   path_auxiliary = (q, q_low, sym (put_same (columns_of h.before.basis) q (P.n + P.m)))
 
@@ -74,7 +61,7 @@ module _ (P : Program) (q : ℕ) (t : Table) (h : IsOpenBeside P q t) where
   stands_there : StandsBeside P (path_basis P (columns_of h.before.basis) q) q (columns_of h.before.basis q) (rows_of h.before)
   stands_there = holds_stands P (columns_of h.before.basis) q (rows_of h.before) h.stood.holds
 
-  module _ (t2 : Table) (prep : IsPrepared t.columns (positions t) t t2) (x : ℕ) (is : x ≡ t.columns + positions t) where
+  module _ {t2 : Table} (prep : IsPrepared t.columns (positions t) t t2) {x : ℕ} (is : x ≡ t.columns + positions t) where
     p : IsPrepared P.n P.m t t2
     p = subst (λ n. IsPrepared n P.m t t2) h.columns_are (subst (λ m. IsPrepared t.columns m t t2) open_size prep)
 
@@ -104,7 +91,7 @@ module _ (P : Program) (q : ℕ) (t : Table) (h : IsOpenBeside P q t) where
         }
 
     pub ready_positive : pos 0 <ℤ rows_of t2 q x
-    ready_positive = subst (λ v. pos 0 <ℤ rows_of t2 q v) (sym x_is) (subst (λ z. pos 0 <ℤ z) (sym (p.rows q (P.n + P.m) q_low)) positive)
+    ready_positive = subst (λ v. pos 0 <ℤ rows_of t2 q v) (sym x_is) (subst (λ z. pos 0 <ℤ z) (sym (p.rows q (P.n + P.m) q_low)) (open_positive h))
 
     -- the spare column stands at no other position
     pub ready_apart : (i : ℕ) → i < P.m → i ≢ q → columns_of t2.basis i ≢ spare_column P.n P.m
@@ -133,9 +120,6 @@ module _ (P : Program) (q : ℕ) (t : Table) (h : IsOpenBeside P q t) where
 
     kept2 : kept_row_of t2 (spare_column P.n P.m) ≡ pos 0
     kept2 = p.kept (spare_column P.n P.m) ∙ h.zero P.m (omega arith)
-
-    zero_t : spare_column t2.columns (positions t2) ≡ spare_column P.n P.m
-    zero_t = omega (arith, m2, n2)
 
     -- ---- the auxiliary column has come in
     module _ (t4 : Table) (b4 : t4.basis ≡ set t2.basis q x) (n4 : t4.columns ≡ t2.columns) where

@@ -1,26 +1,22 @@
 -- A turn of the first phase in the explicit form, on a dictionary, is one of the path, and the kept row turns with the others.
-use Rattle.std.proofs.Common.{◌≡◌, ◌≢◌, ℕ, suc, ◌+◌, ◌-◌, ◌<◌, ◌≤◌, sym, refl, ap, ◌∙◌, subst, arith, inl, inr, List, length, set, cond, nat_lt, nat_eq, zero, min, Bool, true, false}
+use Rattle.std.proofs.Common.{◌≡◌, ◌≢◌, ℕ, suc, ◌+◌, ◌-◌, ◌<◌, ◌≤◌, sym, refl, ap, ◌∙◌, subst, arith, inl, inr, List, length, set, cond, nat_lt, nat_eq, min, Bool, true, false}
 use Rattle.std.proofs.lemmas.Bool.{cases_eq, cases_lt}
 use Rattle.std.proofs.lemmas.Bool.Decides.{nat_tests}
 use Rattle.std.proofs.lemmas.Int.{ints}
 use Rattle.std.proofs.lemmas.List.{get_or-set_same, get_or-set_other, length-set}
-use Rattle.std.specs.Int.RustNames.{unsigned_abs}
-use Rattle.std.specs.Int.{◌∣◌}
-use Rattle.std.specs.Prelude.{nat_abs}
-use Rattle.std.proofs.lemmas.Nat.Gcd.{dvd-zero}
 use lib.IntN.{pos, ◌-ℤ◌, ◌*ℤ◌}
 use lib.Signed.{◌<ℤ◌, ◌≤ℤ◌}
 use Rattle.rob_algebra.specs.Integer.{*ℤ_comm}
 use Rattle.rob_linear.specs.Vectors.{Vector, Matrix}
-use Rattle.rob_linear.specs.Systems.{right, IsPrimitive, IsBasis}
-use Rattle.rob_linear.specs.Programs.{Program, auxiliary_tag, auxiliary_of, kept_of}
-use Rattle.rob_linear.specs.Turns.{Enters, Leaves, IsExchange, Rises, key, own_of, TurnsTo}
+use Rattle.rob_linear.specs.Systems.{right, IsBasis}
+use Rattle.rob_linear.specs.Programs.{Program, auxiliary_of, kept_of}
+use Rattle.rob_linear.specs.Turns.{Enters, Leaves, IsExchange, Rises, own_of, TurnsTo}
 use Rattle.rob_linear.specs.Rank.{rank, rank_limit, IsWithin}
 use Rattle.rob_linear.specs.Paths.{HasAuxiliary, Reached}
 use Rattle.rob_linear.specs.WideRows.{HasWideRow, NeedsAuxiliary}
 use Rattle.rob_linear.specs.Multiples.{IsParallel, AreParallel, IsClearedBy, IsMultipleRow, IsPivotableMultiple, StandsMultiple}
 use Rattle.rob_linear.proofs.Starts.{auxiliary_tagged}
-use Rattle.rob_linear.proofs.Turns.{own_low, own_high}
+use Rattle.rob_linear.proofs.Turns.{own_low}
 use Rattle.rob_linear.proofs.Unique.{own_apart}
 use Rattle.rob_linear.proofs.Choices.{lex_feasible}
 use Rattle.rob_linear.proofs.LastBases.{auxiliary_bounded}
@@ -31,56 +27,20 @@ use Rattle.rob_linear.proofs.Multiples.{multiple_rows_exist, rows_parallel, unbo
 use Rattle.rob_linear.proofs.MultiplePhases.{kept_multiple}
 use Rattle.rob_entries.specs.Updates.{IsWideCleared}
 use Rattle.rob_simplex.specs.Dictionaries.{Table, positions, width_of, columns_of, basic_columns, spare_column, shape, rows_of, kept_row_of, IsFree, IsClosed, IsPivoted, FirstNegative}
-use Rattle.rob_simplex.specs.Explicit.{HoldsExplicit, InExplicit, EndsExplicit, HasTurnedExplicit, turn_after, rank_left_explicit, turns_left_explicit}
-use Rattle.rob_simplex.proofs.Replacing.{basic_low, basic_high}
+use Rattle.rob_simplex.specs.Pivots.{KeepsSpare}
+use Rattle.rob_simplex.specs.Explicit.{HoldsExplicit, InExplicit, EndsExplicit, HasTurnedExplicit, turn_after, turns_left_explicit}
+use Rattle.rob_simplex.proofs.ReadRows.{basic_low, basic_high}
+use Rattle.rob_simplex.proofs.SpareColumns.{wide_cleared, wide_primitive, wide_entry}
 use Rattle.rob_simplex.proofs.PivotLemmas.{zero_stays}
-use Rattle.rob_simplex.proofs.SecondPhase.{IsSmall, falls, shorter}
-
--- ---- a row that would be wide, without the spare column
-module _ (limit n m width column : ℕ) (low top : Vector) (is : width ≡ suc (suc (suc (suc (n + m))))) (w : IsWideCleared limit width column low top)
-    (zl : low (spare_column n m) ≡ pos 0) (zt : top (spare_column n m) ≡ pos 0) where
-  spare_zero : w.0 (spare_column n m) ≡ pos 0
-  spare_zero = zero_stays w.1.divisor w.1.p w.1.q (w.0 (spare_column n m)) (low (spare_column n m)) (top (spare_column n m)) w.1.divides (w.1.entries (spare_column n m) (omega (arith, is))) zl zt
-
-  pub wide_cleared : IsClearedBy (suc (suc (suc (n + m)))) column low top w.0
-  wide_cleared = shorter width (suc (suc (suc (n + m)))) column low top w.0 (omega (arith, is)) w.1
-
-  pub wide_primitive : IsPrimitive (suc (suc (suc (n + m)))) w.0
-  wide_primitive g each = w.2 g (λ k l. elim (cases_eq k (suc (suc (suc (n + m))))) [
-    | inl e ↦ subst (λ v. g ∣ unsigned_abs v) (sym (ap w.0 e ∙ spare_zero)) (dvd-zero g)
-    | inr o ↦ each k (omega (arith, is))
-  ])
-
-  pub wide_entry : (k : ℕ) × (k ≤ suc (suc (n + m))) × (limit < unsigned_abs (w.0 k))
-  wide_entry =
-      let over : limit < unsigned_abs (w.0 w.3.0) = w.3.2 in
-      let inside : w.3.0 < width = w.3.1 in
-      elim (cases_eq w.3.0 (suc (suc (suc (n + m))))) [
-        | inl e ↦ absurd (let z : unsigned_abs (w.0 w.3.0) ≡ 0 = ap (λ k. unsigned_abs (w.0 k)) e ∙ ap unsigned_abs spare_zero in omega arith)
-        | inr o ↦ (w.3.0, omega (arith, is), over)
-      ]
-
--- ---- the objective's row of the explicit form
-explicit_positive : (P : Program) (t : Table) → HoldsExplicit P t → pos 0 <ℤ rows_of t P.m (suc (P.n + P.m))
-explicit_positive P t h = subst (λ k. pos 0 <ℤ rows_of t P.m k) (own_high (auxiliary_of P) (columns_of t.basis) P.m (omega arith)) (h.stands.multiples.rows_of P.m (omega arith)).positive
-
--- it is one of those that are ranked
-explicit_within : (P : Program) (t : Table) → HoldsExplicit P t → IsSmall t → IsWithin (auxiliary_of P) t.limit (rows_of t P.m)
-explicit_within P t h small = record {
-  keys = λ k l. key_in k;
-  positive = explicit_positive P t h;
-  objective_in = small P.m (suc (P.n + P.m)) (omega (arith, h.rows_are));
-}
-  where
-    key_in : (k : ℕ) → nat_abs (key (auxiliary_of P) (rows_of t P.m) k) ≤ t.limit
-    key_in zero = small P.m (suc (suc (P.n + P.m))) (omega (arith, h.rows_are))
-    key_in (suc k) = small P.m (auxiliary_tag P k) (omega (arith, h.rows_are))
-
-explicit_left_is : (P : Program) (t : Table) → HoldsExplicit P t → turns_left_explicit t ≡ rank_limit (auxiliary_of P) t.limit - rank (auxiliary_of P) t.limit (rows_of t P.m)
-explicit_left_is P t h = ap (λ n. rank_left_explicit n (positions t) t) h.columns_are ∙ ap (λ m. rank_left_explicit P.n m t) h.rows_are
+use Rattle.rob_simplex.proofs.Ranks.{explicit_positive, explicit_within, explicit_left_is, IsSmall, falls, shorter}
 
 -- ---- a basis of the explicit form
-module _ (P : Program) (t : Table) (h : HoldsExplicit P t) where
+module _ {P : Program} {t : Table} (h : HoldsExplicit P t) where
+  pub kept_spare : KeepsSpare t
+  kept_spare =
+      let e : spare_column P.n P.m ≡ spare_column t.columns (positions t) = omega (arith, h.rows_are, h.columns_are) in
+      subst (λ k. kept_row_of t k ≡ pos 0) e h.kept_zero
+
   size_is : t.columns + positions t ≡ P.n + P.m
   size_is = omega (arith, h.rows_are, h.columns_are)
 
@@ -98,7 +58,7 @@ module _ (P : Program) (t : Table) (h : HoldsExplicit P t) where
       let q : pos 0 ≤ℤ rows_of t P.m (suc (P.n + P.m)) = omega (arith, ints) in
       subst (λ i. pos 0 ≤ℤ rows_of t i (basic_columns t.columns t.basis (positions t))) (sym h.rows_are) (subst (λ k. pos 0 ≤ℤ rows_of t P.m k) (sym e) q)
 
-  module _ (column : ℕ) (first' : FirstNegative (t.columns + positions t) (rows_of t (positions t)) column) where
+  module _ {column : ℕ} (first' : FirstNegative (t.columns + positions t) (rows_of t (positions t)) column) where
     first : FirstNegative (P.n + P.m) (rows_of t P.m) column
     first = subst (λ k. FirstNegative k (rows_of t P.m) column) size_is (subst (λ i. FirstNegative (t.columns + positions t) (rows_of t i) column) h.rows_are first')
 
@@ -138,7 +98,7 @@ module _ (P : Program) (t : Table) (h : HoldsExplicit P t) where
           no_limit = λ i il. none i (omega (arith, h.rows_are));
         })
 
-    module _ (row : ℕ) (leaves' : Leaves (shape t.columns (positions t)) (rows_of t) column row) where
+    module _ {row : ℕ} (leaves' : Leaves (shape t.columns (positions t)) (rows_of t) column row) where
       leaves : Leaves (auxiliary_of P) (rows_of t) column row
       leaves =
           let l : Leaves (shape P.n P.m) (rows_of t) column row = subst (λ n. Leaves (shape n P.m) (rows_of t) column row) h.columns_are (subst (λ m. Leaves (shape t.columns m) (rows_of t) column row) h.rows_are leaves') in

@@ -1,12 +1,11 @@
 -- A turn of the first phase beside the auxiliary column on a dictionary is one of the path.
 use Rattle.std.proofs.Common.{◌≡◌, ◌≢◌, ℕ, suc, ◌+◌, ◌<◌, ◌≤◌, sym, ap, ◌∙◌, subst, arith, inl, inr, List, length, set, cond, nat_eq, ◌-◌}
 use Rattle.std.specs.Prelude.{nat_abs}
-use Rattle.std.proofs.lemmas.Bool.{cases_eq, cases_lt}
+use Rattle.std.proofs.lemmas.Bool.{cases_eq}
 use Rattle.std.proofs.lemmas.Int.{ints}
-use Rattle.std.proofs.lemmas.List.{get_or-set_same, get_or-set_other, length-set}
-use lib.IntN.{ℤ, pos, ◌-ℤ◌, ◌*ℤ◌, neg_ℤ}
+use Rattle.std.proofs.lemmas.List.{length-set}
+use lib.IntN.{ℤ, pos, ◌*ℤ◌, neg_ℤ}
 use lib.Signed.{◌<ℤ◌, ◌≤ℤ◌}
-use Rattle.rob_algebra.specs.Integer.{ring}
 use Rattle.rob_linear.specs.Programs.{Program, system_of, kept_of, auxiliary_of}
 use Rattle.rob_linear.specs.Turns.{own_of, IsSameBasis}
 use Rattle.rob_linear.specs.Paths.{Turned}
@@ -23,88 +22,18 @@ use Rattle.rob_linear.proofs.BesidePaths.{exchanged_in, exchanged_low, exchanged
 use Rattle.rob_linear.proofs.Multiples.{multiple_parallel, multiples_in}
 use Rattle.rob_linear.proofs.OtherCosts.{turned_same}
 use Rattle.rob_linear.proofs.Solutions.{tags_in}
-use Rattle.rob_linear.proofs.Turns.{own_low, own_same}
+use Rattle.rob_linear.proofs.Turns.{own_same}
 use Rattle.rob_linear.proofs.TwoPhases.{kept_tagged}
-use Rattle.rob_simplex.specs.Dictionaries.{Table, positions, width_of, columns_of, basic_columns, spare_column, shape, rows_of, IsFree, IsClosed, IsPivoted, IsBegunPivot, FirstNegative}
+use Rattle.rob_simplex.specs.Dictionaries.{Table, positions, width_of, columns_of, spare_column, shape, rows_of, IsFree, IsClosed, IsPivoted, IsBegunPivot, FirstNegative}
 use Rattle.rob_simplex.specs.Phases.{InBeside, HasLeft, IsOpenBeside, rank_left_beside, turns_left_beside}
-use Rattle.rob_simplex.proofs.SecondPhase.{IsSmall, falls}
-use Rattle.rob_simplex.proofs.Replacing.{basic_low, basic_high}
+use Rattle.rob_simplex.proofs.BesideRows.{size_is, q_low, q_in, negative_free}
+use Rattle.rob_simplex.proofs.RoundRows.{cleared_round, set_is}
+use Rattle.rob_simplex.proofs.Ranks.{IsSmall, falls}
 
--- a row that clears may be turned round
-round_ring : (D p q x a b b' : ℤ) → b' ≡ neg_ℤ b → D *ℤ x ≡ (p *ℤ a) -ℤ (q *ℤ b') → D *ℤ x ≡ (p *ℤ a) -ℤ (neg_ℤ q *ℤ b)
-round_ring D p q x a b b' e h =
-    h ∙ ap (λ z. (p *ℤ a) -ℤ (q *ℤ z)) e ∙ ap (λ z. (p *ℤ a) -ℤ z) (let r : q *ℤ neg_ℤ b ≡ neg_ℤ q *ℤ b = simp ring (omega (arith, ints)) in r)
-
-cleared_round : (n n' column : ℕ) (low low' top top' new : ℕ → ℤ) → n' ≤ n → ((k : ℕ) → low k ≡ low' k) → ((k : ℕ) → top k ≡ neg_ℤ (top' k)) → IsClearedBy n column low top new → IsClearedBy n' column low' top' new
-cleared_round n n' column low low' top top' new l el et c = record {
-  divisor = c.divisor;
-  p = c.p;
-  q = neg_ℤ c.q;
-  divides = c.divides;
-  positive = c.positive;
-  entries = λ k kl. round_ring c.divisor c.p c.q (new k) (low' k) (top' k) (top k) (et k) (c.entries k (omega arith) ∙ ap (λ z. (c.p *ℤ z) -ℤ (c.q *ℤ top k)) (el k));
-  cleared = c.cleared;
-}
-
-small_neg : (z z' : ℤ) (l : ℕ) → z' ≡ neg_ℤ z → nat_abs z' ≤ l → nat_abs z ≤ l
-small_neg z z' l e h = omega (arith, ints)
-
--- a column written to a list
-pub set_is : (b : List ℕ) (q col i : ℕ) → q < length b → columns_of (set b q col) i ≡ put_at (columns_of b) q col i
-set_is b q col i l = elim (cases_eq i q) [
-  | inl e ↦ ap (columns_of (set b q col)) e ∙ get_or-set_same b q col 0 l ∙ sym (ap (put_at (columns_of b) q col) e ∙ put_same (columns_of b) q col)
-  | inr d ↦ get_or-set_other b q i col 0 d ∙ sym (put_other (columns_of b) q col i d)
-]
-
-module _ (P : Program) (q : ℕ) (t : Table) (h : InBeside P q t) where
-  size_is : t.columns + positions t ≡ P.n + P.m
-  size_is = omega (arith, h.rows_are, h.columns_are)
-
-  q_low : q < P.m
-  q_low = h.holds.inside
-
-  pub q_in : q < positions t
-  q_in = omega (arith, h.rows_are, q_low)
-
-  own_is : (i : ℕ) → i < P.m → own_of (kept_of P) (columns_of t.basis) i ≡ columns_of t.basis i
-  own_is i l = own_low (kept_of P) (columns_of t.basis) i l
-
-  -- row q is 0 in the other basic columns, and positive in its own
-  other_zero : (i : ℕ) → i < P.m → i ≢ q → rows_of t q (columns_of t.basis i) ≡ pos 0
-  other_zero i l d = ap (rows_of t q) (sym (own_is i l)) ∙ (h.holds.multiples.rows_of q (omega (arith, q_low))).along.zeros i (omega arith) d
-
-  own_positive : pos 0 <ℤ rows_of t q (columns_of t.basis q)
-  own_positive = subst (λ k. pos 0 <ℤ rows_of t q k) (own_is q q_low) (h.holds.multiples.rows_of q (omega (arith, q_low))).positive
-
-  basic_nonneg : (i : ℕ) → i < P.m → pos 0 ≤ℤ rows_of t q (columns_of t.basis i)
-  basic_nonneg i l = elim (cases_eq i q) [
-    | inl e ↦ subst (λ k. pos 0 ≤ℤ rows_of t q (columns_of t.basis k)) (sym e) (let p : pos 0 <ℤ rows_of t q (columns_of t.basis q) = own_positive in omega (arith, ints))
-    | inr d ↦ let z : rows_of t q (columns_of t.basis i) ≡ pos 0 = other_zero i l d in omega (arith, ints)
-  ]
-
-  pub row_own : pos 0 ≤ℤ rows_of t q (basic_columns t.columns t.basis q)
-  row_own = subst (λ k. pos 0 ≤ℤ rows_of t q k) (sym (basic_low t.columns t.basis q q_in)) (basic_nonneg q q_low)
-
-  -- a column in which row q is negative is not basic
-  negative_free : (column : ℕ) → column ≤ P.n + P.m → rows_of t q column <ℤ pos 0 → IsFree t.columns t.basis column
-  negative_free column low negative = record {
-    inside = omega (arith, size_is, low);
-    not_basic = λ i il e. elim (cases_lt i (positions t)) [
-      | inl l ↦
-          let n : pos 0 ≤ℤ rows_of t q (columns_of t.basis i) = basic_nonneg i (omega (arith, h.rows_are)) in
-          let z : pos 0 ≤ℤ rows_of t q column = subst (λ k. pos 0 ≤ℤ rows_of t q k) (sym (basic_low t.columns t.basis i l) ∙ e) n in
-          absurd (omega (arith, ints))
-      | inr l ↦ let x : suc (t.columns + positions t) ≡ column = sym (basic_high t.columns t.basis i l) ∙ e in omega (arith, size_is, low)
-    ];
-    not_right = λ e. absurd (omega (arith, size_is, low));
-  }
-
-  pub auxiliary_free : IsFree t.columns t.basis (P.n + P.m)
-  auxiliary_free = negative_free (P.n + P.m) (omega arith) h.holds.below
-
-  module _ (column : ℕ) (first' : FirstNegative (t.columns + positions t) (rows_of t q) column) where
+module _ {P : Program} {q : ℕ} {t : Table} (h : InBeside P q t) where
+  module _ {column : ℕ} (first' : FirstNegative (t.columns + positions t) (rows_of t q) column) where
     first : FirstNegative (P.n + P.m) (rows_of t q) column
-    first = subst (λ k. FirstNegative k (rows_of t q) column) size_is first'
+    first = subst (λ k. FirstNegative k (rows_of t q) column) (size_is h) first'
 
     low : column < P.n + P.m
     low = first.inside
@@ -113,10 +42,10 @@ module _ (P : Program) (q : ℕ) (t : Table) (h : InBeside P q t) where
     enters = record { inside = low; improving = first.negative; first = first.first }
 
     pub column_free : IsFree t.columns t.basis column
-    column_free = negative_free column (omega (arith, low)) first.negative
+    column_free = negative_free h column (omega (arith, low)) first.negative
 
     pub column_not_spare : column ≢ spare_column t.columns (positions t)
-    column_not_spare e = absurd (omega (arith, size_is, low))
+    column_not_spare e = absurd (omega (arith, size_is h, low))
 
     -- ---- row q turned round
     module _ (r : Table) (rb : r.basis ≡ t.basis) (rn : r.columns ≡ t.columns) (rr : (c : ℕ) → rows_of r q c ≡ neg_ℤ (rows_of t q c)) (ro : (i c : ℕ) → i ≤ positions t → i ≢ q → rows_of r i c ≡ rows_of t i c) where
@@ -124,13 +53,13 @@ module _ (P : Program) (q : ℕ) (t : Table) (h : InBeside P q t) where
       rm = ap length rb
 
       width_is : width_of r ≡ suc (suc (suc (suc (P.n + P.m))))
-      width_is = omega (arith, size_is, rm, rn)
+      width_is = omega (arith, size_is h, rm, rn)
 
       pub round_free : IsFree r.columns r.basis column
       round_free = subst (λ n. IsFree n r.basis column) (sym rn) (subst (λ (b : List ℕ). IsFree t.columns b column) (sym rb) column_free)
 
       pub round_not_spare : column ≢ spare_column r.columns (positions r)
-      round_not_spare e = absurd (omega (arith, size_is, low, rm, rn))
+      round_not_spare e = absurd (omega (arith, size_is h, low, rm, rn))
 
       pub round_positive : pos 0 <ℤ rows_of r q column
       round_positive = subst (λ z. pos 0 <ℤ z) (sym (rr column)) (let n : rows_of t q column <ℤ pos 0 = first.negative in omega (arith, ints))
@@ -145,17 +74,9 @@ module _ (P : Program) (q : ℕ) (t : Table) (h : InBeside P q t) where
         where
           zero_at : (i : ℕ) → i ≤ positions t → rows_of r i (spare_column t.columns (positions t)) ≡ pos 0
           zero_at i l = elim (cases_eq i q) [
-            | inl e ↦ ap (λ k. rows_of r k (spare_column t.columns (positions t))) e ∙ rr (spare_column t.columns (positions t)) ∙ ap neg_ℤ (h.closed.zero q (omega (arith, q_in)))
+            | inl e ↦ ap (λ k. rows_of r k (spare_column t.columns (positions t))) e ∙ rr (spare_column t.columns (positions t)) ∙ ap neg_ℤ (h.closed.zero q (omega (arith, q_in h)))
             | inr d ↦ ro i (spare_column t.columns (positions t)) l d ∙ h.closed.zero i l
           ]
-
-      pub round_small : r.limit ≡ t.limit → IsSmall r → IsSmall t
-      round_small el small i c il = elim (cases_eq i q) [
-        | inl e ↦
-            subst (λ k. nat_abs (rows_of t k c) ≤ t.limit) (sym e)
-            (small_neg (rows_of t q c) (rows_of r q c) t.limit (rr c) (subst (λ l. nat_abs (rows_of r q c) ≤ l) el (small q c (omega (arith, rm, q_in)))))
-        | inr d ↦ subst (λ z. nat_abs z ≤ t.limit) (ro i c il d) (subst (λ l. nat_abs (rows_of r i c) ≤ l) el (small i c (omega (arith, rm))))
-      ]
 
       row_round : (new : ℕ → ℤ) → IsParallel (width_of r) new (rows_of r q) → IsParallel (suc (suc (suc (P.n + P.m)))) new (λ k. neg_ℤ (rows_of t q k))
       row_round new p = record {
@@ -188,7 +109,7 @@ module _ (P : Program) (q : ℕ) (t : Table) (h : InBeside P q t) where
 
       pub open_beside : (t' : Table) → IsBegunPivot r t' q column → t'.columns ≡ r.columns → IsOpenBeside P q t'
       open_beside t' b en =
-          let e : spare_column r.columns (positions r) ≡ spare_column P.n P.m = omega (arith, size_is, rm, rn) in
+          let e : spare_column r.columns (positions r) ≡ spare_column P.n P.m = omega (arith, size_is h, rm, rn) in
           record {
             before = t;
             stood = h;
@@ -214,7 +135,7 @@ module _ (P : Program) (q : ℕ) (t : Table) (h : InBeside P q t) where
         columns_after = en ∙ rn ∙ h.columns_are
 
         basis_after : (i : ℕ) → columns_of t'.basis i ≡ put_at (columns_of t.basis) q column i
-        basis_after i = ap (λ (b : List ℕ). columns_of b i) (eb ∙ ap (λ (b : List ℕ). set b q column) rb) ∙ set_is t.basis q column i q_in
+        basis_after i = ap (λ (b : List ℕ). columns_of b i) (eb ∙ ap (λ (b : List ℕ). set b q column) rb) ∙ set_is t.basis q column i (q_in h)
 
         -- the auxiliary column leaves
         pub leaves_beside : HasNoLeast (shape t'.columns (positions t')) (t'.columns + positions t') (rows_of t') → HasLeft P t'
@@ -273,7 +194,7 @@ module _ (P : Program) (q : ℕ) (t : Table) (h : InBeside P q t) where
           closed_swapped : IsClosed t''
           closed_swapped =
               let e : spare_column t''.columns (positions t'') ≡ spare_column t'.columns (positions t') = omega (arith, mx, nx) in
-              let ql : q < positions t' = omega (arith, rows_after, q_low) in
+              let ql : q < positions t' = omega (arith, rows_after, q_low h) in
               let ll : least < positions t' = omega (arith, rows_after, found.inside) in
               record {
                 free = λ i l x. c'.free (exchanged q least i) (exchanged_low q least i (positions t') ql ll (omega (arith, mx))) (sym (bx i) ∙ x ∙ e);
@@ -288,11 +209,11 @@ module _ (P : Program) (q : ℕ) (t : Table) (h : InBeside P q t) where
             columns_are = nx ∙ columns_after;
             reached = (suc h.reached.0, turned_same P (suc h.reached.0) (path_basis P (turned_columns (columns_of t.basis) q least column) q) (path_basis P (columns_of t''.basis) q) same_path turn.0);
             holds = record {
-              inside = q_low;
+              inside = q_low h;
               multiples =
                   multiples_same (kept_of P) (own_of (kept_of P) (columns_of t''.basis)) (own_of (kept_of P) (turned_columns (columns_of t.basis) q least column)) (rows_of t'')
                   (λ i il. own_same (kept_of P) (turned_columns (columns_of t.basis) q least column) (columns_of t''.basis) (λ j jl. sym (basis_swapped j)) i) multiples_after;
-              below = subst (λ z. z <ℤ pos 0) (sym (row_same q (P.n + P.m) (omega (arith, q_low)) (omega arith))) turn.1.below;
+              below = subst (λ z. z <ℤ pos 0) (sym (row_same q (P.n + P.m) (omega (arith, q_low h)) (omega arith))) turn.1.below;
             };
             closed = closed_swapped;
           }
@@ -300,10 +221,10 @@ module _ (P : Program) (q : ℕ) (t : Table) (h : InBeside P q t) where
           -- ---- less turns are left
           module _ (lt : t'.limit ≡ t.limit) (lx : t''.limit ≡ t'.limit) (small : IsSmall t) (small' : IsSmall t') where
             row_q : (k : ℕ) → k < suc (suc (suc (P.n + P.m))) → rows_of t'' q k ≡ rows_of t' least k
-            row_q k l = row_same q k (omega (arith, q_low)) l ∙ ap (λ i. rows_of t' i k) (exchanged_q q least)
+            row_q k l = row_same q k (omega (arith, q_low h)) l ∙ ap (λ i. rows_of t' i k) (exchanged_q q least)
 
             in_before : (k : ℕ) → k ≤ suc (suc (P.n + P.m)) → nat_abs (rows_of t q k) ≤ t.limit
-            in_before k l = small q k (omega (arith, q_in))
+            in_before k l = small q k (omega (arith, q_in h))
 
             in_least : (k : ℕ) → k ≤ suc (suc (P.n + P.m)) → nat_abs (rows_of t' least k) ≤ t.limit
             in_least k l = subst (λ x. nat_abs (rows_of t' least k) ≤ x) lt (small' least k (omega (arith, rows_after, found.inside)))

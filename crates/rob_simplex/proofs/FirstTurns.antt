@@ -24,8 +24,7 @@ use Rattle.rob_simplex.specs.Dictionaries.{Table, positions, width_of, columns_o
 use Rattle.rob_simplex.specs.Phases.{InSecond, InBeside, HasLeft}
 use Rattle.rob_simplex.specs.Starts.{IsStartingTable}
 use Rattle.rob_simplex.specs.Explicit.{HoldsExplicit}
-use Rattle.rob_simplex.specs.Counting.{CountsRows}
-use Rattle.rob_simplex.proofs.Replacing.{basic_low, basic_high}
+use Rattle.rob_simplex.proofs.ReadRows.{basic_low, basic_high}
 
 -- rows that are multiples of rows that stand
 pub stands_parallel : (S : System) (basis : Columns) (rows rows' : Matrix) → IsTagged S → AreParallel S rows rows' → StandsMultiple S basis rows → StandsMultiple S basis rows'
@@ -59,7 +58,10 @@ module _ (P : Program) (t : Table) (h : IsStartingTable P t) where
         rows_are = h.rows_are;
         columns_are = h.columns_are;
         reached = (zero, inl s);
-        without = λ a. let l : a.0 < P.m = a.1 in let e : P.n + P.m ≡ P.n + a.0 = a.2 ∙ h.slacks a.0 a.1 in absurd (omega arith);
+        without = λ a.
+            let l : a.0 < P.m = a.1 in
+            let e : P.n + P.m ≡ P.n + a.0 = a.2 ∙ h.slacks a.0 a.1 in
+            absurd (omega arith);
         stands = slacks_without P (columns_of t.basis) (rows_of t) s (λ i k il kl d. h.rows i k il kl);
         closed = h.closed;
       }
@@ -179,7 +181,3 @@ module _ (P : Program) (t t' : Table) (h : HoldsExplicit P t) (out : ¬ (HasAuxi
             rows i (spare_column P.n P.m) (omega (arith, h.rows_are)) ∙ subst (λ k. rows_of t i k ≡ pos 0) e (h.closed.zero i (omega (arith, h.rows_are)))
         | inr l ↦ let e : i ≡ P.m = omega arith in ap (λ v. rows_of t' v (spare_column P.n P.m)) e ∙ at_objective (spare_column P.n P.m) ∙ h.kept_zero
       ]
-
--- ---- the ledger's counts of two calls
-pub counts_after : {S : Type 0} (ops_of wides_of : S → ℕ) (a b c : S) → ops_of a ≤ ops_of b → wides_of b ≡ wides_of a → CountsRows ops_of wides_of b c → CountsRows ops_of wides_of a c
-counts_after ops_of wides_of a b c l e h = record { ops = omega (arith, l, h.ops); wides = h.wides ∙ e }

@@ -1,16 +1,25 @@
 -- Columns that are not basic in a dictionary that stands for a program.
-use Rattle.std.proofs.Common.{◌≡◌, ◌≢◌, ℕ, suc, ◌+◌, ◌<◌, sym, ap, ◌∙◌, subst, arith, inl, inr}
+use Rattle.std.proofs.Common.{◌≡◌, ◌≢◌, ℕ, suc, ◌+◌, ◌<◌, ◌≤◌, sym, ap, ◌∙◌, subst, arith, inl, inr}
 use Rattle.std.proofs.lemmas.Bool.{cases_lt}
 use lib.IntN.{pos}
 use Rattle.rob_linear.specs.Programs.{Program, system_of}
 use Rattle.rob_linear.proofs.Turns.{own_low}
-use Rattle.rob_simplex.specs.Dictionaries.{Table, positions, columns_of, spare_column, rows_of, IsFree}
+use Rattle.rob_simplex.specs.Dictionaries.{Table, positions, width_of, columns_of, basic_columns, spare_column, rows_of, IsFree}
 use Rattle.rob_simplex.specs.Phases.{StandsFor}
-use Rattle.rob_simplex.proofs.Replacing.{basic_low, basic_high}
+use Rattle.rob_simplex.proofs.ReadRows.{basic_low, basic_high}
 
-module _ (P : Program) (t : Table) (h : StandsFor P t) where
+module _ {P : Program} {t : Table} (h : StandsFor P t) where
   pub basic_column_low : (k : ℕ) → k < P.m → columns_of t.basis k < P.n + P.m
   basic_column_low k kl = subst (λ c. c < P.n + P.m) (own_low (system_of P) (columns_of t.basis) k kl) (h.stands.multiples.inside k kl)
+
+  -- each basic column is one of the dictionary's
+  pub basics_inside : (i : ℕ) → i ≤ positions t → basic_columns t.columns t.basis i < width_of t
+  basics_inside i il = elim (cases_lt i (positions t)) [
+    | inl l ↦
+        let c : columns_of t.basis i < P.n + P.m = basic_column_low i (omega (arith, h.rows_are)) in
+        subst (λ v. v < width_of t) (sym (basic_low t.columns t.basis i l)) (omega (arith, c, h.rows_are, h.columns_are))
+    | inr l ↦ subst (λ v. v < width_of t) (sym (basic_high t.columns t.basis i l)) (omega arith)
+  ]
 
   -- the auxiliary one
   pub way_free : IsFree t.columns t.basis (t.columns + positions t)

@@ -3,8 +3,7 @@ use Rattle.std.proofs.Common.{◌≡◌, ◌≢◌, ℕ, suc, ◌+◌, ◌<◌, 
 use Rattle.std.proofs.lemmas.Bool.Decides.{nat_tests}
 use lib.IntN.{ℤ, pos, neg_ℤ, nat_abs, ◌*ℤ◌}
 use lib.Signed.{◌<ℤ◌, ◌≤ℤ◌}
-use Rattle.rob_algebra.specs.Fraction.{Fraction, of_int, of_pair, ◌*ℚ◌}
-use Rattle.rob_algebra.specs.FractionLaws.{of_int-mul}
+use Rattle.rob_algebra.specs.Fraction.{of_int, of_pair, ◌*ℚ◌}
 use Rattle.rob_linear.specs.Vectors.{Matrix, Vector, dot}
 use Rattle.rob_linear.specs.Systems.{System, IsBasis, Point}
 use Rattle.rob_linear.specs.Programs.{Program, system_of}
@@ -13,8 +12,8 @@ use Rattle.rob_linear.specs.Optimality.{objective_at, IsBasicPoint, IsBasicMove,
 use Rattle.rob_linear.proofs.Unique.{own_apart, point_exists}
 use Rattle.rob_linear.proofs.Endings.{point_is_solution, own_positive, improving_not_basic}
 use Rattle.rob_linear.proofs.Programs.{value_of as coordinate_of}
-use Rattle.rob_linear.proofs.Scaling.{cancel_ℚ, swap_factor, linear_form-scaled, over_scaled}
-use Rattle.rob_linear.proofs.Optimality.{point_scaled}
+use Rattle.rob_linear.proofs.Scaling.{cancel_ℚ, linear_form-scaled, over_scaled}
+use Rattle.rob_linear.proofs.Optimality.{point_scaled, basic_scaled}
 use Rattle.rob_linear.proofs.Turns.{own_low}
 use Rattle.rob_simplex.specs.Dictionaries.{sized, columns_of}
 use Rattle.rob_simplex.specs.Solvers.{Solver, positions, entries, column_of}
@@ -25,13 +24,8 @@ use Rattle.rob_simplex.proofs.Positions.{position_cases}
 times_quotient : (p v : ℤ) → pos 0 <ℤ p → of_int p *ℚ of_pair v (nat_abs p) ≡ of_int v
 times_quotient p v pp = over_scaled 1 p (λ j. v) pp 0 (omega arith)
 
-scaled_by : (p s : ℤ) (x : Fraction) (z b : ℤ) → pos 0 <ℤ p → of_int p *ℚ x ≡ of_int b → p *ℤ z ≡ s *ℤ b → of_int s *ℚ x ≡ of_int z
-scaled_by p s x z b pp e f =
-    cancel_ℚ p (of_int s *ℚ x) (of_int z) pp
-    (swap_factor p s x ∙ ap (λ v. of_int s *ℚ v) e ∙ sym (of_int-mul s b) ∙ ap of_int (sym f) ∙ of_int-mul p z)
-
 -- the ray in another column than the growing one
-ray_elsewhere : (s : Solver) (column : ℕ) → column ≢ column_of s.state → ray_of s column ≡ at_position (position_of s.basis column) (over_own s (λ i. neg_ℤ (entries s i (column_of s.state))))
+pub ray_elsewhere : (s : Solver) (column : ℕ) → column ≢ column_of s.state → ray_of s column ≡ at_position (position_of s.basis column) (over_own s (λ i. neg_ℤ (entries s i (column_of s.state))))
 ray_elsewhere s column d = grind (arith, nat_tests)
 
 ray_there : (s : Solver) → ray_of s (column_of s.state) ≡ of_int (pos 1)
@@ -111,4 +105,4 @@ module _ (s : Solver) (a : Matrix) (b c : Vector) (basis : IsBasis (system_of (s
       subst (λ k. entries s (positions s) k *ℤ p.1 k ≡ p.0 *ℤ entries s (positions s) (suc (s.columns + positions s))) basis.last (p.2.basic (positions s) (omega arith)) in
       cancel_ℚ p.0 (objective_at (sized s.columns (positions s) a b c) (point_of s)) (value_of s) p.2.scale
       (linear_form-scaled s.columns c (point_of s) p.0 p.1 x ∙ ap of_int (sym coordinate)
-      ∙ sym (scaled_by (entries s (positions s) (s.columns + positions s)) p.0 (value_of s) (p.1 (s.columns + positions s)) (entries s (positions s) (suc (s.columns + positions s))) d v row))
+      ∙ sym (basic_scaled (entries s (positions s) (s.columns + positions s)) p.0 (value_of s) (p.1 (s.columns + positions s)) (entries s (positions s) (suc (s.columns + positions s))) d v row))

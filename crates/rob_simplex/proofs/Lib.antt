@@ -1,8 +1,8 @@
+pub mod Sizes
 pub mod Places
 pub mod Clearing
 pub mod ClearingTops
 pub mod Replacing
-pub mod WrittenBack
 pub mod TableClearing
 pub mod RowEdits
 pub mod RowMoves
@@ -48,3 +48,8 @@ pub mod BrokenPivots
 pub mod BegunTurns
 pub mod BegunWork
 pub mod TellLemmas
+pub mod ReadRows
+pub mod SpareColumns
+pub mod RoundRows
+pub mod Ranks
+pub mod BesideRows

@@ -16,7 +16,7 @@ use Rattle.rob_linear.proofs.CondensedNumbers.{entry_primitive}
 use Rattle.rob_entries.specs.Updates.{IsWideCleared}
 use Rattle.rob_simplex.specs.Dictionaries.{read_row}
 use Rattle.rob_simplex.specs.Lowering.{IsLowered, IsWideLowered, step_row}
-use Rattle.rob_simplex.proofs.TableClearing.{read_near, read_own, read_none}
+use Rattle.rob_simplex.proofs.ReadRows.{read_near, read_own, read_none}
 
 -- ---- a row that is 1 at one place, and has a number at another one
 pub step_one : (one place : ℕ) (number : ℤ) → step_row one place number one ≡ pos 1
@@ -131,6 +131,11 @@ module _ (m w n : ℕ) (places near basis : Columns) (placed : IsPlaced m w n pl
       ] in (
         read_row w places i x.0,
         lowered_read amount low x.0 x.1,
-        entry_primitive m w n places near basis (λ j. x.0) (λ j. x.0 w) i placed il (λ d each own. x.2 d (λ j jl. elim (cases_lt j w) [ inl l ↦ each j l | inr l ↦ let e : w ≡ j = omega arith in subst (λ t. d ∣ unsigned_abs (x.0 t)) e own ])),
+        entry_primitive m w n places near basis (λ j. x.0) (λ j. x.0 w) i placed il (λ d each own. x.2 d (λ j jl. elim (cases_lt j w) [
+          | inl l ↦ each j l
+          | inr l ↦
+              let e : w ≡ j = omega arith in
+              subst (λ t. d ∣ unsigned_abs (x.0 t)) e own
+        ])),
         (entry.0, entry.1, subst (λ t. limit < unsigned_abs t) (sym entry.2) over),
       )

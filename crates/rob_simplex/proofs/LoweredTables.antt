@@ -8,56 +8,72 @@ use Rattle.rob_linear.specs.Systems.{IsPrimitive}
 use Rattle.rob_linear.specs.Stages.{unit_row}
 use Rattle.rob_linear.proofs.Stages.{unit_one, unit_zero}
 use Rattle.rob_simplex.specs.Tables.{row_at}
-use Rattle.rob_simplex.specs.Lowering.{IsLowered, IsWideLowered, step_row, amount_of}
+use Rattle.rob_simplex.specs.Lowering.{HasWay, IsLowered, IsWideLowered, step_row, amount_of}
 use Rattle.rob_simplex.specs.Dictionaries.{columns_of, basic_columns, rows_of, IsSound, IsFree}
 use Rattle.rob_simplex.proofs.EditLemmas.{table_with, free_place, objective_place}
 use Rattle.rob_simplex.proofs.LoweredRows.{lowered_read, wide_lowered_read}
-use Rattle.rob_simplex.proofs.Replacing.{basic_high}
-use Rattle.rob_simplex.proofs.TableClearing.{read_near, read_own, read_none}
+use Rattle.rob_simplex.proofs.ReadRows.{read_near, read_own, read_none, basic_high}
 
-module _ (limit n : ℕ) (basis places near : List ℕ) (table : List ℤ) (bounds : List ℕ) (room : ℕ) (sound : IsSound limit n basis places near table bounds room) where
+-- two places of a row, at one of which it is 0
+pub record IsWayAt (width place way : ℕ) (row : Vector) : Type 0 where
+  pub way_in : way < width
+  pub place_in : place < width
+  pub apart : place ≢ way
+  pub zero : row way ≡ pos 0
+
+module _ {limit n : ℕ} {basis places near : List ℕ} {table : List ℤ} {bounds : List ℕ} {workspace : ℕ} (sound : IsSound limit n basis places near table bounds workspace) where
   -- the objective's own entry
-  pub own_entry : rows_of (table_with limit n basis places near table bounds room sound table) (length basis) (suc (n + length basis)) ≡ row_at table (n + 4) (length basis) (n + 3)
-  own_entry = read_own (n + 3) (columns_of places) (length basis) (row_at table (n + 4) (length basis)) (suc (n + length basis)) (objective_place limit n basis places near table bounds room sound)
+  pub own_entry : rows_of (table_with sound table) (length basis) (suc (n + length basis)) ≡ row_at table (n + 4) (length basis) (n + 3)
+  own_entry = read_own (n + 3) (columns_of places) (length basis) (row_at table (n + 4) (length basis)) (suc (n + length basis)) (objective_place sound)
 
   -- ---- two columns stand at two places
-  pub places_apart : (c d : ℕ) → IsFree n basis c → IsFree n basis d → c ≢ d → columns_of places c ≢ columns_of places d
+  places_apart : (c d : ℕ) → IsFree n basis c → IsFree n basis d → c ≢ d → columns_of places c ≢ columns_of places d
   places_apart c d fc fd o e =
-      o (sym (sound.placed.near_column c fc.inside (free_place limit n basis places near table bounds room sound c fc)) ∙ ap (columns_of near) e
-      ∙ sound.placed.near_column d fd.inside (free_place limit n basis places near table bounds room sound d fd))
+      o (sym (sound.placed.near_column c fc.inside (free_place sound c fc)) ∙ ap (columns_of near) e
+      ∙ sound.placed.near_column d fd.inside (free_place sound d fd))
 
-  pub zero_place : (c : ℕ) → IsFree n basis c → rows_of (table_with limit n basis places near table bounds room sound table) (length basis) c ≡ pos 0 → row_at table (n + 4) (length basis) (columns_of places c) ≡ pos 0
-  zero_place c f z = sym (read_near (n + 3) (columns_of places) (length basis) (row_at table (n + 4) (length basis)) c (free_place limit n basis places near table bounds room sound c f)) ∙ z
+  zero_place : (c : ℕ) → IsFree n basis c → rows_of (table_with sound table) (length basis) c ≡ pos 0 → row_at table (n + 4) (length basis) (columns_of places c) ≡ pos 0
+  zero_place c f z = sym (read_near (n + 3) (columns_of places) (length basis) (row_at table (n + 4) (length basis)) c (free_place sound c f)) ∙ z
+
+  -- the way and the column's place
+  module _ {column : ℕ} (w : HasWay (table_with sound table) column) {x y : ℕ} (ex : x ≡ columns_of places column) (ey : y ≡ columns_of places (n + length basis)) where
+    pub way_there : IsWayAt (n + 3) x y (row_at table (n + 4) (length basis))
+    way_there = record {
+      way_in = subst (λ k. k < n + 3) (sym ey) (free_place sound (n + length basis) w.way);
+      place_in = subst (λ k. k < n + 3) (sym ex) (free_place sound column w.free);
+      apart = λ e. places_apart column (n + length basis) w.free w.way w.other (sym ex ∙ e ∙ ey);
+      zero = ap (row_at table (n + 4) (length basis)) ey ∙ zero_place (n + length basis) w.way w.zero;
+    }
 
   -- ---- an amount in a column that is not basic
   module _ (column : ℕ) (free : IsFree n basis column) (factor : ℤ) (x : ℕ) (ex : x ≡ columns_of places column) where
     place_in : columns_of places column < n + 3
-    place_in = free_place limit n basis places near table bounds room sound column free
+    place_in = free_place sound column free
 
     row_is : (new : Vector) → IsLowered (n + 4) x (factor *ℤ row_at table (n + 4) (length basis) (n + 3)) (row_at table (n + 4) (length basis)) new
-        → IsLowered (suc (n + 3)) (columns_of places column) (amount_of (table_with limit n basis places near table bounds room sound table) factor) (row_at table (n + 4) (length basis)) new
+        → IsLowered (suc (n + 3)) (columns_of places column) (amount_of (table_with sound table) factor) (row_at table (n + 4) (length basis)) new
     row_is new l =
         let e : n + 4 ≡ suc (n + 3) = omega arith in
-        subst (λ k. IsLowered k (columns_of places column) (amount_of (table_with limit n basis places near table bounds room sound table) factor) (row_at table (n + 4) (length basis)) new) e
-        (subst (λ y. IsLowered (n + 4) y (amount_of (table_with limit n basis places near table bounds room sound table) factor) (row_at table (n + 4) (length basis)) new) ex
+        subst (λ k. IsLowered k (columns_of places column) (amount_of (table_with sound table) factor) (row_at table (n + 4) (length basis)) new) e
+        (subst (λ y. IsLowered (n + 4) y (amount_of (table_with sound table) factor) (row_at table (n + 4) (length basis)) new) ex
         (subst (λ a. IsLowered (n + 4) x a (row_at table (n + 4) (length basis)) new) (ap (λ z. factor *ℤ z) (sym own_entry)) l))
 
     pub lowered_table : (new t : List ℤ) → t ≡ new → IsLowered (n + 4) x (factor *ℤ row_at table (n + 4) (length basis) (n + 3)) (row_at table (n + 4) (length basis)) (row_at new (n + 4) (length basis))
-        → IsLowered (n + length basis + 4) column (amount_of (table_with limit n basis places near table bounds room sound table) factor)
-        (rows_of (table_with limit n basis places near table bounds room sound table) (length basis)) (rows_of (table_with limit n basis places near table bounds room sound t) (length basis))
+        → IsLowered (n + length basis + 4) column (amount_of (table_with sound table) factor)
+        (rows_of (table_with sound table) (length basis)) (rows_of (table_with sound t) (length basis))
     lowered_table new t e l =
         subst
-        (λ (v : List ℤ). IsLowered (n + length basis + 4) column (amount_of (table_with limit n basis places near table bounds room sound table) factor) (rows_of (table_with limit n basis places near table bounds room sound table) (length basis))
-        (rows_of (table_with limit n basis places near table bounds room sound v) (length basis))) (sym e)
+        (λ (v : List ℤ). IsLowered (n + length basis + 4) column (amount_of (table_with sound table) factor) (rows_of (table_with sound table) (length basis))
+        (rows_of (table_with sound v) (length basis))) (sym e)
         (lowered_read (length basis) (n + 3) (n + length basis + 4) (columns_of places) (columns_of near) (basic_columns n basis) sound.placed (length basis) column (omega arith) free.inside place_in
-        (amount_of (table_with limit n basis places near table bounds room sound table) factor) (row_at table (n + 4) (length basis)) (row_at new (n + 4) (length basis)) (row_is (row_at new (n + 4) (length basis)) l))
+        (amount_of (table_with sound table) factor) (row_at table (n + 4) (length basis)) (row_at new (n + 4) (length basis)) (row_is (row_at new (n + 4) (length basis)) l))
 
     pub wide_table : IsWideLowered limit (n + 4) x (factor *ℤ row_at table (n + 4) (length basis) (n + 3)) (row_at table (n + 4) (length basis))
-        → IsWideLowered limit (n + length basis + 4) column (amount_of (table_with limit n basis places near table bounds room sound table) factor) (rows_of (table_with limit n basis places near table bounds room sound table) (length basis))
+        → IsWideLowered limit (n + length basis + 4) column (amount_of (table_with sound table) factor) (rows_of (table_with sound table) (length basis))
     wide_table w =
         let e : n + 4 ≡ suc (n + 3) = omega arith in
         wide_lowered_read (length basis) (n + 3) (n + length basis + 4) (columns_of places) (columns_of near) (basic_columns n basis) sound.placed (length basis) column (omega arith) free.inside place_in limit
-        (amount_of (table_with limit n basis places near table bounds room sound table) factor) (row_at table (n + 4) (length basis))
+        (amount_of (table_with sound table) factor) (row_at table (n + 4) (length basis))
         (w.0, row_is w.0 w.1, subst (λ k. IsPrimitive k w.0) e w.2, (w.3.0, subst (λ k. w.3.0 < k) e w.3.1, w.3.2))
 
   -- ---- the cost 0
@@ -68,11 +84,11 @@ module _ (limit n : ℕ) (basis places near : List ℕ) (table : List ℤ) (boun
   step_low w k d = grind (arith, nat_tests)
 
   pub dropped_objective : (t : List ℤ) → ((k : ℕ) → k < n + 4 → row_at t (n + 4) (length basis) k ≡ step_row (n + 3) (n + 3) (pos 1) k)
-      → (c : ℕ) → c < n + length basis + 4 → rows_of (table_with limit n basis places near table bounds room sound t) (length basis) c ≡ unit_row (suc (n + length basis)) c
+      → (c : ℕ) → c < n + length basis + 4 → rows_of (table_with sound t) (length basis) c ≡ unit_row (suc (n + length basis)) c
   dropped_objective t h c cl = elim (cases_eq c (suc (n + length basis))) [
     | inl e ↦
-        ap (rows_of (table_with limit n basis places near table bounds room sound t) (length basis)) e
-        ∙ read_own (n + 3) (columns_of places) (length basis) (row_at t (n + 4) (length basis)) (suc (n + length basis)) (objective_place limit n basis places near table bounds room sound) ∙ h (n + 3) (omega arith) ∙ step_own (n + 3) (n + 3) refl
+        ap (rows_of (table_with sound t) (length basis)) e
+        ∙ read_own (n + 3) (columns_of places) (length basis) (row_at t (n + 4) (length basis)) (suc (n + length basis)) (objective_place sound) ∙ h (n + 3) (omega arith) ∙ step_own (n + 3) (n + 3) refl
         ∙ sym (ap (unit_row (suc (n + length basis))) e ∙ unit_one (suc (n + length basis)))
     | inr d ↦ elim (cases_lt (columns_of places c) (n + 3)) [
       | inl l ↦

@@ -18,8 +18,9 @@ use Rattle.rob_simplex.specs.Judging.{HasOwn}
 use Rattle.rob_simplex.specs.Lowering.{IsLowered}
 use Rattle.rob_simplex.specs.Phases.{InBeside, IsOpenBeside}
 use Rattle.rob_simplex.specs.Explicit.{HoldsExplicit, IsPrepared}
-use Rattle.rob_simplex.proofs.ExplicitStart.{open_size}
-use Rattle.rob_simplex.proofs.Replacing.{basic_low, basic_high}
+use Rattle.rob_simplex.specs.Pivots.{CanClear}
+use Rattle.rob_simplex.proofs.ExplicitStart.{open_size, ready_free, ready_open, ready_positive}
+use Rattle.rob_simplex.proofs.ReadRows.{basic_low, basic_high}
 
 pub some_of : (z : ℤ) → pos 0 <ℤ z → z ≢ pos 0
 some_of z p e = absurd (omega (arith, ints))
@@ -137,7 +138,7 @@ keeps_lowered row column amount t t' rl free eb en same low h count cl =
     }
 
 -- ---- beside the auxiliary column, where a pivot was begun
-module _ (P : Program) (q : ℕ) (t : Table) (h : IsOpenBeside P q t) where
+module _ {P : Program} {q : ℕ} {t : Table} (h : IsOpenBeside P q t) where
   begun_own : (i : ℕ) → i ≤ P.m → i ≢ q → rows_of t i (own_of (kept_of P) (columns_of h.before.basis) i) ≢ pos 0
   begun_own i il d z =
       let m = h.stood.holds.multiples in
@@ -157,10 +158,10 @@ module _ (P : Program) (q : ℕ) (t : Table) (h : IsOpenBeside P q t) where
             some (mul_cancel_zero k.p (rows_of h.before i (own_of (kept_of P) (columns_of h.before.basis) i)) k.positive (omega (arith, ints)))
       ]
 
-  pub keeps_prepared : (count : ℕ) (t2 : Table) → IsPrepared t.columns (positions t) t t2 → KeepsOwn count t2 q
+  keeps_prepared : (count : ℕ) (t2 : Table) → IsPrepared t.columns (positions t) t t2 → KeepsOwn count t2 q
   keeps_prepared count t2 prep =
       let em : positions t2 ≡ positions t = ap length prep.basis in
-      let er : positions t ≡ P.m = open_size P q t h in
+      let er : positions t ≡ P.m = open_size h in
       let es : spare_column t2.columns (positions t2) ≡ spare_column P.n P.m = omega (arith, em, er, prep.columns, h.columns_are) in
       let eo : suc (t2.columns + positions t2) ≡ suc (P.n + P.m) = omega (arith, em, er, prep.columns, h.columns_are) in
       let el : suc (t2.columns + positions t2) ≡ suc (t.columns + positions t) = omega (arith, em, prep.columns) in
@@ -182,4 +183,17 @@ module _ (P : Program) (q : ℕ) (t : Table) (h : IsOpenBeside P q t) where
           λ z. begun_own P.m (omega arith) (λ e. absurd (omega (arith, h.stood.holds.inside)))
               (ap (rows_of t P.m) (own_high (kept_of P) (columns_of h.before.basis) P.m (omega arith)) ∙ sym (ap₂ (λ i c. rows_of t i c) er eo) ∙ sym (prep.kept (suc (t2.columns + positions t2))) ∙ z),
         );
+      }
+
+  -- so it can clear the auxiliary column
+  pub clears_prepared : (t2 : Table) (prep : IsPrepared t.columns (positions t) t t2) (x : ℕ) (is : x ≡ t.columns + positions t) → CanClear (positions t + 2) t2 q x
+  clears_prepared t2 prep x is =
+      let em : positions t2 ≡ positions t = ap length prep.basis in
+      record {
+        row_in = omega (arith, h.stood.holds.inside, open_size h, em);
+        free = ready_free h prep is;
+        opened = ready_open h prep is;
+        below = omega (arith, em);
+        positive = ready_positive h prep is;
+        own = keeps_prepared (positions t + 2) t2 prep;
       }

@@ -9,8 +9,9 @@ use lib.Signed.{◌<ℤ◌}
 use Rattle.rob_algebra.specs.Integer.{mul_assoc, mul_left_comm, mul-sub, mul-zero, one-mul, mul-pos_z, mul_cancel_zero, mul_cancel_lt, *ℤ_comm}
 use Rattle.rob_linear.specs.Multiples.{IsClearedBy}
 use Rattle.rob_entries.specs.Updates.{IsWideCleared}
-use Rattle.rob_simplex.specs.Dictionaries.{Table, positions, width_of, columns_of, basic_columns, right_column, spare_column, rows_of, kept_row_of, IsFree, IsAlone, IsOpen, IsClosed, IsPivoted, IsBegunPivot, ClearsTable, StopsTable}
-use Rattle.rob_simplex.proofs.Replacing.{basic_low, basic_high}
+use Rattle.rob_simplex.specs.Dictionaries.{Table, positions, width_of, columns_of, basic_columns, right_column, spare_column, rows_of, kept_row_of, IsFree, IsAlone, IsOpen, IsClosed, IsPivoted, IsBegunPivot, ClearsTable, StopsTable, IsSized}
+use Rattle.rob_simplex.specs.Pivots.{CanPivot}
+use Rattle.rob_simplex.proofs.ReadRows.{basic_low, basic_high}
 
 pub set_twice : (xs : List ℕ) (k x y : ℕ) → set (set xs k x) k y ≡ set xs k y
 set_twice [] k x y = refl
@@ -24,8 +25,9 @@ times_ring D d p q x a b b' e f =
     ∙ ap (λ t. t -ℤ (d *ℤ (q *ℤ b))) (mul_left_comm d p a ∙ sym (mul_assoc p d a))
     ∙ ap (λ t. ((p *ℤ d) *ℤ a) -ℤ t) (mul_left_comm d q b ∙ ap (λ t. q *ℤ t) f)
 
-pub cleared_by_times : (n column : ℕ) (low low' top top' new new' : ℕ → ℤ) (d : ℤ) → pos 0 <ℤ d → ((k : ℕ) → k < n → low k ≡ low' k) → ((k : ℕ) → k < n → d *ℤ top k ≡ top' k) → ((k : ℕ) → k < n → new' k ≡ new k) → column < n
-    → IsClearedBy n column low top new → IsClearedBy n column low' top' new'
+pub cleared_by_times : (n column : ℕ) (low low' top top' new new' : ℕ → ℤ) (d : ℤ) → pos 0 <ℤ d
+    → ((k : ℕ) → k < n → low k ≡ low' k) → ((k : ℕ) → k < n → d *ℤ top k ≡ top' k) → ((k : ℕ) → k < n → new' k ≡ new k)
+    → column < n → IsClearedBy n column low top new → IsClearedBy n column low' top' new'
 cleared_by_times n column low low' top top' new new' d dp el et en cl c = record {
   divisor = c.divisor *ℤ d;
   p = c.p *ℤ d;
@@ -81,12 +83,68 @@ closed_free t s e h = record {
   not_right = λ x. absurd (omega arith);
 }
 
-module _ (t0 t1 t2 : Table) (row column s : ℕ) (spare : s ≡ spare_column t0.columns (positions t0)) (rl : row < positions t0) (closed : IsClosed t0)
-    (b1 : t1.basis ≡ t0.basis) (n1 : t1.columns ≡ t0.columns)
-    (r1 : (d : ℤ) × (pos 0 <ℤ d) × ((c : ℕ) → d *ℤ rows_of t1 row c ≡ rows_of t0 row c))
-    (o1 : (i c : ℕ) → i ≤ positions t0 → i ≢ row → rows_of t1 i c ≡ rows_of t0 i c)
-    (b2 : t2.basis ≡ set t1.basis row s) (n2 : t2.columns ≡ t1.columns)
-    (r2 : IsAlone t1 row s → (i c : ℕ) → i ≤ positions t1 → c < t1.columns + positions t1 + 4 → rows_of t2 i c ≡ rows_of t1 i c) where
+-- a row was reduced, and its position opened by the spare column
+pub record IsOpening (t0 t1 t2 : Table) (row s : ℕ) : Type 0 where
+  pub spare : s ≡ spare_column t0.columns (positions t0)
+  pub row_in : row < positions t0
+  pub closed : IsClosed t0
+  pub basis1 : t1.basis ≡ t0.basis
+  pub columns1 : t1.columns ≡ t0.columns
+  pub row1 : (d : ℤ) × (pos 0 <ℤ d) × ((c : ℕ) → d *ℤ rows_of t1 row c ≡ rows_of t0 row c)
+  pub others1 : (i c : ℕ) → i ≤ positions t0 → i ≢ row → rows_of t1 i c ≡ rows_of t0 i c
+  pub basis2 : t2.basis ≡ set t1.basis row s
+  pub columns2 : t2.columns ≡ t1.columns
+  pub rows2 :
+      IsAlone t1 row s → (i c : ℕ) → i ≤ positions t1 → c < t1.columns + positions t1 + 4
+      → rows_of t2 i c ≡ rows_of t1 i c
+
+pub opening : (t0 t1 t2 : Table) {count row column : ℕ} (n m : ℕ) → n ≡ t1.columns → m ≡ positions t1 → CanPivot count t0 row column
+    → t1.basis ≡ t0.basis → IsSized t0 t1 → ((d : ℤ) × (pos 0 <ℤ d) × ((c : ℕ) → d *ℤ rows_of t1 row c ≡ rows_of t0 row c))
+    → ((i c : ℕ) → i ≤ positions t0 → i ≢ row → rows_of t1 i c ≡ rows_of t0 i c)
+    → t2.basis ≡ set t1.basis row (n + m + 3) → IsSized t1 t2
+    → (IsAlone t1 row (n + m + 3) → (i c : ℕ) → i ≤ positions t1 → c < t1.columns + positions t1 + 4 → rows_of t2 i c ≡ rows_of t1 i c)
+    → IsOpening t0 t1 t2 row (n + m + 3)
+opening t0 t1 t2 n m en em a b1 s1 r1 o1 b2 s2 r2 = record {
+  spare = omega (arith, en, em, s1.columns, s1.positions);
+  row_in = a.row_in;
+  closed = a.closed;
+  basis1 = b1;
+  columns1 = s1.columns;
+  row1 = r1;
+  others1 = o1;
+  basis2 = b2;
+  columns2 = s2.columns;
+  rows2 = r2;
+}
+
+module _ {t0 t1 t2 : Table} {row s : ℕ} (o : IsOpening t0 t1 t2 row s) (column : ℕ) where
+  spare : s ≡ spare_column t0.columns (positions t0)
+  spare = o.spare
+
+  rl : row < positions t0
+  rl = o.row_in
+
+  closed : IsClosed t0
+  closed = o.closed
+
+  b1 : t1.basis ≡ t0.basis
+  b1 = o.basis1
+
+  n1 : t1.columns ≡ t0.columns
+  n1 = o.columns1
+
+  r1 : (d : ℤ) × (pos 0 <ℤ d) × ((c : ℕ) → d *ℤ rows_of t1 row c ≡ rows_of t0 row c)
+  r1 = o.row1
+
+  o1 : (i c : ℕ) → i ≤ positions t0 → i ≢ row → rows_of t1 i c ≡ rows_of t0 i c
+  o1 = o.others1
+
+  b2 : t2.basis ≡ set t1.basis row s
+  b2 = o.basis2
+
+  n2 : t2.columns ≡ t1.columns
+  n2 = o.columns2
+
   m1 : positions t1 ≡ positions t0
   m1 = ap length b1
 
@@ -100,16 +158,16 @@ module _ (t0 t1 t2 : Table) (row column s : ℕ) (spare : s ≡ spare_column t0.
   alone1 i il d = o1 i s (omega (arith, m1)) d ∙ ap (rows_of t0 i) spare ∙ closed.zero i (omega (arith, m1))
 
   same2 : (i c : ℕ) → i ≤ positions t0 → c < width_of t0 → rows_of t2 i c ≡ rows_of t1 i c
-  same2 i c il cl = r2 alone1 i c (omega (arith, m1)) (omega (arith, m1, n1))
+  same2 i c il cl = o.rows2 alone1 i c (omega (arith, m1)) (omega (arith, m1, n1))
 
   pub same_rows : (i c : ℕ) → i ≤ positions t1 → c < width_of t1 → rows_of t2 i c ≡ rows_of t1 i c
-  same_rows i c il cl = r2 alone1 i c il cl
+  same_rows i c il cl = o.rows2 alone1 i c il cl
 
   other2 : (i c : ℕ) → i ≤ positions t0 → i ≢ row → c < width_of t0 → rows_of t2 i c ≡ rows_of t0 i c
   other2 i c il d cl = same2 i c il cl ∙ o1 i c il d
 
   row2 : (c : ℕ) → c < width_of t0 → r1.0 *ℤ rows_of t2 row c ≡ rows_of t0 row c
-  row2 c cl = ap (λ t. r1.0 *ℤ t) (same2 row c (omega arith) cl) ∙ r1.2 c
+  row2 c cl = ap (λ t. r1.0 *ℤ t) (same2 row c (omega (arith, rl)) cl) ∙ r1.2 c
 
   s_in : s < width_of t0
   s_in = omega (arith, spare)
@@ -119,7 +177,7 @@ module _ (t0 t1 t2 : Table) (row column s : ℕ) (spare : s ≡ spare_column t0.
     | inr d ↦ other2 i s il d s_in ∙ ap (rows_of t0 i) spare ∙ closed.zero i il
     | inl e ↦
         subst (λ (x : ℕ). rows_of t2 x s ≡ pos 0) (sym e)
-        (mul_cancel_zero r1.0 (rows_of t2 row s) r1.1 (row2 s s_in ∙ ap (rows_of t0 row) spare ∙ closed.zero row (omega arith)))
+        (mul_cancel_zero r1.0 (rows_of t2 row s) r1.1 (row2 s s_in ∙ ap (rows_of t0 row) spare ∙ closed.zero row (omega (arith, rl))))
   ]
 
   spare2 : spare_column t2.columns (positions t2) ≡ s
@@ -128,7 +186,7 @@ module _ (t0 t1 t2 : Table) (row column s : ℕ) (spare : s ≡ spare_column t0.
   pub opened : IsOpen t2 row
   opened = record {
     spare = ap (λ (b : List ℕ). columns_of b row) b2 ∙ get_or-set_same t1.basis row s 0 (omega (arith, m1)) ∙ sym spare2;
-    zero = ap (rows_of t2 row) spare2 ∙ zero2 row (omega arith);
+    zero = ap (rows_of t2 row) spare2 ∙ zero2 row (omega (arith, rl));
   }
 
   pub positive2 : column < width_of t0 → pos 0 <ℤ rows_of t0 row column → pos 0 <ℤ rows_of t2 row column
@@ -191,9 +249,9 @@ module _ (t0 t1 t2 : Table) (row column s : ℕ) (spare : s ≡ spare_column t0.
 
       zero3 : (j : ℕ) → j ≤ positions t0 → rows_of t3 j s ≡ pos 0
       zero3 j jl = elim (cases_eq j row) [
-        | inl e ↦ subst (λ (x : ℕ). rows_of t3 x s ≡ pos 0) (sym e) (h.before.row_stays s ∙ zero2 row (omega arith))
+        | inl e ↦ subst (λ (x : ℕ). rows_of t3 x s ≡ pos 0) (sym e) (h.before.row_stays s ∙ zero2 row (omega (arith, rl)))
         | inr d ↦ elim (cases_lt j i) [
-          | inl l ↦ let c = cleared_begun j l jl d in zero_stays c.divisor c.p c.q (rows_of t3 j s) (rows_of t2 j s) (rows_of t2 row s) c.divides (c.entries s s_in) (zero2 j jl) (zero2 row (omega arith))
+          | inl l ↦ let c = cleared_begun j l jl d in zero_stays c.divisor c.p c.q (rows_of t3 j s) (rows_of t2 j s) (rows_of t2 row s) c.divides (c.entries s s_in) (zero2 j jl) (zero2 row (omega (arith, rl)))
           | inr l ↦ h.before.others j s l (omega (arith, m2)) ∙ zero2 j jl
         ]
       ]
@@ -202,7 +260,7 @@ module _ (t0 t1 t2 : Table) (row column s : ℕ) (spare : s ≡ spare_column t0.
       begun = record {
         opened = record {
           spare = ap (λ (b : List ℕ). columns_of b row) basis3 ∙ get_or-set_same t0.basis row s 0 rl ∙ sym spare3;
-          zero = ap (rows_of t3 row) spare3 ∙ zero3 row (omega arith);
+          zero = ap (rows_of t3 row) spare3 ∙ zero3 row (omega (arith, rl));
         };
         basis = basis3 ∙ ap (λ k. set t0.basis row k) spare;
         zero = λ j jl. ap (rows_of t3 j) (sym spare) ∙ zero3 j jl;
@@ -219,18 +277,14 @@ module _ (t0 t1 t2 : Table) (row column s : ℕ) (spare : s ≡ spare_column t0.
         ];
       }
 
-      pub wide_begun : (i < count) × (i ≢ row) × (i ≤ positions t0 → IsWideCleared limit (width_of t0) column (rows_of t0 i) (rows_of t0 row))
-      wide_begun = (
-        h.inside,
-        h.other,
-        λ il.
-            let w = subst (λ k. IsWideCleared limit k column (rows_of t2 i) (rows_of t2 row)) w2 (h.wide (omega (arith, m2))) in (
-              w.0,
-              cleared_by_times (width_of t0) column (rows_of t2 i) (rows_of t0 i) (rows_of t2 row) (rows_of t0 row) w.0 w.0 r1.0 r1.1 (λ k l. other2 i k il h.other l) row2 (λ k l. refl) column_in w.1,
-              w.2,
-              w.3,
-            ),
-      )
+      pub wide_begun : i ≤ positions t0 → IsWideCleared limit (width_of t0) column (rows_of t0 i) (rows_of t0 row)
+      wide_begun il =
+          let w = subst (λ k. IsWideCleared limit k column (rows_of t2 i) (rows_of t2 row)) w2 (h.wide (omega (arith, m2))) in (
+            w.0,
+            cleared_by_times (width_of t0) column (rows_of t2 i) (rows_of t0 i) (rows_of t2 row) (rows_of t0 row) w.0 w.0 r1.0 r1.1 (λ k l. other2 i k il h.other l) row2 (λ k l. refl) column_in w.1,
+            w.2,
+            w.3,
+          )
 
     module _ (t4 : Table) (b4 : t4.basis ≡ set t3.basis row column) (n4 : t4.columns ≡ t3.columns)
         (r4 : IsAlone t3 row column → (i c : ℕ) → i ≤ positions t3 → c < t3.columns + positions t3 + 4 → rows_of t4 i c ≡ rows_of t3 i c) where
@@ -239,7 +293,7 @@ module _ (t0 t1 t2 : Table) (row column s : ℕ) (spare : s ≡ spare_column t0.
 
       module _ (count : ℕ) (all : positions t0 < count) (h : ClearsTable count t2 t3 row column) where
         cleared3 : (i : ℕ) → i ≤ positions t0 → i ≢ row → IsClearedBy (width_of t0) column (rows_of t2 i) (rows_of t2 row) (rows_of t3 i)
-        cleared3 i il d = subst (λ k. IsClearedBy k column (rows_of t2 i) (rows_of t2 row) (rows_of t3 i)) w2 (h.cleared i (omega arith) (omega (arith, m2)) d)
+        cleared3 i il d = subst (λ k. IsClearedBy k column (rows_of t2 i) (rows_of t2 row) (rows_of t3 i)) w2 (h.cleared i (omega (arith, rl)) (omega (arith, m2)) d)
 
         alone3 : IsAlone t3 row column
         alone3 i il d = (cleared3 i (omega (arith, m3)) d).cleared
@@ -254,7 +308,7 @@ module _ (t0 t1 t2 : Table) (row column s : ℕ) (spare : s ≡ spare_column t0.
             q = pos 1;
             p_positive = r1.1;
             q_positive = omega (arith, ints);
-            same = λ k l. ap (λ t. r1.0 *ℤ t) (same4 row k (omega arith) l ∙ h.row_stays k) ∙ row2 k l ∙ sym (one-mul (rows_of t0 row k));
+            same = λ k l. ap (λ t. r1.0 *ℤ t) (same4 row k (omega (arith, rl)) l ∙ h.row_stays k) ∙ row2 k l ∙ sym (one-mul (rows_of t0 row k));
           };
           row_other = λ i il d.
               cleared_by_times (width_of t0) column (rows_of t2 i) (rows_of t0 i) (rows_of t2 row) (rows_of t0 row) (rows_of t3 i) (rows_of t4 i) r1.0 r1.1
@@ -263,10 +317,10 @@ module _ (t0 t1 t2 : Table) (row column s : ℕ) (spare : s ≡ spare_column t0.
 
         zero4 : (i : ℕ) → i ≤ positions t0 → rows_of t4 i s ≡ pos 0
         zero4 i il = elim (cases_eq i row) [
-          | inl e ↦ subst (λ (x : ℕ). rows_of t4 x s ≡ pos 0) (sym e) (same4 row s (omega arith) s_in ∙ h.row_stays s ∙ zero2 row (omega arith))
+          | inl e ↦ subst (λ (x : ℕ). rows_of t4 x s ≡ pos 0) (sym e) (same4 row s (omega (arith, rl)) s_in ∙ h.row_stays s ∙ zero2 row (omega (arith, rl)))
           | inr d ↦
               let c = cleared3 i il d in
-              same4 i s il s_in ∙ zero_stays c.divisor c.p c.q (rows_of t3 i s) (rows_of t2 i s) (rows_of t2 row s) c.divides (c.entries s s_in) (zero2 i il) (zero2 row (omega arith))
+              same4 i s il s_in ∙ zero_stays c.divisor c.p c.q (rows_of t3 i s) (rows_of t2 i s) (rows_of t2 row s) c.divides (c.entries s s_in) (zero2 i il) (zero2 row (omega (arith, rl)))
         ]
 
         pub closed4 : IsClosed t4

@@ -1,19 +1,18 @@
--- Rows within a table.
-use Rattle.std.proofs.Common.{◌≡◌, ◌≢◌, ℕ, suc, ◌+◌, ◌-◌, ◌*◌, ◌<◌, ◌≤◌, ◌^◌, ap, arith, inl, inr, ◌⊎◌, List, length, set, to_z, of_z, w64}
+-- Rows within a table, and numbers read by an index.
+use Rattle.std.proofs.Common.{◌≡◌, ◌≢◌, ℕ, suc, ◌+◌, ◌*◌, ◌<◌, ◌≤◌, ◌∙◌, ap, arith, inl, inr, ◌⊎◌, List, length, set, get_or}
 use Rattle.std.proofs.Math.Nat.{mul-le-mul_right}
-use Rattle.std.proofs.lemmas.List.{get_or-set_same, get_or-set_other}
+use Rattle.std.proofs.lemmas.List.{get_or_default, get_or-set_same, get_or-set_other}
 use Rattle.std.proofs.lemmas.Bool.{cases_order}
-use Rattle.rob_number.proofs.CastLemmas.{seen}
-use lib.IntN.{ℤ, pos, nat_abs}
+use lib.IntN.{ℤ, pos}
 use Rattle.rob_simplex.specs.Tables.{row_at}
 
 -- row i lies within the table
 pub row_within : (count width i : ℕ) → i < count → i * width + width ≤ count * width
 row_within count width i l = let h : suc i * width ≤ count * width = mul-le-mul_right width l in omega arith
 
--- a number within the limit is what its 64 bits are read as
-pub seen_within : (limit : ℕ) (z : ℤ) → limit ≤ 2 ^ 62 - 1 → nat_abs z ≤ limit → to_z w64 (of_z w64 z) ≡ z
-seen_within limit z h k = seen z (omega arith)
+-- a number that an index has read
+pub read_at : (items : List ℕ) (k x : ℕ) → k < length items → x ≡ get_or items k x → x ≡ get_or items k 0
+read_at items k x l e = e ∙ get_or_default items k x 0 l
 
 -- ---- after a write to one place
 

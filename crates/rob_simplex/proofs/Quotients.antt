@@ -5,7 +5,7 @@ use lib.IntN.{ℤ, pos, nat_abs}
 use Rattle.rob_algebra.specs.Gcd.{gcd}
 use Rattle.rob_algebra.specs.Fraction.{of_pair, nat_abs-over}
 use Rattle.rob_algebra.specs.Width.{Fits}
-use Rattle.rob_simplex.proofs.Places.{seen_within}
+use Rattle.rob_number.proofs.CastLemmas.{seen_within}
 
 pub of_pair_fits : (limit : ℕ) (n : ℤ) (d : ℕ) → 0 < d → nat_abs n ≤ limit → d ≤ limit → Fits limit (of_pair n d)
 unfolding of_pair

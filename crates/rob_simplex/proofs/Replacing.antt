@@ -1,50 +1,21 @@
 -- A column that comes to a position: the maps stay inverse to one another, and the rows stay the same functions.
 use Rattle.std.proofs.Common.{◌≡◌, ◌≢◌, ℕ, suc, ◌+◌, ◌*◌, ◌^◌, ◌<◌, ◌≤◌, sym, refl, ap, ◌∙◌, subst, arith, inl, inr, List, length, get_or, set, nat_abs}
 use Rattle.std.proofs.lemmas.Bool.{cases_eq, cases_lt}
-use Rattle.std.proofs.lemmas.Bool.Decides.{nat_tests}
 use Rattle.std.proofs.lemmas.List.{get_or-set_same, get_or-set_other, length-set}
 use lib.IntN.{ℤ, pos}
 use Rattle.rob_linear.specs.CondensedRows.{IsPlaced, IsReplaced, IsTurnedRow}
 use Rattle.rob_linear.proofs.CondensedRows.{placed_again, turned_entry}
 use Rattle.rob_simplex.specs.Tables.{row_at, bound_at, HasBounds}
 use Rattle.rob_simplex.specs.Dictionaries.{Table, columns_of, basic_columns, right_column, read_row, rows_of, kept_row_of, IsSound, IsFree, IsAlone, IsExchanged}
+use Rattle.rob_simplex.proofs.ReadRows.{read_near, read_zero, read_ext, basic_low, basic_high}
 use Rattle.rob_simplex.proofs.Places.{row_within, set_here, set_elsewhere}
 
 -- two entries of a row exchanged
 abbrev pub exchanged_entries : List ℤ → ℕ → ℕ → List ℤ
 exchanged_entries rows a b = set (set rows a (get_or rows b (pos 0))) b (get_or rows a (pos 0))
 
--- a list written back whole
-pub basic_low : (n : ℕ) (basis : List ℕ) (i : ℕ) → i < length basis → basic_columns n basis i ≡ columns_of basis i
-basic_low n basis i l = grind (arith, nat_tests)
-
-pub basic_high : (n : ℕ) (basis : List ℕ) (i : ℕ) → length basis ≤ i → basic_columns n basis i ≡ suc (n + length basis)
-basic_high n basis i l = grind (arith, nat_tests)
-
--- ---- a row that is read by places
-read_near : (w : ℕ) (places : ℕ → ℕ) (i : ℕ) (r : ℕ → ℤ) (c : ℕ) → places c < w → read_row w places i r c ≡ r (places c)
-read_near w places i r c l = grind (arith, nat_tests)
-
-read_zero : (w : ℕ) (places : ℕ → ℕ) (j i : ℕ) (r : ℕ → ℤ) (c : ℕ) → places c ≡ w + j → j ≢ i → read_row w places i r c ≡ pos 0
-read_zero w places j i r c e d = grind (arith, nat_tests)
-
-read_own : (w : ℕ) (places : ℕ → ℕ) (i : ℕ) (r : ℕ → ℤ) (c : ℕ) → places c ≡ w + i → read_row w places i r c ≡ r w
-read_own w places i r c e = grind (arith, nat_tests)
-
-read_none : (w : ℕ) (places : ℕ → ℕ) (i : ℕ) (r : ℕ → ℤ) (c : ℕ) → w ≤ places c → places c ≢ w + i → read_row w places i r c ≡ pos 0
-read_none w places i r c l d = grind (arith, nat_tests)
-
-read_ext : (w i : ℕ) (places' places : ℕ → ℕ) (r' r : ℕ → ℤ) (c : ℕ) → places' c ≡ places c → ((k : ℕ) → k < suc w → r' k ≡ r k) → read_row w places' i r' c ≡ read_row w places i r c
-read_ext w i places' places r' r c e same = elim (cases_lt (places c) w) [
-  | inl l ↦ read_near w places' i r' c (omega arith) ∙ ap r' e ∙ same (places c) (omega arith) ∙ sym (read_near w places i r c l)
-  | inr l ↦ elim (cases_eq (places c) (w + i)) [
-    | inl s ↦ read_own w places' i r' c (e ∙ s) ∙ same w (omega arith) ∙ sym (read_own w places i r c s)
-    | inr d ↦ read_none w places' i r' c (omega arith) (λ x. d (sym e ∙ x)) ∙ sym (read_none w places i r c l d)
-  ]
-]
-
 -- ---- a column that comes to a position
-module _ (limit n : ℕ) (basis places near : List ℕ) (table : List ℤ) (bounds : List ℕ) (room : ℕ) (sound : IsSound limit n basis places near table bounds room) (row column : ℕ) (rl : row < length basis) (free : IsFree n basis column) where
+module _ {limit n : ℕ} {basis places near : List ℕ} {table : List ℤ} {bounds : List ℕ} {workspace : ℕ} (sound : IsSound limit n basis places near table bounds workspace) (row column : ℕ) (rl : row < length basis) (free : IsFree n basis column) where
   abbrev w : ℕ
   w = n + 3
 
@@ -228,7 +199,7 @@ module _ (limit n : ℕ) (basis places near : List ℕ) (table : List ℤ) (boun
     low = sound.bounded.low;
   }
 
-  pub replaced_sound : IsSound limit n basis' places' near' table' bounds room
+  pub replaced_sound : IsSound limit n basis' places' near' table' bounds workspace
   replaced_sound = record {
     few = subst (λ t. n + t < 2 ^ 31) (sym same_length) sound.few;
     limit_low = sound.limit_low;
@@ -241,9 +212,12 @@ module _ (limit n : ℕ) (basis places near : List ℕ) (table : List ℤ) (boun
     right_at =
         ap (λ t. columns_of places' (right_column n t)) same_length
         ∙ replaced.at_other (right_column n (length basis)) (λ e. free.not_right (sym e))
-        (λ e. absurd (let s : columns_of places (right_column n (length basis)) ≡ n + 2 = sound.right_at in let t : columns_of places (right_column n (length basis)) ≡ n + 3 + row = ap (columns_of places) (e ∙ left_is) ∙ left_at in omega arith))
+        (λ e.
+        let s : columns_of places (right_column n (length basis)) ≡ n + 2 = sound.right_at in
+        let t : columns_of places (right_column n (length basis)) ≡ n + 3 + row = ap (columns_of places) (e ∙ left_is) ∙ left_at in
+        absurd (omega arith))
         ∙ sound.right_at;
-    room_is = sound.room_is;
+    workspace_is = sound.workspace_is;
   }
 
   -- ---- what contracts see
@@ -291,8 +265,8 @@ module _ (limit n : ℕ) (basis places near : List ℕ) (table : List ℤ) (boun
         let e : t ≡ table' = et ∙ ap (λ y. exchanged_entries table (row * (n + 4) + y) (row * (n + 4) + (n + 3))) ex in
         subst (λ v. Q x l v) (sym e) (subst (λ y. Q y l table') (sym ex) (subst (λ y. Q (columns_of places column) y table') (sym el) q))
 
-    pub made_sound : IsSound limit n (set basis row column) (set (set places l x) column (n + 3 + row)) (set near x l) t bounds room
-    made_sound = all_same (λ x l t. IsSound limit n (set basis row column) (set (set places l x) column (n + 3 + row)) (set near x l) t bounds room) replaced_sound
+    pub made_sound : IsSound limit n (set basis row column) (set (set places l x) column (n + 3 + row)) (set near x l) t bounds workspace
+    made_sound = all_same (λ x l t. IsSound limit n (set basis row column) (set (set places l x) column (n + 3 + row)) (set near x l) t bounds workspace) replaced_sound
 
     pub made_rows : IsAlone old row column → (i c : ℕ) → i ≤ length basis → c < n + length basis + 4 → rows_of (made x l t) i c ≡ rows_of old i c
     made_rows alone i c il cl = all_same (λ x l t. rows_of (made x l t) i c ≡ rows_of old i c) (rows_same alone i c il cl)

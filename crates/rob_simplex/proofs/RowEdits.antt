@@ -7,12 +7,12 @@ use Rattle.rob_algebra.specs.Integer.{mul-zero}
 use Rattle.rob_linear.specs.Vectors.{Vector, Columns}
 use Rattle.rob_simplex.specs.Tables.{row_at, bound_at, HasBounds}
 use Rattle.rob_simplex.specs.Dictionaries.{read_row, IsSound}
-use Rattle.rob_simplex.proofs.TableClearing.{read_near, read_own, read_none}
+use Rattle.rob_simplex.proofs.ReadRows.{read_near, read_own, read_none}
 
 -- the table and the bounds alone have changed
-pub sound_with : (limit n : ℕ) (basis places near : List ℕ) (table table' : List ℤ) (bounds bounds' : List ℕ) (room : ℕ) → IsSound limit n basis places near table bounds room
-    → HasBounds limit (n + 4) table' bounds' → length bounds' ≡ length bounds → IsSound limit n basis places near table' bounds' room
-sound_with limit n basis places near table table' bounds bounds' room s h e = record {
+pub sound_with : (limit n : ℕ) (basis places near : List ℕ) (table table' : List ℤ) (bounds bounds' : List ℕ) (workspace : ℕ) → IsSound limit n basis places near table bounds workspace
+    → HasBounds limit (n + 4) table' bounds' → length bounds' ≡ length bounds → IsSound limit n basis places near table' bounds' workspace
+sound_with limit n basis places near table table' bounds bounds' workspace s h e = record {
   few = s.few;
   limit_low = s.limit_low;
   count = e ∙ s.count;
@@ -21,7 +21,7 @@ sound_with limit n basis places near table table' bounds bounds' room s h e = re
   near_size = s.near_size;
   placed = s.placed;
   right_at = s.right_at;
-  room_is = s.room_is;
+  workspace_is = s.workspace_is;
 }
 
 -- ---- a row's numbers all times something

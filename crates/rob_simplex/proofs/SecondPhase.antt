@@ -6,15 +6,14 @@ use Rattle.std.proofs.lemmas.Int.{ints}
 use Rattle.std.proofs.lemmas.List.{get_or-set_same, get_or-set_other, length-set}
 use Rattle.std.specs.Int.RustNames.{unsigned_abs}
 use Rattle.std.specs.Int.{◌∣◌}
-use Rattle.std.specs.Prelude.{nat_abs}
 use Rattle.std.proofs.lemmas.Nat.Gcd.{dvd-zero}
 use lib.IntN.{ℤ, pos, ◌-ℤ◌, ◌*ℤ◌}
 use lib.Signed.{◌<ℤ◌, ◌≤ℤ◌}
 use Rattle.rob_algebra.specs.Integer.{*ℤ_comm}
-use Rattle.rob_linear.specs.Vectors.{Vector, Matrix, Columns}
+use Rattle.rob_linear.specs.Vectors.{Matrix}
 use Rattle.rob_linear.specs.Systems.{System, right, IsPrimitive}
 use Rattle.rob_linear.specs.Programs.{Program, system_of, kept_of, auxiliary_place}
-use Rattle.rob_linear.specs.Turns.{Enters, Leaves, IsExchange, Rises, key, own_of, TurnsTo}
+use Rattle.rob_linear.specs.Turns.{Enters, Leaves, IsExchange, Rises, own_of, TurnsTo}
 use Rattle.rob_linear.specs.Rank.{rank, rank_limit, IsWithin}
 use Rattle.rob_linear.specs.WideRows.{HasWideEntry, IsWideIn}
 use Rattle.rob_linear.specs.Multiples.{IsParallel, IsClearedBy, IsMultiplePivot, IsPivotableMultiple, StandsMultiple}
@@ -28,48 +27,12 @@ use Rattle.rob_linear.proofs.Multiples.{factors_clear, pivot_wide, multiple_turn
 use Rattle.rob_linear.proofs.Phases.{place_low, place_high}
 use Rattle.rob_entries.specs.Updates.{IsWideCleared}
 use Rattle.rob_simplex.specs.Dictionaries.{Table, positions, width_of, columns_of, basic_columns, spare_column, shape, rows_of, IsFree, IsClosed, IsPivoted, FirstNegative}
-use Rattle.rob_simplex.specs.Phases.{StandsFor, TurnsOn, HasRefused, EndsIn, rank_left, turns_left}
-use Rattle.rob_simplex.proofs.Replacing.{basic_low, basic_high}
+use Rattle.rob_simplex.specs.Phases.{StandsFor, TurnsOn, HasRefused, EndsIn, turns_left}
+use Rattle.rob_simplex.proofs.Ranks.{own_last, shorter, IsSmall, within_second, left_is, falls}
+use Rattle.rob_simplex.proofs.ReadRows.{basic_low, basic_high}
 use Rattle.rob_simplex.proofs.PivotLemmas.{zero_stays}
 
-own_last : (P : Program) (basis : Columns) → own_of (system_of P) basis P.m ≡ P.n + P.m
-own_last P basis = grind (arith, nat_tests)
-
--- less columns
-pub shorter : (n n' column : ℕ) (low top new : Vector) → n' ≤ n → IsClearedBy n column low top new → IsClearedBy n' column low top new
-shorter n n' column low top new l c = record {
-  divisor = c.divisor;
-  p = c.p;
-  q = c.q;
-  divides = c.divides;
-  positive = c.positive;
-  entries = λ k kl. c.entries k (omega arith);
-  cleared = c.cleared;
-}
-
--- no number of the rows is over the limit
-abbrev pub IsSmall : Table → Type 0
-IsSmall t = (i c : ℕ) → i ≤ positions t → nat_abs (rows_of t i c) ≤ t.limit
-
--- so the objective's row is one of those that are ranked
-within_second : (P : Program) (t : Table) → StandsFor P t → IsSmall t → IsWithin (system_of P) t.limit (without_column P (rows_of t) P.m)
-within_second P t h small = record {
-  keys = λ k l. key_in k;
-  positive = subst (λ k. pos 0 <ℤ without_column P (rows_of t) P.m k) (own_last P (columns_of t.basis)) (h.stands.multiples.rows_of P.m (omega arith)).positive;
-  objective_in = small P.m (auxiliary_place P (P.n + P.m)) (omega (arith, h.rows_are));
-}
-  where
-    key_in : (k : ℕ) → nat_abs (key (system_of P) (without_column P (rows_of t) P.m) k) ≤ t.limit
-    key_in zero = small P.m (auxiliary_place P (suc (P.n + P.m))) (omega (arith, h.rows_are))
-    key_in (suc k) = small P.m (auxiliary_place P (P.n + k)) (omega (arith, h.rows_are))
-
-left_is : (P : Program) (t : Table) → StandsFor P t → turns_left t ≡ rank_limit (system_of P) t.limit - rank (system_of P) t.limit (without_column P (rows_of t) P.m)
-left_is P t h = ap (λ n. rank_left n (positions t) t) h.columns_are ∙ ap (λ m. rank_left P.n m t) h.rows_are
-
-pub falls : (top a b : ℕ) → a < b → b < top → top - b < top - a
-falls top a b l u = omega arith
-
-module _ (P : Program) (t : Table) (h : StandsFor P t) where
+module _ {P : Program} {t : Table} (h : StandsFor P t) where
   abbrev S : System
   S = system_of P
 
@@ -102,7 +65,7 @@ module _ (P : Program) (t : Table) (h : StandsFor P t) where
   size_is : t.columns + positions t ≡ P.n + P.m
   size_is = omega (arith, h.rows_are, h.columns_are)
 
-  module _ (column : ℕ) (first' : FirstNegative (t.columns + positions t) (rows_of t (positions t)) column) where
+  module _ {column : ℕ} (first' : FirstNegative (t.columns + positions t) (rows_of t (positions t)) column) where
     first : FirstNegative (P.n + P.m) (rows_of t P.m) column
     first = subst (λ k. FirstNegative k (rows_of t P.m) column) size_is (subst (λ i. FirstNegative (t.columns + positions t) (rows_of t i) column) h.rows_are first')
 
@@ -129,7 +92,7 @@ module _ (P : Program) (t : Table) (h : StandsFor P t) where
     enters : Enters (system_of P) (without_column P (rows_of t)) column
     enters = enters_without P (rows_of t) column low first.negative first.first
 
-    module _ (row : ℕ) (leaves' : Leaves (shape t.columns (positions t)) (rows_of t) column row) where
+    module _ {row : ℕ} (leaves' : Leaves (shape t.columns (positions t)) (rows_of t) column row) where
       leaves_kept : Leaves (kept_of P) (rows_of t) column row
       leaves_kept =
           let l : Leaves (shape P.n P.m) (rows_of t) column row = subst (λ n. Leaves (shape n P.m) (rows_of t) column row) h.columns_are (subst (λ m. Leaves (shape t.columns m) (rows_of t) column row) h.rows_are leaves') in

@@ -13,7 +13,7 @@ use Rattle.rob_simplex.specs.Phases.{StandsFor}
 use Rattle.rob_simplex.specs.Resuming.{CanResume}
 use Rattle.rob_simplex.specs.Starts.{IsStartingTable}
 use Rattle.rob_simplex.specs.Solvers.{Solver, positions, IsSound, IsMadeFor}
-use Rattle.rob_simplex.proofs.Places.{seen_within}
+use Rattle.rob_number.proofs.CastLemmas.{seen_within}
 use Rattle.rob_simplex.proofs.Solved.{own_in_range, objective_entry}
 
 -- a solver that was made for a program has its starting rows
@@ -55,7 +55,7 @@ untold Infeasible = ⊥
 untold (Unbounded column) = ⊥
 
 -- ---- it stays sound, with another dictionary of its size and other weights
-module _ (top limit : ℕ) (v : Solver) (sound : IsSound top limit v) (t : Table) (w : List ℤ) (el : t.limit ≡ v.limit) (en : t.columns ≡ v.columns) (em : length t.basis ≡ positions v) (size : length w ≡ positions v) where
+module _ {top limit : ℕ} {v : Solver} (sound : IsSound top limit v) (t : Table) (w : List ℤ) (el : t.limit ≡ v.limit) (en : t.columns ≡ v.columns) (em : length t.basis ≡ positions v) (size : length w ≡ positions v) where
   few_columns : t.columns + length t.basis < 2 ^ 31
   few_columns = omega (arith, sound.few)
 

@@ -12,8 +12,7 @@ use Rattle.rob_linear.proofs.TwoPhases.{kept_one, kept_zero}
 use Rattle.rob_simplex.specs.Tables.{row_at, bound_at, HasBounds}
 use Rattle.rob_simplex.specs.Dictionaries.{columns_of, basic_columns, spare_column, read_row, IsSound}
 use Rattle.rob_simplex.specs.Starts.{start_place, start_column, start_entry, IsStartingTable}
-use Rattle.rob_simplex.proofs.Replacing.{basic_low, basic_high}
-use Rattle.rob_simplex.proofs.TableClearing.{read_near, read_own, read_none}
+use Rattle.rob_simplex.proofs.ReadRows.{read_near, read_own, read_none, basic_low, basic_high}
 
 -- ---- one entry of a row
 pub entry_low : (n : ℕ) (low : Vector) (x y : ℤ) (k : ℕ) → k < n → start_entry n low x y k ≡ low k
@@ -210,9 +209,9 @@ module _ (n : ℕ) (basis places near : List ℕ) (slacks : (i : ℕ) → i < le
         (λ l. let e : columns_of places (suc (suc (suc (n + length basis)))) ≡ n + 1 = at_spare in absurd (omega arith));
   }
 
-  pub start_is_sound : (limit : ℕ) (table : List ℤ) (bounds : List ℕ) (room : ℕ) → n + length basis < 2 ^ 31 → 1 ≤ limit → length bounds ≡ length basis + 2 → HasBounds limit (n + 4) table bounds
-      → length places ≡ n + length basis + 4 → length near ≡ n + 3 → room ≡ n + 4 → IsSound limit n basis places near table bounds room
-  start_is_sound limit table bounds room few low count h ps ns rs = record {
+  pub start_is_sound : (limit : ℕ) (table : List ℤ) (bounds : List ℕ) (workspace : ℕ) → n + length basis < 2 ^ 31 → 1 ≤ limit → length bounds ≡ length basis + 2 → HasBounds limit (n + 4) table bounds
+      → length places ≡ n + length basis + 4 → length near ≡ n + 3 → workspace ≡ n + 4 → IsSound limit n basis places near table bounds workspace
+  start_is_sound limit table bounds workspace few low count h ps ns rs = record {
     few = few;
     limit_low = low;
     count = count;
@@ -221,7 +220,7 @@ module _ (n : ℕ) (basis places near : List ℕ) (slacks : (i : ℕ) → i < le
     near_size = ns;
     placed = start_is_placed;
     right_at = at_right;
-    room_is = rs;
+    workspace_is = rs;
   }
 
   -- ---- the rows as functions
@@ -321,13 +320,13 @@ module _ (n : ℕ) (basis places near : List ℕ) (slacks : (i : ℕ) → i < le
     }
 
 -- lists that were lent and written back
-pub sound_carry : (limit n : ℕ) (b b' p p' r r' : List ℕ) (t t' : List ℤ) (s s' : List ℕ) (room : ℕ) → b' ≡ b → p' ≡ p → r' ≡ r → t' ≡ t → s' ≡ s → IsSound limit n b p r t s room → IsSound limit n b' p' r' t' s' room
-sound_carry limit n b b' p p' r r' t t' s s' room eb ep er et es h =
-    subst (λ (x : List ℕ). IsSound limit n x p' r' t' s' room) (sym eb)
-    (subst (λ (x : List ℕ). IsSound limit n b x r' t' s' room) (sym ep)
-    (subst (λ (x : List ℕ). IsSound limit n b p x t' s' room) (sym er)
-    (subst (λ (x : List ℤ). IsSound limit n b p r x s' room) (sym et)
-    (subst (λ (x : List ℕ). IsSound limit n b p r t x room) (sym es) h))))
+pub sound_carry : (limit n : ℕ) (b b' p p' r r' : List ℕ) (t t' : List ℤ) (s s' : List ℕ) (workspace : ℕ) → b' ≡ b → p' ≡ p → r' ≡ r → t' ≡ t → s' ≡ s → IsSound limit n b p r t s workspace → IsSound limit n b' p' r' t' s' workspace
+sound_carry limit n b b' p p' r r' t t' s s' workspace eb ep er et es h =
+    subst (λ (x : List ℕ). IsSound limit n x p' r' t' s' workspace) (sym eb)
+    (subst (λ (x : List ℕ). IsSound limit n b x r' t' s' workspace) (sym ep)
+    (subst (λ (x : List ℕ). IsSound limit n b p x t' s' workspace) (sym er)
+    (subst (λ (x : List ℤ). IsSound limit n b p r x s' workspace) (sym et)
+    (subst (λ (x : List ℕ). IsSound limit n b p r t x workspace) (sym es) h))))
 
 pub starting_carry : (limit n : ℕ) (b b' p p' : List ℕ) (t t' : List ℤ) (m' n' : ℕ) (a : ℕ → ℕ → ℤ) (right cost : ℕ → ℤ) → b' ≡ b → p' ≡ p → t' ≡ t → length b ≡ m' → n ≡ n'
     → IsStartingTable (record { m = length b; n = n; a = a; b = right; c = cost }) (record { limit = limit; columns = n; basis = b; places = p; table = t })

@@ -1,8 +1,7 @@
 -- Rows of a table that are cleared place by place are cleared column by column.
-use Rattle.std.proofs.Common.{◌≡◌, ◌≢◌, ℕ, suc, ◌+◌, ◌<◌, ◌≤◌, sym, ap, ◌∙◌, subst, arith, inl, inr, List, length, Result, Ok, Err}
+use Rattle.std.proofs.Common.{◌≡◌, ◌≢◌, ℕ, suc, ◌+◌, ◌*◌, ◌-◌, ◌<◌, ◌≤◌, sym, ap, ◌∙◌, subst, arith, inl, inr, List, length, Result, Ok, Err}
 use Rattle.std.specs.Prelude.{IfErr}
 use Rattle.std.proofs.lemmas.Bool.{cases_eq, cases_lt}
-use Rattle.std.proofs.lemmas.Bool.Decides.{nat_tests}
 use Rattle.std.proofs.lemmas.Int.{ints}
 use Rattle.std.specs.Int.RustNames.{unsigned_abs}
 use Rattle.std.specs.Int.{◌∣◌}
@@ -14,31 +13,13 @@ use Rattle.rob_linear.specs.Systems.{IsPrimitive}
 use Rattle.rob_linear.specs.CondensedRows.{IsPlaced}
 use Rattle.rob_linear.specs.Multiples.{IsClearedBy}
 use Rattle.rob_linear.proofs.CondensedNumbers.{entry_primitive}
-use Rattle.rob_entries.specs.Updates.{IsMultipleOf, IsWideCleared}
-use Rattle.rob_simplex.proofs.Replacing.{free_low, left_at, basic_high}
-use Rattle.rob_simplex.proofs.ClearingTops.{cleared_whole}
+use Rattle.rob_entries.specs.Updates.{AreOwn, IsMultipleOf, IsWideCleared}
+use Rattle.rob_simplex.proofs.ReadRows.{read_near, read_own, read_none, read_same, basic_high}
+use Rattle.rob_simplex.proofs.Replacing.{row_in, free_low, left_at}
+use Rattle.rob_simplex.proofs.ClearingTops.{cleared_whole, part_positive, part_zero}
 use Rattle.rob_simplex.specs.Tables.{row_at, AreCleared, IsStopped}
-use Rattle.rob_simplex.specs.Dictionaries.{Table, columns_of, basic_columns, spare_column, read_row, rows_of, IsSound, IsFree, IsOpen, KeepsOwn, ClearsTable, StopsTable}
-
--- ---- reading a row
-pub read_near : (w : ℕ) (places : Columns) (i : ℕ) (r : Vector) (c : ℕ) → places c < w → read_row w places i r c ≡ r (places c)
-read_near w places i r c l = grind (arith, nat_tests)
-
-pub read_own : (w : ℕ) (places : Columns) (i : ℕ) (r : Vector) (c : ℕ) → places c ≡ w + i → read_row w places i r c ≡ r w
-read_own w places i r c e = grind (arith, nat_tests)
-
-pub read_none : (w : ℕ) (places : Columns) (i : ℕ) (r : Vector) (c : ℕ) → w ≤ places c → places c ≢ w + i → read_row w places i r c ≡ pos 0
-read_none w places i r c l d = grind (arith, nat_tests)
-
--- rows with the same numbers
-pub read_same : (w : ℕ) (places : Columns) (i : ℕ) (r r' : Vector) → ((k : ℕ) → k ≤ w → r' k ≡ r k) → (c : ℕ) → read_row w places i r' c ≡ read_row w places i r c
-read_same w places i r r' same c = elim (cases_lt (places c) w) [
-  | inl l ↦ read_near w places i r' c l ∙ same (places c) (omega arith) ∙ sym (read_near w places i r c l)
-  | inr l ↦ elim (cases_eq (places c) (w + i)) [
-    | inl s ↦ read_own w places i r' c s ∙ same w (omega arith) ∙ sym (read_own w places i r c s)
-    | inr d ↦ read_none w places i r' c l d ∙ sym (read_none w places i r c l d)
-  ]
-]
+use Rattle.rob_simplex.specs.Dictionaries.{Table, columns_of, basic_columns, spare_column, read_row, rows_of, IsSound, ClearsTable, StopsTable}
+use Rattle.rob_simplex.specs.Pivots.{CanClear}
 
 -- ---- a row that is cleared
 module _ (w n : ℕ) (places : Columns) (i r column : ℕ) (low top new : Vector) (other : i ≢ r) (free : places column < w) (open_at : top w ≡ pos 0) (c : IsClearedBy (suc w) (places column) low top new) where
@@ -91,40 +72,67 @@ module _ (m w n : ℕ) (places near basis : Columns) (placed : IsPlaced m w n pl
       ] in (
         read_row w places i x.0,
         cleared_read w n places i r column low top x.0 other free open_at x.1,
-        entry_primitive m w n places near basis (λ j. x.0) (λ j. x.0 w) i placed il (λ d each own. x.2 d (λ j jl. elim (cases_lt j w) [ inl l ↦ each j l | inr l ↦ let e : w ≡ j = omega arith in subst (λ t. d ∣ unsigned_abs (x.0 t)) e own ])),
+        entry_primitive m w n places near basis (λ j. x.0) (λ j. x.0 w) i placed il (λ d each own. x.2 d (λ j jl. elim (cases_lt j w) [
+          | inl l ↦ each j l
+          | inr l ↦
+              let e : w ≡ j = omega arith in
+              subst (λ t. d ∣ unsigned_abs (x.0 t)) e own
+        ])),
         (entry.0, entry.1, subst (λ t. limit < unsigned_abs t) (sym entry.2) over),
       )
 
 -- ---- the table
-module _ (limit n : ℕ) (basis places near : List ℕ) (table : List ℤ) (bounds : List ℕ) (room : ℕ) (sound : IsSound limit n basis places near table bounds room) (row column : ℕ) (rl : row < length basis) (free : IsFree n basis column) (open_row : IsOpen (record { limit = limit; columns = n; basis = basis; places = places; table = table }) row) where
+module _ {limit n : ℕ} {basis places near : List ℕ} {table : List ℤ} {bounds : List ℕ} {workspace : ℕ} (sound : IsSound limit n basis places near table bounds workspace) {count row column : ℕ}
+    (a : CanClear count (record { limit = limit; columns = n; basis = basis; places = places; table = table }) row column) where
   abbrev pub before : Table
   before = record { limit = limit; columns = n; basis = basis; places = places; table = table }
 
   abbrev pub after : List ℤ → Table
   after t = record { limit = limit; columns = n; basis = basis; places = places; table = t }
 
-  free_place : columns_of places column < n + 3
-  free_place = free_low limit n basis places near table bounds room sound row column rl free
+  rl : row < length basis
+  rl = a.row_in
+
+  pub free_place : columns_of places column < n + 3
+  free_place = free_low sound row column rl a.free
+
+  -- the row is there
+  pub row_there : row * (n + 4) + (n + 4) ≤ length table
+  row_there = row_in sound row column rl a.free
 
   pub own_zero : row_at table (n + 4) row (n + 3) ≡ pos 0
   own_zero =
-      let at_spare : columns_of places (spare_column n (length basis)) ≡ n + 3 + row = ap (columns_of places) (sym open_row.spare) ∙ left_at limit n basis places near table bounds room sound row column rl free in
-      sym (read_own (n + 3) (columns_of places) row (row_at table (n + 4) row) (spare_column n (length basis)) at_spare) ∙ open_row.zero
+      let at_spare : columns_of places (spare_column n (length basis)) ≡ n + 3 + row = ap (columns_of places) (sym a.opened.spare) ∙ left_at sound row column rl a.free in
+      sym (read_own (n + 3) (columns_of places) row (row_at table (n + 4) row) (spare_column n (length basis)) at_spare) ∙ a.opened.zero
 
-  pub positive_there : pos 0 <ℤ rows_of before row column → pos 0 <ℤ row_at table (n + 4) row (columns_of places column)
-  positive_there h = subst (λ t. pos 0 <ℤ t) (read_near (n + 3) (columns_of places) row (row_at table (n + 4) row) column free_place) h
+  positive_there : pos 0 <ℤ row_at table (n + 4) row (columns_of places column)
+  positive_there = subst (λ t. pos 0 <ℤ t) (read_near (n + 3) (columns_of places) row (row_at table (n + 4) row) column free_place) a.positive
 
   -- each row before `count` but this one has a last number
-  pub own_left : (count : ℕ) → count ≤ length basis + 2 → KeepsOwn count before row → (i : ℕ) → i < count → i ≢ row → row_at table (n + 4) i (n + 3) ≢ pos 0
-  own_left count cl h i il d z = elim (cases_lt (length basis) i) [
+  own_left : (i : ℕ) → i < count → i ≢ row → row_at table (n + 4) i (n + 3) ≢ pos 0
+  own_left i il d z = elim (cases_lt (length basis) i) [
     | inl l ↦
-        let e : i ≡ suc (length basis) = omega arith in
+        let e : i ≡ suc (length basis) = omega (arith, a.below) in
         let o : columns_of places (suc (n + length basis)) ≡ n + 3 + length basis = ap (columns_of places) (sym (basic_high n basis (length basis) (omega arith))) ∙ sound.placed.basic_at (length basis) (omega arith) in
-        (h.kept (omega arith)).1 (read_own (n + 3) (columns_of places) (length basis) (row_at table (n + 4) (suc (length basis))) (suc (n + length basis)) o ∙ ap (λ j. row_at table (n + 4) j (n + 3)) (sym e) ∙ z)
-    | inr l ↦ h.rows i il l d (read_own (n + 3) (columns_of places) i (row_at table (n + 4) i) (basic_columns n basis i) (sound.placed.basic_at i l) ∙ z)
+        (a.own.kept (omega (arith, e))).1 (read_own (n + 3) (columns_of places) (length basis) (row_at table (n + 4) (suc (length basis))) (suc (n + length basis)) o ∙ ap (λ j. row_at table (n + 4) j (n + 3)) (sym e) ∙ z)
+    | inr l ↦ a.own.rows i il l d (read_own (n + 3) (columns_of places) i (row_at table (n + 4) i) (basic_columns n basis i) (sound.placed.basic_at i l) ∙ z)
   ]
 
   module _ (entries : List ℤ) (m : IsMultipleOf (n + 4) (row_at table (n + 4) row) (at entries)) (x : ℕ) (ex : x ≡ columns_of places column) where
+    -- the loaded row is positive where it clears, and has no number of its own
+    pub positive_entry : pos 0 <ℤ at entries x
+    positive_entry =
+        subst (λ y. pos 0 <ℤ at entries y) (sym ex)
+        (part_positive (n + 4) (columns_of places column) (row_at table (n + 4) row) (at entries) m (columns_of places column) (omega (arith, free_place)) positive_there)
+
+    pub own_there : (i : ℕ) → i < count → i ≢ row → AreOwn (row_at table (n + 4) i) (at entries) (n + 4 - 1)
+    own_there i il d =
+        let e : n + 4 - 1 ≡ n + 3 = omega arith in
+        record {
+          zero = ap (at entries) e ∙ part_zero (n + 4) (n + 3) (row_at table (n + 4) row) (at entries) m (n + 3) (omega arith) own_zero;
+          some = λ z. own_left i il d (ap (row_at table (n + 4) i) (sym e) ∙ z);
+        }
+
     at_top : (low new : Vector) → IsClearedBy (n + 4) x low (at entries) new → IsClearedBy (suc (n + 3)) (columns_of places column) low (row_at table (n + 4) row) new
     at_top low new c =
         let e : n + 4 ≡ suc (n + 3) = omega arith in
@@ -137,17 +145,17 @@ module _ (limit n : ℕ) (basis places near : List ℕ) (table : List ℤ) (boun
         cleared_read (n + 3) (n + length basis + 4) (columns_of places) j row column (row_at table (n + 4) i) (row_at table (n + 4) row) (row_at new (n + 4) i) d free_place own_zero
         (at_top (row_at table (n + 4) i) (row_at new (n + 4) i) c)
 
-    clears : (count : ℕ) (new : List ℤ) → AreCleared count (n + 4) row x (at entries) (row_at table (n + 4)) (row_at new (n + 4)) → ClearsTable count before (after new) row column
-    clears count new h = record {
+    clears : (some : ℕ) (new : List ℤ) → AreCleared some (n + 4) row x (at entries) (row_at table (n + 4)) (row_at new (n + 4)) → ClearsTable some before (after new) row column
+    clears some new h = record {
       cleared = λ i l il d. row_cleared i i new d (h.cleared i l d);
       row_stays = read_same (n + 3) (columns_of places) row (row_at table (n + 4) row) (row_at new (n + 4) row) (λ k l. h.row_stays k (omega arith));
       others = λ i c l il. read_same (n + 3) (columns_of places) i (row_at table (n + 4) i) (row_at new (n + 4) i) (λ k kl. h.others i k l (omega arith)) c;
-      kept = λ l. row_cleared (length basis) (suc (length basis)) new (λ e. absurd (omega arith)) (h.cleared (suc (length basis)) l (λ e. absurd (omega arith)));
+      kept = λ l. row_cleared (length basis) (suc (length basis)) new (λ e. absurd (omega (arith, rl))) (h.cleared (suc (length basis)) l (λ e. absurd (omega (arith, rl))));
       kept_stays = λ l. read_same (n + 3) (columns_of places) (length basis) (row_at table (n + 4) (suc (length basis))) (row_at new (n + 4) (suc (length basis))) (λ k kl. h.others (suc (length basis)) k l (omega arith));
     }
 
-    pub table_cleared : (count : ℕ) (new t : List ℤ) → t ≡ new → AreCleared count (n + 4) row x (at entries) (row_at table (n + 4)) (row_at new (n + 4)) → ClearsTable count before (after t) row column
-    table_cleared count new t e h = subst (λ v. ClearsTable count before (after v) row column) (sym e) (clears count new h)
+    pub table_cleared : (new : List ℤ) → AreCleared count (n + 4) row x (at entries) (row_at table (n + 4)) (row_at new (n + 4)) → ClearsTable count before (after new) row column
+    table_cleared new h = clears count new h
 
     at_wide : (low : Vector) → IsWideCleared limit (n + 4) x low (at entries) → IsWideCleared limit (suc (n + 3)) (columns_of places column) low (row_at table (n + 4) row)
     at_wide low h =
@@ -160,13 +168,13 @@ module _ (limit n : ℕ) (basis places near : List ℕ) (table : List ℤ) (boun
         wide_read (length basis) (n + 3) (n + length basis + 4) (columns_of places) (columns_of near) (basic_columns n basis) sound.placed limit j row column jl (row_at table (n + 4) i) (row_at table (n + 4) row) d free_place own_zero
         (at_wide (row_at table (n + 4) i) h)
 
-    pub table_stopped : (count : ℕ) (new t : List ℤ) (i : ℕ) → t ≡ new → IsStopped limit count (n + 4) row x (at entries) (row_at table (n + 4)) (row_at new (n + 4)) i → StopsTable limit count before (after t) row column i
-    table_stopped count new t i e h = record {
+    pub table_stopped : (new : List ℤ) (i : ℕ) → IsStopped limit count (n + 4) row x (at entries) (row_at table (n + 4)) (row_at new (n + 4)) i → StopsTable limit count before (after new) row column i
+    table_stopped new i h = record {
       inside = h.inside;
       other = h.other;
-      before = table_cleared i new t e h.before;
+      before = clears i new h.before;
       wide = λ il. row_wide i i il h.other h.wide;
-      wide_kept = λ s. row_wide (length basis) (suc (length basis)) (omega arith) (λ x. absurd (omega arith)) (subst (λ k. IsWideCleared limit (n + 4) x (row_at table (n + 4) k) (at entries)) s h.wide);
+      wide_kept = λ s. row_wide (length basis) (suc (length basis)) (omega arith) (λ x. absurd (omega (arith, rl))) (subst (λ k. IsWideCleared limit (n + 4) x (row_at table (n + 4) k) (at entries)) s h.wide);
     }
 
 pub err_weaker : {T E : Type 0} (P Q : E → Type 0) → ((e : E) → P e → Q e) → (r : Result T E) → IfErr r P → IfErr r Q

@@ -12,11 +12,15 @@ use Rattle.rob_simplex.specs.PathEnds.{PathEnds, PathTells, PathStops}
 use Rattle.rob_simplex.specs.Phases.{InSecond}
 use Rattle.rob_simplex.specs.Solvers.{Solver, positions}
 
-module _ (limit : ℕ) (P : Program) (v s : Solver) (view : v ≡ s) (ended : Result Ending Halt) where
-  pub told_ok : (e : Ending) → ended ≡ Ok e → IsTold limit P ended s → PathEnds P e v.dictionary × PathTells limit e v.dictionary
+module _ (limit : ℕ) (P : Program) {v s : Solver} (view : v ≡ s) {ended : Result Ending Halt} where
+  told_ok : (e : Ending) → ended ≡ Ok e → IsTold limit P ended s → PathEnds P e v.dictionary × PathTells limit e v.dictionary
   told_ok e is h =
       subst (λ (u : Solver). PathEnds P e u.dictionary × PathTells limit e u.dictionary) (sym view)
       (subst (λ r. MatchResult r (λ x. PathEnds P x s.dictionary × PathTells limit x s.dictionary) (λ halt. HasWideRow limit P (columns_of s.basis) halt.position)) is h.told)
+
+  -- by what the ending is
+  pub told_as : (e f : Ending) → ended ≡ Ok e → e ≡ f → IsTold limit P ended s → PathEnds P f v.dictionary × PathTells limit f v.dictionary
+  told_as e f is same h = subst (λ x. PathEnds P x v.dictionary × PathTells limit x v.dictionary) same (told_ok e is h)
 
   pub told_err : (halt : Halt) → ended ≡ Err halt → IsTold limit P ended s → HasWideRow limit P (columns_of v.basis) halt.position
   told_err halt is h =

@@ -12,6 +12,7 @@ use Rattle.rob_simplex.specs.Judging.{ratio_of, objective_column, Tells}
 use Rattle.rob_simplex.specs.Solvers.{Solver, positions, sized_as, entries, column_of, growing_of, HasRay, HasOptimum}
 use Rattle.rob_simplex.specs.Solutions.{position_of, at_position, over_own, over_objective, point_of, ray_of, dual_of, value_of}
 use Rattle.rob_simplex.proofs.Positions.{position_is}
+use Rattle.rob_simplex.proofs.LastPoints.{ray_elsewhere}
 use Rattle.rob_simplex.proofs.SolverRows.{over_same, minus_over_same, low_place, high_place}
 
 -- ---- the objective's row
@@ -34,10 +35,6 @@ module _ (s : Solver) (objective : pos 0 <ℤ rows_of s.dictionary (positions s)
       let p : auxiliary_place (sized_as s) (s.columns + positions s + 1) ≡ suc (s.columns + positions s + 1) = high_place s (s.columns + positions s + 1) (omega arith) in
       let e : s.columns + positions s + 2 ≡ auxiliary_place (sized_as s) (s.columns + positions s + 1) = omega arith in
       ap (λ v. of_pair (rows_of s.dictionary (positions s) v) (nat_abs (rows_of s.dictionary (positions s) (suc (s.columns + positions s))))) e ∙ over_place (s.columns + positions s + 1) (omega arith)
-
--- the ray in another column than the growing one
-ray_other : (s : Solver) (j : ℕ) → j ≢ column_of s.state → ray_of s j ≡ at_position (position_of s.basis j) (over_own s (λ i. neg_ℤ (entries s i (column_of s.state))))
-ray_other s j d = grind (arith, nat_tests)
 
 -- ---- the row of a position
 module _ (s : Solver) (i : ℕ) (own : (columns_of s.basis i < s.columns + positions s) × (pos 0 <ℤ rows_of s.dictionary i (columns_of s.basis i))) where
@@ -71,14 +68,14 @@ module _ (s : Solver) (i : ℕ) (own : (columns_of s.basis i < s.columns + posit
       → of_pair (neg_ℤ (rows_of s.dictionary i column)) (nat_abs (rows_of s.dictionary i (columns_of s.basis i))) ≡ ray_of s j
   ray_some j column d e l h =
       ap (λ v. of_pair (neg_ℤ (rows_of s.dictionary i v)) (nat_abs (rows_of s.dictionary i (columns_of s.basis i)))) e ∙ column_over (column_of s.state) l
-      ∙ ap (λ o. at_position o (over_own s (λ k. neg_ℤ (entries s k (column_of s.state))))) h ∙ sym (ray_other s j d)
+      ∙ ap (λ o. at_position o (over_own s (λ k. neg_ℤ (entries s k (column_of s.state))))) h ∙ sym (ray_elsewhere s j d)
 
 -- ---- a column that is not basic
 pub point_none : (s : Solver) (j : ℕ) → None ≡ position_of s.basis j → of_pair (pos 0) 1 ≡ point_of s j
 point_none s j h = of_int-one (pos 0) 1 refl ∙ ap (λ o. at_position o (over_own s (λ i. entries s i (s.columns + positions s + 1)))) h
 
 pub ray_none : (s : Solver) (j : ℕ) → j ≢ column_of s.state → None ≡ position_of s.basis j → of_pair (pos 0) 1 ≡ ray_of s j
-ray_none s j d h = of_int-one (pos 0) 1 refl ∙ ap (λ o. at_position o (over_own s (λ i. neg_ℤ (entries s i (column_of s.state))))) h ∙ sym (ray_other s j d)
+ray_none s j d h = of_int-one (pos 0) 1 refl ∙ ap (λ o. at_position o (over_own s (λ i. neg_ℤ (entries s i (column_of s.state))))) h ∙ sym (ray_elsewhere s j d)
 
 pub ray_here : (s : Solver) (j : ℕ) → j ≡ column_of s.state → of_pair (pos 1) 1 ≡ ray_of s j
 ray_here s j e = let r : ray_of s j ≡ of_int (pos 1) = grind (arith, nat_tests) in of_int-one (pos 1) 1 refl ∙ sym r

@@ -2,7 +2,6 @@
 use Rattle.std.proofs.Common.{◌≡◌, ◌≢◌, ℕ, suc, ◌+◌, ◌<◌, ◌≤◌, sym, refl, ap, ◌∙◌, subst, arith, inl, inr, List, [], ◌∷◌, length, take, drop, set, get_or}
 use Rattle.std.proofs.Math.Nat.{eq-one_of_dvd-one}
 use Rattle.std.proofs.lemmas.Bool.{cases_eq}
-use Rattle.std.proofs.lemmas.Bool.Decides.{nat_tests}
 use Rattle.std.proofs.lemmas.Int.{ints}
 use Rattle.std.proofs.lemmas.List.{get_or_default, get_or-set_same, get_or-set_other}
 use Rattle.std.specs.Int.{◌∣◌}
@@ -17,6 +16,7 @@ use Rattle.rob_linear.specs.Paths.{Reached, HasAuxiliary, EndsInFirstPhase}
 use Rattle.rob_linear.specs.Multiples.{IsMultipleRow}
 use Rattle.rob_linear.specs.Beside.{StandsBeside, path_basis}
 use Rattle.rob_linear.proofs.BesideColumns.{holds_stands}
+use Rattle.rob_linear.proofs.TwoPhases.{kept_auxiliary}
 use Rattle.rob_linear.proofs.BesidePaths.{beside_ends, beside_weights}
 use Rattle.rob_linear.proofs.MultiplePhases.{ends_multiple, weights_multiple}
 use Rattle.rob_linear.proofs.Programs.{auxiliary_tag-slack, auxiliary_tag-objective, auxiliary_cost_entry}
@@ -29,7 +29,8 @@ use Rattle.rob_simplex.specs.declared.first_phase.FirstEnding.TheVariants.{Infea
 use Rattle.rob_simplex.specs.Dictionaries.{Table, positions, columns_of, rows_of, IsFree}
 use Rattle.rob_simplex.specs.Explicit.{EndsAtRow, EndsExplicit, FirstEnds}
 use Rattle.rob_simplex.specs.PathEnds.{AreWeights}
-use Rattle.rob_simplex.proofs.FirstPhase.{auxiliary_free, set_is}
+use Rattle.rob_simplex.proofs.RoundRows.{set_is}
+use Rattle.rob_simplex.proofs.BesideRows.{auxiliary_free}
 
 -- a list whose entries are within the limit
 pub within_from : (limit : ℕ) (w : List ℤ) → ((i : ℕ) → i < length w → nat_abs (at w i) ≤ limit) → IsWithin limit w
@@ -64,9 +65,6 @@ spanned_slack S r k sp l zero_at =
     let e : r k ≡ sum_to S.m (λ t. r (S.tag t) *ℤ S.start t k) +ℤ (r (S.tag S.m) *ℤ S.start S.m k) = sp k l in
     omega (arith, ints)
 
-kept_cost_entry : (P : Program) → kept_row P P.m (P.n + P.m) ≡ pos 0
-kept_cost_entry P = grind (arith, nat_tests)
-
 slack_tag_zero : (P : Program) (r : Vector) → ((i : ℕ) → i < P.m → r (P.n + i) ≡ pos 0) → (t : ℕ) → t < P.m → r (auxiliary_tag P t) ≡ pos 0
 slack_tag_zero P r zero_at t l = ap r (auxiliary_tag-slack P t l) ∙ zero_at t l
 
@@ -95,7 +93,7 @@ module _ (P : Program) (t : Table) (w : List ℤ) (size : length w ≡ P.m) (low
         let il : row < P.m = h.inside in
         let x : rows_of t row (P.n + P.m) ≡ rows_of t row (auxiliary_tag P P.m) *ℤ kept_row P P.m (P.n + P.m) =
         spanned_slack (kept_of P) (rows_of t row) (P.n + P.m) (h.stands.holds.multiples.rows_of row (omega arith)).along.spanned (omega arith) (slack_tag_zero P (rows_of t row) zero_at) in
-        let z : rows_of t row (P.n + P.m) ≡ pos 0 = x ∙ ap (λ v. rows_of t row (auxiliary_tag P P.m) *ℤ v) (kept_cost_entry P) ∙ mul-zero (rows_of t row (auxiliary_tag P P.m)) in
+        let z : rows_of t row (P.n + P.m) ≡ pos 0 = x ∙ ap (λ v. rows_of t row (auxiliary_tag P P.m) *ℤ v) (kept_auxiliary P) ∙ mul-zero (rows_of t row (auxiliary_tag P P.m)) in
         let b : rows_of t row (P.n + P.m) <ℤ pos 0 = h.stands.holds.below in
         omega (arith, ints)
 
@@ -162,7 +160,7 @@ row_low P row t h = elim h [
 
 pub row_free : (P : Program) (row : ℕ) (t : Table) → FirstEnds P (Infeasible row) t → row < positions t → IsFree t.columns t.basis (t.columns + positions t)
 row_free P row t h l = elim h [
-  | inl a ↦ subst (λ (k : ℕ). IsFree t.columns t.basis k) (omega (arith, a.stands.rows_are, a.stands.columns_are)) (auxiliary_free P row t a.stands)
+  | inl a ↦ subst (λ (k : ℕ). IsFree t.columns t.basis k) (omega (arith, a.stands.rows_are, a.stands.columns_are)) (auxiliary_free a.stands)
   | inr b ↦ absurd (omega (arith, b.0, b.1.stands.rows_are))
 ]
 

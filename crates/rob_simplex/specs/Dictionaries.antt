@@ -33,6 +33,12 @@ with_limit limit t = record { limit = limit; columns = t.columns; basis = t.basi
 abbrev pub positions : Table → ℕ
 positions t = length t.basis
 
+-- as many structural columns and positions, and the same limit
+pub record IsSized (before now : Table) : Type 0 where
+  pub columns : now.columns ≡ before.columns
+  pub positions : positions now ≡ positions before
+  pub limit : now.limit ≡ before.limit
+
 -- the basic column of each position
 abbrev pub columns_of : List ℕ → Columns
 columns_of basis i = slice_index_or basis i 0
@@ -62,7 +68,7 @@ abbrev pub kept_row_of : Table → Vector
 kept_row_of t = read_row (t.columns + 3) (columns_of t.places) (positions t) (row_at t.table (t.columns + 4) (suc (positions t)))
 
 -- sizes, the maps of places and columns, and the bounds of the rows
-pub record IsSound (limit n : ℕ) (basis places near : List ℕ) (table : List ℤ) (bounds : List ℕ) (room : ℕ) : Type 0 where
+pub record IsSound (limit n : ℕ) (basis places near : List ℕ) (table : List ℤ) (bounds : List ℕ) (workspace : ℕ) : Type 0 where
   pub few : n + length basis < 2 ^ 31
   pub limit_low : 1 ≤ limit
   pub count : length bounds ≡ length basis + 2
@@ -71,7 +77,7 @@ pub record IsSound (limit n : ℕ) (basis places near : List ℕ) (table : List 
   pub near_size : length near ≡ n + 3
   pub placed : IsPlaced (length basis) (n + 3) (n + length basis + 4) (columns_of places) (columns_of near) (basic_columns n basis)
   pub right_at : columns_of places (right_column n (length basis)) ≡ n + 2
-  pub room_is : room ≡ n + 4
+  pub workspace_is : workspace ≡ n + 4
 
 -- a column that is not basic, and not the right side
 pub record IsFree (n : ℕ) (basis : List ℕ) (column : ℕ) : Type 0 where

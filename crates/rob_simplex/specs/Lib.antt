@@ -2,6 +2,7 @@ pub mod Tables
 pub mod Dictionaries
 pub mod Counting
 pub mod Judging
+pub mod Pivots
 pub mod Phases
 pub mod Starts
 pub mod Explicit

@@ -1,12 +1,26 @@
 -- A row that loses an amount in one column: how the cost of a column is put into the objective's row.
-use Rattle.std.specs.Prelude.{◌≡◌, ◌≢◌, ◌⊎◌, ℕ, suc, ◌+◌, ◌<◌, nat_eq, cond, ℤ, pos, ◌-ℤ◌, ◌*ℤ◌, ◌<ℤ◌}
+use Rattle.std.specs.Prelude.{◌≡◌, ◌≢◌, ◌⊎◌, ℕ, suc, ◌+◌, ◌^◌, ◌<◌, nat_eq, cond, ℤ, pos, ◌-ℤ◌, ◌*ℤ◌, ◌<ℤ◌, List, length}
 use Rattle.std.specs.Int.RustNames.{unsigned_abs}
 use Rattle.rob_linear.specs.Vectors.{Vector}
 use Rattle.rob_linear.specs.Systems.{IsPrimitive}
 use Rattle.rob_linear.specs.Stages.{unit_row}
 use Rattle.rob_linear.specs.Multiples.{IsClearedBy}
 use Rattle.rob_entries.specs.Updates.{IsWideCleared}
-use Rattle.rob_simplex.specs.Dictionaries.{Table, positions, width_of, rows_of}
+use Rattle.rob_simplex.specs.declared.lowering.Lowering.{Lowering}
+use Rattle.rob_simplex.specs.Tables.{row_at, HasBounds}
+use Rattle.rob_simplex.specs.Dictionaries.{Table, positions, width_of, rows_of, IsFree}
+
+-- the row has a way, where it is 0, and isn't 0 at its own entry; the row behind it is there too
+pub record CanLower (limit : ℕ) (there : Lowering) (rows : List ℤ) (bounds : List ℕ) (workspace : ℕ) : Type 0 where
+  pub few : there.n < 2 ^ 31
+  pub bounded : HasBounds limit (there.n + 4) rows bounds
+  pub inside : there.row + 1 < length bounds
+  pub workspace_is : workspace ≡ there.n + 4
+  pub way_in : there.way < there.n + 3
+  pub place_in : there.place < there.n + 3
+  pub apart : there.place ≢ there.way
+  pub zero : row_at rows (there.n + 4) there.row there.way ≡ pos 0
+  pub own : row_at rows (there.n + 4) there.row (there.n + 3) ≢ pos 0
 
 -- the amount is subtracted in that column, up to a positive factor
 pub record IsLowered (n column : ℕ) (amount : ℤ) (row new : Vector) : Type 0 where
@@ -29,6 +43,13 @@ step_row one place number k = cond (nat_eq k one) (pos 1) (cond (nat_eq k place)
 -- what is subtracted in the objective's row for the cost of a column: that many times the objective's entry
 abbrev pub amount_of : Table → ℤ → ℤ
 amount_of t factor = factor *ℤ rows_of t (positions t) (suc (t.columns + positions t))
+
+-- a column that isn't basic has the auxiliary one for a way, which isn't either, and is 0 in the objective's row
+pub record HasWay (t : Table) (column : ℕ) : Type 0 where
+  pub free : IsFree t.columns t.basis column
+  pub way : IsFree t.columns t.basis (t.columns + positions t)
+  pub other : column ≢ t.columns + positions t
+  pub zero : rows_of t (positions t) (t.columns + positions t) ≡ pos 0
 
 -- it was subtracted in a column, and then the row of position i, which stays, has cleared the column in all others
 pub record HasCleared (t t' : Table) (i column : ℕ) (factor : ℤ) : Type 0 where

@@ -1,10 +1,11 @@
 //! A turn of the second phase that rows of a lower limit have begun, gone on with.
 
-ghost use Rattle.std.specs.Prelude.{◌≡◌, ◌<◌, ◌≤◌, IfErr, OnOk};
+ghost use Rattle.std.specs.Prelude.{◌<◌, ◌≤◌, IfErr, OnOk};
 ghost use Rattle.rob_linear.specs.Programs.{Program};
 ghost use Rattle.rob_linear.specs.WideRows.{HasWideRow};
 ghost use Rattle.rob_simplex.specs.Begun.{HasBegunTurn};
-ghost use Rattle.rob_simplex.specs.Dictionaries.{positions, columns_of};
+ghost use Rattle.rob_simplex.specs.Counting.{CountsRows};
+ghost use Rattle.rob_simplex.specs.Dictionaries.{positions, columns_of, IsSized};
 ghost use Rattle.rob_simplex.specs.Phases.{InSecond};
 
 use crate::dictionary::Dictionary;
@@ -21,25 +22,18 @@ impl<E: Entry> Dictionary<E> {
         ensures wide { (P : Program) → HasBegunTurn (InSecond P) self.old row
             → IfErr result (λ i. HasWideRow self.old.limit P (columns_of self.new.basis) i) }
         ensures position { IfErr result (λ i. i ≤ positions self.old) }
-        ensures positions { positions self.new ≡ positions self.old }
-        ensures columns { self.new.columns ≡ self.old.columns }
-        ensures limit { self.new.limit ≡ self.old.limit }
-        ensures ops { L.ops ledger.old ≤ L.ops ledger.new }
-        ensures wides { L.wides ledger.new ≡ L.wides ledger.old }
+        ensures sized { IsSized self.old self.new }
+        ensures counted { CountsRows L.ops L.wides ledger.old ledger.new }
     {
-        let m = self.basis.len();
-        let column = self.basis[row];
-        let spare = self.columns + m + 3;
-        self.replace(row, spare);
-        match self.clear_others(row, column, m + 1, ledger) {
-            Ok(()) => {
-                self.replace(row, column);
-                Ok(())
-            }
-            Err(i) => {
-                self.replace(row, column);
-                Err(i)
-            }
+        let n = self.columns();
+        let m = self.positions();
+        let column = self.basic(row);
+        self.replace(row, n + m + 3);
+        let cleared = self.clear_others(row, column, m + 1, ledger);
+        self.replace(row, column);
+        match cleared {
+            Ok(()) => Ok(()),
+            Err(i) => Err(i),
         }
     }
 }

@@ -1,14 +1,15 @@
 //! A new cost, put on a dictionary that stands, column by column.
 
-ghost use Rattle.std.specs.Prelude.{◌≡◌, ◌≢◌, ◌<◌, ◌≤◌, ◌+◌, ◌-◌, ◌^◌, ◌<ℤ◌, ◌*ℤ◌, ℕ, suc, pos, nat_abs, length, OnOk, OnErr, IfErr, MatchResult};
+ghost use Rattle.std.specs.Prelude.{◌≡◌, ◌≢◌, ◌<◌, ◌≤◌, ◌+◌, ◌-◌, ◌^◌, ℕ, suc, pos, nat_abs, length, OnOk, OnErr, IfErr, MatchResult};
 ghost use Rattle.rob_linear.specs.Vectors.{at};
 ghost use Rattle.rob_linear.specs.Programs.{Program, with_cost};
 ghost use Rattle.rob_linear.specs.Stages.{truncated, unit_row};
 ghost use Rattle.rob_linear.specs.WideRows.{IsOwnWideAt, HasWideRowFrom};
 ghost use Rattle.rob_simplex.specs.Counting.{CountsRows};
 ghost use Rattle.rob_rows.specs.PrimitiveParts.{IsWithin};
-ghost use Rattle.rob_simplex.specs.Dictionaries.{positions, width_of, columns_of, rows_of, IsFree, IsOpen, IsAlone, KeepsOwn};
-ghost use Rattle.rob_simplex.specs.Lowering.{IsLowered, IsWideLowered, amount_of, HasCleared, HasRefusedCost};
+ghost use Rattle.rob_simplex.specs.Dictionaries.{positions, width_of, columns_of, rows_of, IsAlone, IsSized};
+ghost use Rattle.rob_simplex.specs.Lowering.{IsLowered, IsWideLowered, amount_of, HasCleared, HasRefusedCost, HasWay};
+ghost use Rattle.rob_simplex.specs.Pivots.{CanClear};
 ghost use Rattle.rob_simplex.specs.Phases.{StandsFor, EndsFrom};
 ghost use Rattle.rob_simplex.specs.Judging.{Tells};
 ghost use Rattle.rob_simplex.specs.PathEnds.{PathStopsFrom};
@@ -26,8 +27,7 @@ impl<E: Entry> Dictionary<E> {
             → rows_of self.new (positions self.old) c ≡ unit_row (suc (self.old.columns + positions self.old)) c }
         ensures rows { (i c : ℕ) → i < positions self.old → rows_of self.new i c ≡ rows_of self.old i c }
         ensures basis { self.new.basis ≡ self.old.basis }
-        ensures columns { self.new.columns ≡ self.old.columns }
-        ensures limit { self.new.limit ≡ self.old.limit }
+        ensures sized { IsSized self.old self.new }
     {
         let n = self.columns;
         let step = Step {
@@ -42,11 +42,8 @@ impl<E: Entry> Dictionary<E> {
     /// Takes the factor times the objective's entry off the entry of a column that is not basic, in the objective's
     /// row. `Wide` where that row in lowest terms then has an entry over the limit; the row is then open.
     fn lower<L: Ledger>(&mut self, column: usize, factor: i64, ledger: &mut L) -> Result<(), Wide>
-        requires free { IsFree self.old.columns self.old.basis column }
-        requires way { IsFree self.old.columns self.old.basis (self.old.columns + positions self.old) }
-        requires other { column ≢ self.old.columns + positions self.old }
+        requires way { HasWay self.old column }
         requires factor { nat_abs factor < 2 ^ 62 }
-        requires zero { rows_of self.old (positions self.old) (self.old.columns + positions self.old) ≡ pos 0 }
         requires own { rows_of self.old (positions self.old) (suc (self.old.columns + positions self.old)) ≢ pos 0 }
         ensures lowered { OnOk result (IsLowered (width_of self.old) column
             (amount_of self.old factor) (rows_of self.old (positions self.old))
@@ -55,10 +52,8 @@ impl<E: Entry> Dictionary<E> {
             (amount_of self.old factor) (rows_of self.old (positions self.old))) }
         ensures rows { (i c : ℕ) → i < positions self.old → rows_of self.new i c ≡ rows_of self.old i c }
         ensures basis { self.new.basis ≡ self.old.basis }
-        ensures columns { self.new.columns ≡ self.old.columns }
-        ensures limit { self.new.limit ≡ self.old.limit }
-        ensures ops { L.ops ledger.old ≤ L.ops ledger.new }
-        ensures wides { L.wides ledger.new ≡ L.wides ledger.old }
+        ensures sized { IsSized self.old self.new }
+        ensures counted { CountsRows L.ops L.wides ledger.old ledger.new }
     {
         let m = self.basis.len();
         let place = self.places[column];
@@ -87,28 +82,20 @@ impl<E: Entry> Dictionary<E> {
         factor: i64,
         ledger: &mut L,
     ) -> Result<(), Wide>
-        requires row_in { i < positions self.old }
-        requires free { IsFree self.old.columns self.old.basis column }
-        requires way { IsFree self.old.columns self.old.basis (self.old.columns + positions self.old) }
-        requires other { column ≢ self.old.columns + positions self.old }
-        requires open { IsOpen self.old i }
-        requires positive { pos 0 <ℤ rows_of self.old i column }
+        requires ready { CanClear (positions self.old + 1) self.old i column }
+        requires way { HasWay self.old column }
         requires alone { IsAlone self.old i column }
-        requires zero { rows_of self.old (positions self.old) (self.old.columns + positions self.old) ≡ pos 0 }
-        requires own { KeepsOwn (positions self.old + 1) self.old i }
         requires small { (k c : ℕ) → k ≤ positions self.old → nat_abs (rows_of self.old k c) ≤ self.old.limit }
         requires factor { nat_abs factor < 2 ^ 62 }
         ensures cleared { OnOk result (HasCleared self.old self.new i column factor) }
         ensures wide { OnErr result (HasRefusedCost self.old.limit self.old i column factor) }
         ensures basis { self.new.basis ≡ self.old.basis }
-        ensures columns { self.new.columns ≡ self.old.columns }
-        ensures limit { self.new.limit ≡ self.old.limit }
-        ensures ops { L.ops ledger.old ≤ L.ops ledger.new }
-        ensures wides { L.wides ledger.new ≡ L.wides ledger.old }
+        ensures sized { IsSized self.old self.new }
+        ensures counted { CountsRows L.ops L.wides ledger.old ledger.new }
     {
         self.lower(column, factor, ledger)?;
-        let count = self.basis.len() + 1;
-        match self.clear_others(i, column, count, ledger) {
+        let m = self.basis.len();
+        match self.clear_others(i, column, m + 1, ledger) {
             Ok(()) => Ok(()),
             Err(_) => Err(Wide),
         }
@@ -131,13 +118,12 @@ impl<E: Entry> Dictionary<E> {
         ensures wide { (P : Program) → P.c column ≡ factor → StandsFor (truncated P column) self.old
             → OnErr result (IsOwnWideAt self.old.limit P (columns_of self.old.basis) P.m) }
         ensures basis { self.new.basis ≡ self.old.basis }
-        ensures columns { self.new.columns ≡ self.old.columns }
-        ensures limit { self.new.limit ≡ self.old.limit }
-        ensures ops { L.ops ledger.old ≤ L.ops ledger.new }
-        ensures wides { L.wides ledger.new ≡ L.wides ledger.old }
+        ensures sized { IsSized self.old self.new }
+        ensures counted { CountsRows L.ops L.wides ledger.old ledger.new }
     {
-        let spare = self.columns + self.basis.len() + 3;
-        self.replace(i, spare);
+        let n = self.columns();
+        let m = self.positions();
+        self.replace(i, n + m + 3);
         let cleared = self.lower_and_clear(i, column, factor, ledger);
         self.replace(i, column);
         cleared
@@ -154,10 +140,8 @@ impl<E: Entry> Dictionary<E> {
         ensures wide { (P : Program) → P.c column ≡ factor → StandsFor (truncated P column) self.old
             → OnErr result (IsOwnWideAt self.old.limit P (columns_of self.old.basis) P.m) }
         ensures basis { self.new.basis ≡ self.old.basis }
-        ensures columns { self.new.columns ≡ self.old.columns }
-        ensures limit { self.new.limit ≡ self.old.limit }
-        ensures ops { L.ops ledger.old ≤ L.ops ledger.new }
-        ensures wides { L.wides ledger.new ≡ L.wides ledger.old }
+        ensures sized { IsSized self.old self.new }
+        ensures counted { CountsRows L.ops L.wides ledger.old ledger.new }
     {
         if factor == 0 {
             return Ok(());
@@ -179,10 +163,8 @@ impl<E: Entry> Dictionary<E> {
         ensures wide { (P : Program) → StandsFor P self.old
             → OnErr result (IsOwnWideAt self.old.limit (with_cost P (at cost.now)) (columns_of self.old.basis) P.m) }
         ensures basis { self.new.basis ≡ self.old.basis }
-        ensures columns { self.new.columns ≡ self.old.columns }
-        ensures limit { self.new.limit ≡ self.old.limit }
-        ensures ops { L.ops ledger.old ≤ L.ops ledger.new }
-        ensures wides { L.wides ledger.new ≡ L.wides ledger.old }
+        ensures sized { IsSized self.old self.new }
+        ensures counted { CountsRows L.ops L.wides ledger.old ledger.new }
     {
         self.drop_cost();
         for k in 0..cost.len() {
@@ -217,15 +199,13 @@ impl<E: Entry> Dictionary<E> {
             (λ halt. PathStopsFrom N.limit (with_cost P (at cost.now)) (columns_of self.old.basis) self.new
             halt.position) }
         ensures position { IfErr result (λ halt. halt.position ≤ positions self.old) }
-        ensures positions { positions self.new ≡ positions self.old }
-        ensures columns { self.new.columns ≡ self.old.columns }
-        ensures limit { self.new.limit ≡ self.old.limit }
+        ensures sized { IsSized self.old self.new }
         ensures counted { CountsRows L.ops L.wides ledger.old ledger.new }
     {
         match self.put_on(cost, ledger) {
             Ok(()) => self.improve_and_judge::<N, L>(ledger),
             Err(_) => Err(Halt {
-                position: self.basis.len(),
+                position: self.positions(),
                 cause: Cause::Elsewhere,
             }),
         }

@@ -1,8 +1,8 @@
 //! Edits of a dictionary between its pivots and its phases.
 
-ghost use Rattle.std.specs.Prelude.{◌≡◌, ◌≢◌, ◌<◌, ◌≤◌, ◌+◌, ℕ, suc, pos, length};
+ghost use Rattle.std.specs.Prelude.{◌≡◌, ◌≢◌, ◌<◌, ◌≤◌, ◌+◌, ℕ, suc, pos};
 ghost use Rattle.rob_linear.specs.Beside.{exchanged};
-ghost use Rattle.rob_simplex.specs.Dictionaries.{positions, width_of, columns_of, rows_of, kept_row_of, IsFree};
+ghost use Rattle.rob_simplex.specs.Dictionaries.{positions, width_of, columns_of, rows_of, kept_row_of, IsFree, IsSized};
 
 use crate::dictionary::Dictionary;
 use crate::row_moves::{copy_row, empty_place, exchange_rows, write_unit};
@@ -17,9 +17,7 @@ impl<E: Entry> Dictionary<E> {
             → rows_of self.new i c ≡ rows_of self.old (exchanged a b i) c }
         ensures kept { (c : ℕ) → c < width_of self.old → kept_row_of self.new c ≡ kept_row_of self.old c }
         ensures basis { (i : ℕ) → columns_of self.new.basis i ≡ columns_of self.old.basis (exchanged a b i) }
-        ensures size { positions self.new ≡ positions self.old }
-        ensures columns { self.new.columns ≡ self.old.columns }
-        ensures limit { self.new.limit ≡ self.old.limit }
+        ensures sized { IsSized self.old self.new }
     {
         let width = self.columns + 4;
         exchange_rows(&mut self.rows, self.bounds.as_mut_slice(), a, b, width);
@@ -39,8 +37,7 @@ impl<E: Entry> Dictionary<E> {
             → rows_of self.new i c ≡ rows_of self.old i c }
         ensures kept { (c : ℕ) → kept_row_of self.new c ≡ kept_row_of self.old c }
         ensures basis { self.new.basis ≡ self.old.basis }
-        ensures columns { self.new.columns ≡ self.old.columns }
-        ensures limit { self.new.limit ≡ self.old.limit }
+        ensures sized { IsSized self.old self.new }
     {
         let width = self.columns + 4;
         let place = self.places[column];
@@ -53,8 +50,7 @@ impl<E: Entry> Dictionary<E> {
         ensures kept { (c : ℕ) → kept_row_of self.new c ≡ rows_of self.old (positions self.old) c }
         ensures rows { (i c : ℕ) → i ≤ positions self.old → rows_of self.new i c ≡ rows_of self.old i c }
         ensures basis { self.new.basis ≡ self.old.basis }
-        ensures columns { self.new.columns ≡ self.old.columns }
-        ensures limit { self.new.limit ≡ self.old.limit }
+        ensures sized { IsSized self.old self.new }
     {
         let width = self.columns + 4;
         let m = self.basis.len();
@@ -66,8 +62,7 @@ impl<E: Entry> Dictionary<E> {
         ensures objective { (c : ℕ) → rows_of self.new (positions self.old) c ≡ kept_row_of self.old c }
         ensures rows { (i c : ℕ) → i < positions self.old → rows_of self.new i c ≡ rows_of self.old i c }
         ensures basis { self.new.basis ≡ self.old.basis }
-        ensures columns { self.new.columns ≡ self.old.columns }
-        ensures limit { self.new.limit ≡ self.old.limit }
+        ensures sized { IsSized self.old self.new }
     {
         let width = self.columns + 4;
         let m = self.basis.len();
@@ -84,8 +79,7 @@ impl<E: Entry> Dictionary<E> {
         ensures rows { (i c : ℕ) → i < positions self.old → rows_of self.new i c ≡ rows_of self.old i c }
         ensures kept { (c : ℕ) → kept_row_of self.new c ≡ kept_row_of self.old c }
         ensures basis { self.new.basis ≡ self.old.basis }
-        ensures columns { self.new.columns ≡ self.old.columns }
-        ensures limit { self.new.limit ≡ self.old.limit }
+        ensures sized { IsSized self.old self.new }
     {
         let width = self.columns + 4;
         let m = self.basis.len();

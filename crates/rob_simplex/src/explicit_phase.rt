@@ -5,7 +5,7 @@ ghost use Rattle.std.specs.Prelude.{◌≡◌, ◌≤◌, IfOk, IfErr, MatchResu
 ghost use Rattle.rob_linear.specs.Programs.{Program};
 ghost use Rattle.rob_linear.specs.WideRows.{HasWideRow};
 ghost use Rattle.rob_simplex.specs.Counting.{CountsRows};
-ghost use Rattle.rob_simplex.specs.Dictionaries.{positions, columns_of};
+ghost use Rattle.rob_simplex.specs.Dictionaries.{positions, columns_of, IsSized};
 ghost use Rattle.rob_simplex.specs.Phases.{IsOpenBeside};
 ghost use Rattle.rob_simplex.specs.Explicit.{InExplicit, HasTurnedExplicit, FirstTurns, turn_after};
 
@@ -39,9 +39,7 @@ impl<E: Entry> Dictionary<E> {
             (λ ending. FirstTurns P ending self.new)
             (λ i. HasWideRow self.old.limit P (columns_of self.new.basis) i) }
         ensures position { IfErr result (λ i. i ≤ positions self.old) }
-        ensures positions { positions self.new ≡ positions self.old }
-        ensures columns { self.new.columns ≡ self.old.columns }
-        ensures limit { self.new.limit ≡ self.old.limit }
+        ensures sized { IsSized self.old self.new }
         ensures counted { CountsRows L.ops L.wides ledger.old ledger.new }
     {
         match self.bring_in(q, ledger) {
@@ -60,17 +58,15 @@ impl<E: Entry> Dictionary<E> {
             (λ _. InExplicit P self.new)
             (λ i. HasWideRow self.old.limit P (columns_of self.new.basis) i) }
         ensures position { IfErr result (λ i. i ≤ positions self.old) }
-        ensures positions { positions self.new ≡ positions self.old }
-        ensures columns { self.new.columns ≡ self.old.columns }
-        ensures limit { self.new.limit ≡ self.old.limit }
+        ensures sized { IsSized self.old self.new }
         ensures counted { CountsRows L.ops L.wides ledger.old ledger.new }
     {
-        let m = self.basis.len();
-        let auxiliary = self.columns + m;
+        let n = self.columns();
+        let m = self.positions();
         self.keep_objective();
         self.write_auxiliary();
-        let cleared = self.clear_others(q, auxiliary, m + 2, ledger);
-        self.replace(q, auxiliary);
+        let cleared = self.clear_others(q, n + m, m + 2, ledger);
+        self.replace(q, n + m);
         match cleared {
             Ok(()) => Ok(()),
             Err(i) => Err(i.min(m)),
@@ -85,15 +81,13 @@ impl<E: Entry> Dictionary<E> {
             (λ ending. FirstTurns P ending self.new)
             (λ i. HasWideRow self.old.limit P (columns_of self.new.basis) i) }
         ensures position { IfErr result (λ i. i ≤ positions self.old) }
-        ensures positions { positions self.new ≡ positions self.old }
-        ensures columns { self.new.columns ≡ self.old.columns }
-        ensures limit { self.new.limit ≡ self.old.limit }
+        ensures sized { IsSized self.old self.new }
         ensures counted { CountsRows L.ops L.wides ledger.old ledger.new }
     {
         'turns: loop {
             match self.turn_explicit(ledger) {
                 Ok(ExplicitTurn::Ended) => {
-                    return Ok(FirstEnding::Infeasible(self.basis.len()));
+                    return Ok(FirstEnding::Infeasible(self.positions()));
                 }
                 Ok(ExplicitTurn::Left) => {
                     self.restore_objective();
@@ -114,11 +108,8 @@ impl<E: Entry> Dictionary<E> {
         ensures wide { IfErr result (λ i. (P : Program) → InExplicit P self.old
             → HasWideRow self.old.limit P (columns_of self.new.basis) i) }
         ensures position { IfErr result (λ i. i ≤ positions self.old) }
-        ensures positions { positions self.new ≡ positions self.old }
-        ensures columns { self.new.columns ≡ self.old.columns }
-        ensures limit { self.new.limit ≡ self.old.limit }
-        ensures ops { L.ops ledger.old ≤ L.ops ledger.new }
-        ensures wides { L.wides ledger.new ≡ L.wides ledger.old }
+        ensures sized { IsSized self.old self.new }
+        ensures counted { CountsRows L.ops L.wides ledger.old ledger.new }
     {
         let m = self.basis.len();
         let Some(column) = self.first_negative(m) else {
@@ -127,7 +118,7 @@ impl<E: Entry> Dictionary<E> {
         let Some(row) = self.leaving(column) else {
             return Ok(ExplicitTurn::Ended);
         };
-        let left = self.basis[row];
+        let left = self.basic(row);
         let auxiliary = self.columns + m;
         match self.pivot(row, column, m + 2, ledger) {
             Ok(()) => Ok(after(left == auxiliary)),

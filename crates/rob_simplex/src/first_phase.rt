@@ -1,11 +1,11 @@
 //! The first phase, with the auxiliary column kept out of the table's basis: the path's basis has it at position q,
 //! where the table has the column that left last.
 
-ghost use Rattle.std.specs.Prelude.{◌≡◌, ◌<◌, ◌≤◌, ◌+◌, IfOk, IfErr, MatchResult};
+ghost use Rattle.std.specs.Prelude.{◌≤◌, ◌+◌, IfOk, IfErr, MatchResult};
 ghost use Rattle.rob_linear.specs.Programs.{Program};
 ghost use Rattle.rob_linear.specs.WideRows.{HasWideRow};
 ghost use Rattle.rob_simplex.specs.Counting.{CountsRows};
-ghost use Rattle.rob_simplex.specs.Dictionaries.{positions, columns_of, rows_of, FirstNegative};
+ghost use Rattle.rob_simplex.specs.Dictionaries.{positions, columns_of, rows_of, FirstNegative, IsSized};
 ghost use Rattle.rob_simplex.specs.Phases.{InBeside, HasTurnedBeside, IsOpenBeside, EndsBeside};
 ghost use Rattle.rob_simplex.specs.Starts.{IsStartingTable};
 ghost use Rattle.rob_simplex.specs.Explicit.{FirstTurns, FirstEnds};
@@ -44,15 +44,14 @@ impl<E: Entry> Dictionary<E> {
             (λ ending. FirstEnds P ending self.new)
             (λ i. HasWideRow self.old.limit P (columns_of self.new.basis) i) }
         ensures position { IfErr result (λ i. i ≤ positions self.old) }
-        ensures positions { positions self.new ≡ positions self.old }
-        ensures columns { self.new.columns ≡ self.old.columns }
-        ensures limit { self.new.limit ≡ self.old.limit }
+        ensures sized { IsSized self.old self.new }
         ensures counted { CountsRows L.ops L.wides ledger.old ledger.new }
     {
         match self.first_turns(ledger) {
             Ok(FirstEnding::Feasible) => {
-                let auxiliary = self.columns + self.basis.len();
-                self.empty(auxiliary);
+                let n = self.columns();
+                let m = self.positions();
+                self.empty(n + m);
                 Ok(FirstEnding::Feasible)
             }
             Ok(FirstEnding::Infeasible(row)) => Ok(FirstEnding::Infeasible(row)),
@@ -68,9 +67,7 @@ impl<E: Entry> Dictionary<E> {
             (λ ending. FirstTurns P ending self.new)
             (λ i. HasWideRow self.old.limit P (columns_of self.new.basis) i) }
         ensures position { IfErr result (λ i. i ≤ positions self.old) }
-        ensures positions { positions self.new ≡ positions self.old }
-        ensures columns { self.new.columns ≡ self.old.columns }
-        ensures limit { self.new.limit ≡ self.old.limit }
+        ensures sized { IsSized self.old self.new }
         ensures counted { CountsRows L.ops L.wides ledger.old ledger.new }
     {
         let Some(q) = self.least() else {
@@ -87,11 +84,8 @@ impl<E: Entry> Dictionary<E> {
     fn go_beside<L: Ledger>(&mut self, q: usize, ledger: &mut L) -> Beside
         requires stands { (P : Program) × InBeside P q self.old }
         ensures ended { (P : Program) → InBeside P q self.old → EndsBeside P q result self.new }
-        ensures positions { positions self.new ≡ positions self.old }
-        ensures columns { self.new.columns ≡ self.old.columns }
-        ensures limit { self.new.limit ≡ self.old.limit }
-        ensures ops { L.ops ledger.old ≤ L.ops ledger.new }
-        ensures wides { L.wides ledger.new ≡ L.wides ledger.old }
+        ensures sized { IsSized self.old self.new }
+        ensures counted { CountsRows L.ops L.wides ledger.old ledger.new }
     {
         'turns: loop {
             let Some(column) = self.first_negative(q) else {
@@ -118,15 +112,12 @@ impl<E: Entry> Dictionary<E> {
         ensures turned { IfOk result (λ stays. (P : Program) → InBeside P q self.old
             → HasTurnedBeside P q stays self.old self.new) }
         ensures opened { IfErr result (λ i. (P : Program) → InBeside P q self.old → IsOpenBeside P q self.new) }
-        ensures positions { positions self.new ≡ positions self.old }
-        ensures columns { self.new.columns ≡ self.old.columns }
-        ensures limit { self.new.limit ≡ self.old.limit }
-        ensures ops { L.ops ledger.old ≤ L.ops ledger.new }
-        ensures wides { L.wides ledger.new ≡ L.wides ledger.old }
+        ensures sized { IsSized self.old self.new }
+        ensures counted { CountsRows L.ops L.wides ledger.old ledger.new }
     {
+        let m = self.basis.len();
         self.turn_round(q);
-        let count = self.basis.len() + 1;
-        match self.pivot_or_open(q, column, count, ledger) {
+        match self.pivot_or_open(q, column, m + 1, ledger) {
             Ok(()) => match self.least() {
                 None => Ok(false),
                 Some(p) => {

@@ -3,13 +3,14 @@
 //! At a way, which is another place where the row is 0, the factor is written; a row with 1 at the way and the row's
 //! own entry at the place then clears the way.
 
-ghost use Rattle.std.specs.Prelude.{◌≡◌, ◌≢◌, ◌⊎◌, ◌<◌, ◌≤◌, ◌+◌, ◌*◌, ◌^◌, ◌*ℤ◌, ℕ, suc, pos, nat_abs, length, OnOk, OnErr};
+ghost use Rattle.std.specs.Prelude.{◌≡◌, ◌≢◌, ◌⊎◌, ◌<◌, ◌≤◌, ◌+◌, ◌*◌, ◌^◌, ◌*ℤ◌, ℕ, suc, nat_abs, length, OnOk, OnErr};
 ghost use Rattle.rob_linear.specs.Vectors.{at};
 ghost use Rattle.rob_entries.specs.Updates.{IsMultipleOf};
-ghost use Rattle.rob_simplex.specs.Tables.{row_at, HasBounds};
-ghost use Rattle.rob_simplex.specs.Lowering.{IsLowered, IsWideLowered, step_row};
+ghost use Rattle.rob_simplex.specs.Counting.{CountsRows};
+ghost use Rattle.rob_simplex.specs.Tables.{row_at, HasBounds, IsUnchangedBut};
+ghost use Rattle.rob_simplex.specs.Lowering.{CanLower, IsLowered, IsWideLowered, step_row};
 
-use crate::table::{Place, clear_row};
+use crate::table::{Pivot, clear_row};
 use rob_entries::{Cells, Entry, PivotRow};
 use rob_number::{Ledger, Wide};
 
@@ -49,7 +50,7 @@ fn write_steps<E: Entry>(rows: &mut Cells<E>, i: usize, step: Step<E>, width: us
     requires inside { i * width + width ≤ length rows.old }
     ensures row { (k : ℕ) → k < width
         → row_at rows.new width i k ≡ step_row step.one step.place (E.value step.number) k }
-    ensures others { (j k : ℕ) → j ≢ i → k < width → row_at rows.new width j k ≡ row_at rows.old width j k }
+    ensures others { IsUnchangedBut i width (row_at rows.old width) (row_at rows.new width) }
     ensures size { length rows.new ≡ length rows.old }
 {
     let _ = rows.len();
@@ -72,7 +73,7 @@ pub fn write_step<E: Entry>(
     requires number { nat_abs (E.value step.number) ≤ E.top }
     ensures row { (k : ℕ) → k < n + 4
         → row_at rows.new (n + 4) i k ≡ step_row step.one step.place (E.value step.number) k }
-    ensures others { (j k : ℕ) → j ≢ i → k < n + 4 → row_at rows.new (n + 4) j k ≡ row_at rows.old (n + 4) j k }
+    ensures others { IsUnchangedBut i (n + 4) (row_at rows.old (n + 4)) (row_at rows.new (n + 4)) }
     ensures bounded { HasBounds E.top (n + 4) rows.new bounds.new }
 {
     write_steps(rows, i, step, n + 4);
@@ -133,14 +134,8 @@ pub fn lower_row<E: Entry, L: Ledger>(
     factor: i64,
     ledger: &mut L,
 ) -> Result<(), Wide>
-    requires few { there.n < 2 ^ 31 }
-    requires bounded { HasBounds E.top (there.n + 4) rows.old bounds.old }
-    requires inside { there.row + 1 < length bounds.old }
-    requires width { length pivot_row.old.entries ≡ there.n + 4 }
-    requires places { (there.way < there.n + 3) × (there.place < there.n + 3) × (there.place ≢ there.way) }
+    requires ready { CanLower E.top there rows.old bounds.old (length pivot_row.old.entries) }
     requires factor { nat_abs factor < 2 ^ 62 }
-    requires zero { row_at rows.old (there.n + 4) there.row there.way ≡ pos 0 }
-    requires own { row_at rows.old (there.n + 4) there.row (there.n + 3) ≢ pos 0 }
     ensures lowered { OnOk result (IsLowered (there.n + 4) there.place
         (factor *ℤ row_at rows.old (there.n + 4) there.row (there.n + 3))
         (row_at rows.old (there.n + 4) there.row) (row_at rows.new (there.n + 4) there.row)) }
@@ -150,8 +145,7 @@ pub fn lower_row<E: Entry, L: Ledger>(
     ensures wide { OnErr result (IsWideLowered E.top (there.n + 4) there.place
         (factor *ℤ row_at rows.old (there.n + 4) there.row (there.n + 3)) (row_at rows.old (there.n + 4) there.row)) }
     ensures size { length pivot_row.new.entries ≡ there.n + 4 }
-    ensures ops { L.ops ledger.old ≤ L.ops ledger.new }
-    ensures wides { L.wides ledger.new ≡ L.wides ledger.old }
+    ensures counted { CountsRows L.ops L.wides ledger.old ledger.new }
 {
     let width = there.n + 4;
     let _ = rows.len();
@@ -164,12 +158,12 @@ pub fn lower_row<E: Entry, L: Ledger>(
     write_step(rows, bounds, there.row + 1, step, there.n);
     write_factor(rows, bounds, there.row, there.way, factor, width);
     load_row(rows, bounds, pivot_row, there.row + 1, width);
-    let place = Place {
+    let pivot = Pivot {
         row: there.row + 1,
-        place: there.way,
+        entry: there.way,
         width,
     };
-    clear_row(rows, bounds, pivot_row, place, there.row)?;
+    clear_row(rows, bounds, pivot_row, pivot, there.row)?;
     ledger.op();
     Ok(())
 }

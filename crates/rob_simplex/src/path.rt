@@ -1,11 +1,11 @@
 //! The path of bases of a program, through both phases.
 
-ghost use Rattle.std.specs.Prelude.{◌≡◌, ◌<◌, ◌≤◌, IfErr, MatchResult};
+ghost use Rattle.std.specs.Prelude.{◌<◌, ◌≤◌, IfErr, MatchResult};
 ghost use Rattle.rob_linear.specs.Programs.{Program};
 ghost use Rattle.rob_linear.specs.Paths.{Last};
 ghost use Rattle.rob_linear.specs.WideRows.{HasWideRow};
 ghost use Rattle.rob_simplex.specs.Counting.{CountsRows};
-ghost use Rattle.rob_simplex.specs.Dictionaries.{positions, columns_of};
+ghost use Rattle.rob_simplex.specs.Dictionaries.{positions, columns_of, IsSized};
 ghost use Rattle.rob_simplex.specs.Starts.{IsStartingTable};
 ghost use Rattle.rob_simplex.specs.Phases.{InSecond};
 ghost use Rattle.rob_simplex.specs.PathEnds.{PathEnds, PathTells, PathStops};
@@ -44,9 +44,7 @@ impl<E: Entry> Dictionary<E> {
         ensures halted { (P : Program) → IsStartingTable P self.old → IfErr result
             (λ halt. HaltsAt (Last P) (InSecond P) N.limit P halt.position halt.cause self.new) }
         ensures position { IfErr result (λ halt. halt.position ≤ positions self.old) }
-        ensures positions { positions self.new ≡ positions self.old }
-        ensures columns { self.new.columns ≡ self.old.columns }
-        ensures limit { self.new.limit ≡ self.old.limit }
+        ensures sized { IsSized self.old self.new }
         ensures counted { CountsRows L.ops L.wides ledger.old ledger.new }
     {
         match self.first_phase(ledger) {
@@ -74,9 +72,7 @@ impl<E: Entry> Dictionary<E> {
         ensures caused { (P : Program) → HasBegunAt (InSecond P) cause self.old
             → IfErr result (λ halt. PathStops N.limit P self.new halt.position) }
         ensures position { IfErr result (λ halt. halt.position ≤ positions self.old) }
-        ensures positions { positions self.new ≡ positions self.old }
-        ensures columns { self.new.columns ≡ self.old.columns }
-        ensures limit { self.new.limit ≡ self.old.limit }
+        ensures sized { IsSized self.old self.new }
         ensures counted { CountsRows L.ops L.wides ledger.old ledger.new }
     {
         match cause {
@@ -103,9 +99,7 @@ impl<E: Entry> Dictionary<E> {
         ensures caused { (P : Program) → HasBegunTurn (InSecond P) self.old row
             → IfErr result (λ halt. PathStops N.limit P self.new halt.position) }
         ensures position { IfErr result (λ halt. halt.position ≤ positions self.old) }
-        ensures positions { positions self.new ≡ positions self.old }
-        ensures columns { self.new.columns ≡ self.old.columns }
-        ensures limit { self.new.limit ≡ self.old.limit }
+        ensures sized { IsSized self.old self.new }
         ensures counted { CountsRows L.ops L.wides ledger.old ledger.new }
     {
         match self.end_turn(row, ledger) {
@@ -130,9 +124,7 @@ impl<E: Entry> Dictionary<E> {
         ensures halted { (P : Program) → InSecond P self.old → IfErr result
             (λ halt. HaltsAt (Last P) (InSecond P) N.limit P halt.position halt.cause self.new) }
         ensures position { IfErr result (λ halt. halt.position ≤ positions self.old) }
-        ensures positions { positions self.new ≡ positions self.old }
-        ensures columns { self.new.columns ≡ self.old.columns }
-        ensures limit { self.new.limit ≡ self.old.limit }
+        ensures sized { IsSized self.old self.new }
         ensures counted { CountsRows L.ops L.wides ledger.old ledger.new }
     {
         match self.improve_and_judge::<N, L>(ledger) {

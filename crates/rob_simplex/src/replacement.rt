@@ -1,7 +1,7 @@
 //! A column that comes to a position.
 
-ghost use Rattle.std.specs.Prelude.{◌≡◌, ◌≢◌, ◌<◌, ◌≤◌, ◌+◌, ℕ, pos, nat_abs, set};
-ghost use Rattle.rob_simplex.specs.Dictionaries.{positions, columns_of, rows_of, kept_row_of, IsFree, IsAlone, IsExchanged};
+ghost use Rattle.std.specs.Prelude.{◌≡◌, ◌<◌, ◌≤◌, ◌+◌, ℕ, pos, nat_abs, set};
+ghost use Rattle.rob_simplex.specs.Dictionaries.{positions, columns_of, rows_of, kept_row_of, IsFree, IsAlone, IsExchanged, IsSized};
 
 use crate::dictionary::Dictionary;
 use rob_entries::Entry;
@@ -13,8 +13,7 @@ impl<E: Entry> Dictionary<E> {
         requires row_in { row < positions self.old }
         requires free { IsFree self.old.columns self.old.basis column }
         ensures basis { self.new.basis ≡ set self.old.basis row column }
-        ensures columns { self.new.columns ≡ self.old.columns }
-        ensures limit { self.new.limit ≡ self.old.limit }
+        ensures sized { IsSized self.old self.new }
         ensures rows { IsAlone self.old row column → (i c : ℕ) → i ≤ positions self.old
             → c < self.old.columns + positions self.old + 4 → rows_of self.new i c ≡ rows_of self.old i c }
         ensures exchanged { IsExchanged self.old self.new row (columns_of self.old.basis row) column }

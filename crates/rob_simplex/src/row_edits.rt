@@ -1,8 +1,8 @@
 //! A row of a table that is divided by what is common to its entries, or turned round.
 
 ghost use Rattle.std.specs.Prelude.{◌≡◌, ◌≢◌, ◌<◌, ◌≤◌, ◌<ℤ◌, ◌*ℤ◌, ℕ, ℤ, pos, neg_ℤ, length};
-ghost use Rattle.rob_simplex.specs.Tables.{row_at, HasBounds};
-ghost use Rattle.rob_simplex.specs.Dictionaries.{positions, rows_of, kept_row_of};
+ghost use Rattle.rob_simplex.specs.Tables.{row_at, HasBounds, IsUnchangedBut};
+ghost use Rattle.rob_simplex.specs.Dictionaries.{positions, rows_of, kept_row_of, IsSized};
 
 use crate::dictionary::Dictionary;
 use rob_entries::{Cells, Entry};
@@ -12,7 +12,7 @@ fn reduce_row<E: Entry>(rows: &mut Cells<E>, bounds: &mut [u128], i: usize, widt
     requires bounded { HasBounds E.top width rows.old bounds.old }
     requires inside { i < length bounds.old }
     ensures row { (d : ℤ) × (pos 0 <ℤ d) × ((k : ℕ) → k < width → d *ℤ row_at rows.new width i k ≡ row_at rows.old width i k) }
-    ensures others { (j k : ℕ) → j ≢ i → k < width → row_at rows.new width j k ≡ row_at rows.old width j k }
+    ensures others { IsUnchangedBut i width (row_at rows.old width) (row_at rows.new width) }
     ensures bounded { HasBounds E.top width rows.new bounds.new }
 {
     let _ = rows.len();
@@ -26,7 +26,7 @@ fn reduce_unless_one<E: Entry>(rows: &mut Cells<E>, bounds: &mut [u128], i: usiz
     requires inside { i < length bounds.old }
     requires width { 1 ≤ width }
     ensures row { (d : ℤ) × (pos 0 <ℤ d) × ((k : ℕ) → k < width → d *ℤ row_at rows.new width i k ≡ row_at rows.old width i k) }
-    ensures others { (j k : ℕ) → j ≢ i → k < width → row_at rows.new width j k ≡ row_at rows.old width j k }
+    ensures others { IsUnchangedBut i width (row_at rows.old width) (row_at rows.new width) }
     ensures bounded { HasBounds E.top width rows.new bounds.new }
 {
     let _ = rows.len();
@@ -41,7 +41,7 @@ fn negate_row<E: Entry>(rows: &mut Cells<E>, bounds: &[u128], i: usize, width: u
     requires bounded { HasBounds E.top width rows.old bounds.now }
     requires inside { i < length bounds.now }
     ensures row { (k : ℕ) → k < width → row_at rows.new width i k ≡ neg_ℤ (row_at rows.old width i k) }
-    ensures others { (j k : ℕ) → j ≢ i → k < width → row_at rows.new width j k ≡ row_at rows.old width j k }
+    ensures others { IsUnchangedBut i width (row_at rows.old width) (row_at rows.new width) }
     ensures bounded { HasBounds E.top width rows.new bounds.now }
 {
     let _ = rows.len();
@@ -57,8 +57,7 @@ impl<E: Entry> Dictionary<E> {
         ensures others { (i c : ℕ) → i ≤ positions self.old → i ≢ row → rows_of self.new i c ≡ rows_of self.old i c }
         ensures kept { (c : ℕ) → kept_row_of self.new c ≡ kept_row_of self.old c }
         ensures basis { self.new.basis ≡ self.old.basis }
-        ensures columns { self.new.columns ≡ self.old.columns }
-        ensures limit { self.new.limit ≡ self.old.limit }
+        ensures sized { IsSized self.old self.new }
     {
         let width = self.columns + 4;
         reduce_unless_one(&mut self.rows, self.bounds.as_mut_slice(), row, width);
@@ -71,8 +70,7 @@ impl<E: Entry> Dictionary<E> {
         ensures others { (i c : ℕ) → i ≤ positions self.old → i ≢ row → rows_of self.new i c ≡ rows_of self.old i c }
         ensures kept { (c : ℕ) → kept_row_of self.new c ≡ kept_row_of self.old c }
         ensures basis { self.new.basis ≡ self.old.basis }
-        ensures columns { self.new.columns ≡ self.old.columns }
-        ensures limit { self.new.limit ≡ self.old.limit }
+        ensures sized { IsSized self.old self.new }
     {
         let width = self.columns + 4;
         negate_row(&mut self.rows, self.bounds.as_slice(), row, width);

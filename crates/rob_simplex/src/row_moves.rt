@@ -2,7 +2,7 @@
 
 ghost use Rattle.std.specs.Prelude.{◌≡◌, ◌≢◌, ◌<◌, ◌≤◌, ◌+◌, ◌*◌, ◌⊎◌, ◌^◌, ℕ, pos, nat_abs, set, slice_index_or, length};
 ghost use Rattle.rob_linear.specs.Beside.{exchanged};
-ghost use Rattle.rob_simplex.specs.Tables.{row_at, HasBounds};
+ghost use Rattle.rob_simplex.specs.Tables.{row_at, HasBounds, IsUnchangedBut};
 
 use rob_entries::{Cells, Entry};
 
@@ -62,7 +62,7 @@ pub fn copy_row<E: Entry>(
     requires to_in { to < length bounds.old }
     requires size { length rows.old ≡ length bounds.old * width }
     ensures row { (k : ℕ) → k < width → row_at rows.new width to k ≡ row_at rows.old width from k }
-    ensures others { (i k : ℕ) → i ≢ to → k < width → row_at rows.new width i k ≡ row_at rows.old width i k }
+    ensures others { IsUnchangedBut to width (row_at rows.old width) (row_at rows.new width) }
     ensures bounded { (limit : ℕ) → HasBounds limit width rows.old bounds.old
         → HasBounds limit width rows.new bounds.new }
 {
@@ -75,7 +75,7 @@ fn copy_entries<E: Entry>(rows: &mut Cells<E>, from: usize, to: usize, width: us
     requires from_in { from * width + width ≤ length rows.old }
     requires to_in { to * width + width ≤ length rows.old }
     ensures row { (k : ℕ) → k < width → row_at rows.new width to k ≡ row_at rows.old width from k }
-    ensures others { (i k : ℕ) → i ≢ to → k < width → row_at rows.new width i k ≡ row_at rows.old width i k }
+    ensures others { IsUnchangedBut to width (row_at rows.old width) (row_at rows.new width) }
     ensures size { length rows.new ≡ length rows.old }
 {
     let _ = rows.len();
@@ -122,7 +122,7 @@ pub fn write_unit<E: Entry>(
     ensures at_place { row_at rows.new width i place ≡ pos 1 }
     ensures own { (w : ℕ) → w + 1 ≡ width → row_at rows.new width i w ≡ pos 1 }
     ensures zero { (k : ℕ) → k + 1 < width → k ≢ place → row_at rows.new width i k ≡ pos 0 }
-    ensures others { (j k : ℕ) → j ≢ i → k < width → row_at rows.new width j k ≡ row_at rows.old width j k }
+    ensures others { IsUnchangedBut i width (row_at rows.old width) (row_at rows.new width) }
     ensures bounded { (limit : ℕ) → 1 ≤ limit → HasBounds limit width rows.old bounds.old
         → HasBounds limit width rows.new bounds.new }
 {
@@ -137,7 +137,7 @@ pub fn write_unit<E: Entry>(
 fn empty_row<E: Entry>(rows: &mut Cells<E>, i: usize, width: usize)
     requires inside { i * width + width ≤ length rows.old }
     ensures zero { (k : ℕ) → k < width → row_at rows.new width i k ≡ pos 0 }
-    ensures others { (j k : ℕ) → j ≢ i → k < width → row_at rows.new width j k ≡ row_at rows.old width j k }
+    ensures others { IsUnchangedBut i width (row_at rows.old width) (row_at rows.new width) }
     ensures size { length rows.new ≡ length rows.old }
 {
     let _ = rows.len();

@@ -4,7 +4,7 @@ ghost use Rattle.std.specs.Prelude.{◌≡◌, ◌≤◌, IfOk, IfErr, MatchResu
 ghost use Rattle.rob_linear.specs.Programs.{Program};
 ghost use Rattle.rob_linear.specs.Paths.{LastFrom};
 ghost use Rattle.rob_linear.specs.WideRows.{HasWideRowFrom};
-ghost use Rattle.rob_simplex.specs.Dictionaries.{positions, columns_of};
+ghost use Rattle.rob_simplex.specs.Dictionaries.{positions, columns_of, IsSized};
 ghost use Rattle.rob_simplex.specs.Counting.{CountsRows};
 ghost use Rattle.rob_simplex.specs.Phases.{StandsFor, HasTurned, HasRefused, EndsFrom};
 ghost use Rattle.rob_simplex.specs.Judging.{Tells};
@@ -37,11 +37,8 @@ impl<E: Entry> Dictionary<E> {
             → HasRefused self.old.limit P halt.position self.old self.new) }
         ensures begun { IfErr result (λ halt. HasBegunAt (λ t. t ≡ self.old) halt.cause self.new) }
         ensures position { IfErr result (λ halt. halt.position ≤ positions self.old) }
-        ensures positions { positions self.new ≡ positions self.old }
-        ensures columns { self.new.columns ≡ self.old.columns }
-        ensures limit { self.new.limit ≡ self.old.limit }
-        ensures ops { L.ops ledger.old ≤ L.ops ledger.new }
-        ensures wides { L.wides ledger.new ≡ L.wides ledger.old }
+        ensures sized { IsSized self.old self.new }
+        ensures counted { CountsRows L.ops L.wides ledger.old ledger.new }
     {
         let m = self.basis.len();
         let Some(column) = self.first_negative(m) else {
@@ -72,9 +69,7 @@ impl<E: Entry> Dictionary<E> {
         ensures begun { (P : Program) → StandsFor P self.old → IfErr result
             (λ halt. HasBegunAt (StandsFrom P (columns_of self.old.basis)) halt.cause self.new) }
         ensures position { IfErr result (λ halt. halt.position ≤ positions self.old) }
-        ensures positions { positions self.new ≡ positions self.old }
-        ensures columns { self.new.columns ≡ self.old.columns }
-        ensures limit { self.new.limit ≡ self.old.limit }
+        ensures sized { IsSized self.old self.new }
         ensures counted { CountsRows L.ops L.wides ledger.old ledger.new }
     {
         'turns: loop {
@@ -105,9 +100,7 @@ impl<E: Entry> Dictionary<E> {
             (λ halt. HaltsAt (LastFrom P (columns_of self.old.basis)) (StandsFrom P (columns_of self.old.basis))
             N.limit P halt.position halt.cause self.new) }
         ensures position { IfErr result (λ halt. halt.position ≤ positions self.old) }
-        ensures positions { positions self.new ≡ positions self.old }
-        ensures columns { self.new.columns ≡ self.old.columns }
-        ensures limit { self.new.limit ≡ self.old.limit }
+        ensures sized { IsSized self.old self.new }
         ensures counted { CountsRows L.ops L.wides ledger.old ledger.new }
     {
         match self.improve(ledger) {

@@ -4,7 +4,7 @@
 ghost use Rattle.std.specs.Prelude.{◌≡◌, ◌≢◌, ◌⊎◌, ◌<◌, ◌≤◌, ◌+◌, ◌-◌, ◌*◌, ◌^◌, ℕ, [], pos, neg_ℤ, nat_abs, slice_index_or, length, IfOk};
 ghost use Rattle.rob_linear.specs.Vectors.{at};
 ghost use Rattle.rob_rows.specs.LinearPrograms.{HasNumbersWithin, program_of};
-ghost use Rattle.rob_simplex.specs.Tables.{row_at, HasBounds};
+ghost use Rattle.rob_simplex.specs.Tables.{row_at, HasBounds, IsUnchangedBut};
 ghost use Rattle.rob_simplex.specs.Starts.{start_entry, IsStartingTable};
 
 use crate::dictionary::Dictionary;
@@ -100,7 +100,7 @@ fn write_structural<E: Entry>(rows: &mut Cells<E>, i: usize, width: usize, numbe
     requires room { length numbers.now ≤ width }
     requires within { (k : ℕ) → k < length numbers.now → nat_abs (at numbers.now k) < 2 ^ 62 }
     ensures entries { (k : ℕ) → k < length numbers.now → row_at rows.new width i k ≡ at numbers.now k }
-    ensures others { (j k : ℕ) → j ≢ i → k < width → row_at rows.new width j k ≡ row_at rows.old width j k }
+    ensures others { IsUnchangedBut i width (row_at rows.old width) (row_at rows.new width) }
     ensures size { length rows.new ≡ length rows.old }
 {
     let _ = rows.len();

@@ -5,7 +5,7 @@ ghost use Rattle.rob_linear.specs.Vectors.{at};
 ghost use Rattle.rob_linear.specs.Programs.{Program};
 ghost use Rattle.rob_rows.specs.PrimitiveParts.{IsWithin, content};
 ghost use Rattle.rob_simplex.specs.declared.first_phase.FirstEnding.TheVariants.{Infeasible};
-ghost use Rattle.rob_simplex.specs.Dictionaries.{positions, rows_of, IsFree};
+ghost use Rattle.rob_simplex.specs.Dictionaries.{positions, rows_of, IsFree, IsSized};
 ghost use Rattle.rob_simplex.specs.Explicit.{FirstEnds};
 ghost use Rattle.rob_simplex.specs.PathEnds.{AreWeights};
 
@@ -22,9 +22,7 @@ impl<E: Entry> Dictionary<E> {
             → AreWeights P self.new.basis weights.new }
         ensures within { IsWithin self.old.limit weights.new }
         ensures size { length weights.new ≡ length weights.old }
-        ensures positions { positions self.new ≡ positions self.old }
-        ensures columns { self.new.columns ≡ self.old.columns }
-        ensures limit { self.new.limit ≡ self.old.limit }
+        ensures sized { IsSized self.old self.new }
     {
         self.lowest_slacks(row, weights);
         self.tell_auxiliary(row);
@@ -66,9 +64,7 @@ impl<E: Entry> Dictionary<E> {
         ensures comes { row < positions self.old
             → self.new.basis ≡ set self.old.basis row (self.old.columns + positions self.old) }
         ensures stays { row ≡ positions self.old → self.new.basis ≡ self.old.basis }
-        ensures positions { positions self.new ≡ positions self.old }
-        ensures columns { self.new.columns ≡ self.old.columns }
-        ensures limit { self.new.limit ≡ self.old.limit }
+        ensures sized { IsSized self.old self.new }
     {
         let auxiliary = self.columns + self.basis.len();
         if row < self.basis.len() {

@@ -5,7 +5,6 @@ use Rattle.rob_simplex.proofs.lowering.write_steps.Goals as goal
 
 pub loop-k-preserved : goal.loop-k-preserved
 loop-k-preserved g c =
-    let z = g.E.Entry.value c.step_entry.result in
     let ln : length c.loop-k.rows ≡ length c.args.rows.now = c.loop-k.invariant.size in
     let il : c.args.i * c.args.width + c.args.width ≤ length c.loop-k.rows = omega (arith, c.requires.inside) in
     record {

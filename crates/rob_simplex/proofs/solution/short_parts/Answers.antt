@@ -1,7 +1,7 @@
 use Rattle.std.proofs.Common.{◌≡◌, ◌∙◌, ◌≤◌, ◌<◌, ◌-◌, ◌^◌, sym, subst, arith, nat_abs, to_z, of_z, w64, Option}
 use Rattle.std.specs.Prelude.{IfNone}
 use lib.IntN.{ℤ}
-use Rattle.rob_simplex.proofs.Places.{seen_within}
+use Rattle.rob_number.proofs.CastLemmas.{seen_within}
 use Rattle.rob_simplex.proofs.ShortParts.{short_parts, wide_first, wide_second}
 use Rattle.rob_simplex.proofs.solution.short_parts.Goals as goal
 

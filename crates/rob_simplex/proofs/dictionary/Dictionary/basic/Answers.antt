@@ -1,6 +1,6 @@
-use Rattle.std.proofs.Common.{◌<◌, ◌^◌, ◌∙◌, ap, sym, subst, length}
+use Rattle.std.proofs.Common.{◌<◌, ◌^◌, ◌∙◌, ap, sym, subst}
 use Rattle.rob_simplex.specs.Dictionaries.{Table, positions, columns_of}
-use Rattle.rob_simplex.proofs.WrittenBack.{read_at}
+use Rattle.rob_simplex.proofs.Places.{read_at}
 use Rattle.rob_simplex.proofs.ColumnLemmas.{basic_few}
 use Rattle.rob_simplex.proofs.dictionary.Dictionary.basic.Goals as goal
 
@@ -13,4 +13,4 @@ pub returns-clause-few : goal.returns-clause-few
 returns-clause-few g c =
     let il = subst (λ (t : Table). c.args.i < positions t) (sym c.self.view_is) c.requires.inside in
     subst (λ k. k < 2 ^ 32) (sym (read_at c.self.inside.basis.items c.args.i c.index.result.now il c.index.ensures))
-    (basic_few g.E.Entry.top c.self.inside.columns c.self.inside.basis.items c.self.inside.places.items c.self.inside.near.items c.self.inside.rows c.self.inside.bounds.items (length c.self.inside.pivot_row.entries) c.self.invariant c.args.i il)
+    (basic_few c.self.invariant c.args.i il)

@@ -1,6 +1,6 @@
 use Rattle.std.proofs.Common.{refl, ◌≡◌, ◌+◌, ◌∙◌, ap, sym, length, take, drop, ◌++◌}
 use Rattle.rob_simplex.specs.Dictionaries.{Table}
-use Rattle.rob_simplex.proofs.WrittenBack.{written_back}
+use Rattle.rob_entries.proofs.WrittenRows.{written_back}
 use Rattle.rob_simplex.proofs.CopiedTables.{same_table, copied_sound}
 use Rattle.rob_simplex.proofs.dictionary.Dictionary.copy_from.Goals as goal
 
@@ -46,4 +46,4 @@ invariant_of-self g c =
     c.copy_from.new.self c.other.inside.rows
     (take c.self.inside.bounds.len (c.copy_from_slice-4.new.self ++ drop (length c.copy_from_slice-4.new.self) c.self.inside.bounds.items)) c.other.inside.bounds.items
     (length c.self.inside.pivot_row.entries) (length c.other.inside.pivot_row.entries) el en ebasis eplaces enear erows ebounds
-    (c.self.invariant.room_is ∙ ap (λ k. k + 4) en ∙ sym c.other.invariant.room_is) c.other.invariant
+    (c.self.invariant.workspace_is ∙ ap (λ k. k + 4) en ∙ sym c.other.invariant.workspace_is) c.other.invariant

@@ -1,18 +1,15 @@
 -- The basis is one of the explicit form, and less turns are left with each turn.
-use Rattle.std.proofs.Common.{◌≡◌, ◌≤◌}
 use Rattle.rob_linear.specs.Programs.{Program}
-use Rattle.rob_simplex.specs.Dictionaries.{positions}
+use Rattle.rob_simplex.specs.Counting.{CountsRows}
+use Rattle.rob_simplex.specs.Dictionaries.{IsSized}
 use Rattle.rob_simplex.specs.Explicit.{InExplicit, turns_left_explicit}
 use Rattle.rob_simplex.proofs.dictionary.Dictionary.drive_out.Given as goal
 
 abbrev pub invariant-turns : goal.invariant-turns
 invariant-turns g l = record {
   stands : (P : Program) → InExplicit P l.fn.self → InExplicit P l.self;
-  positions : positions l.self ≡ positions l.fn.self;
-  columns : l.self.columns ≡ l.fn.self.columns;
-  limit : l.self.limit ≡ l.fn.self.limit;
-  ops : g.L.Ledger.ops l.fn.ledger ≤ g.L.Ledger.ops l.ledger;
-  wides : g.L.Ledger.wides l.ledger ≡ g.L.Ledger.wides l.fn.ledger;
+  sized : IsSized l.fn.self l.self;
+  counted : CountsRows g.L.Ledger.ops g.L.Ledger.wides l.fn.ledger l.ledger;
 }
 
 abbrev pub decreases-turns : goal.decreases-turns

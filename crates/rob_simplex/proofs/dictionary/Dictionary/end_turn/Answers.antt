@@ -1,259 +1,102 @@
-use Rattle.std.proofs.Common.{◌≡◌, ◌+◌, ◌<◌, ◌≤◌, ◌∙◌, ap, subst, arith, length}
-use Rattle.std.proofs.lemmas.List.{length-set}
+use Rattle.std.proofs.Common.{◌≡◌, ◌+◌, ◌<◌, ◌≤◌, subst, arith}
 use Rattle.rob_linear.specs.WideRows.{HasWideRow}
-use Rattle.rob_simplex.specs.Dictionaries.{Table, positions, columns_of, spare_column}
-use Rattle.rob_simplex.proofs.WrittenBack.{read_at}
+use Rattle.rob_simplex.specs.Dictionaries.{positions, columns_of, spare_column}
 use Rattle.rob_simplex.proofs.BrokenPivots.{begun_size, spare_free, opened_free, opened_again, opened_positive, opened_own, cleared_free, basis4, columns4, pivoted4, closed4, wide_again}
 use Rattle.rob_simplex.proofs.BegunTurns.{pivotable_turn, turn_ended, turn_wide}
+use Rattle.rob_simplex.proofs.Sizes.{sized_after}
 use Rattle.rob_simplex.proofs.dictionary.Dictionary.end_turn.Goals as goal
 
 pub replace-requires-clause-free : goal.replace-requires-clause-free
 replace-requires-clause-free g c =
     let t = c.args.self.now in
-    let row = c.args.row in
-    let ei : length c.self.inside.basis.items ≡ positions t = ap (λ (t : Table). positions t) c.self.view_is in
-    let em : c.len-m.result ≡ positions t = c.len-m.ensures ∙ c.self.inside.basis.ok.0 ∙ ei in
-    let en : c.self.inside.columns ≡ t.columns = ap (λ (t : Table). t.columns) c.self.view_is in
-    let k = c.index-column.result.now in
-    let ek : k ≡ columns_of t.basis row = read_at c.self.inside.basis.items row k (omega (arith, ei, c.requires.row_in)) c.index-column.ensures ∙ ap (λ (t : Table). columns_of t.basis row) c.self.view_is in
-    let z = c.self.inside.columns + c.len-m.result + 3 in
-    let ez : c.self.inside.columns + c.len-m.result + 3 ≡ spare_column t.columns (positions t) = omega (arith, em, en) in
-    let P = c.requires.begun.0 in
+    let ez : c.columns-n.result + c.positions-m.result + 3 ≡ spare_column t.columns (positions t) = omega (arith, c.columns-n.ensures.columns, c.positions-m.ensures.positions) in
     let h = c.requires.begun.1 in
-    spare_free h.before t row h.column (pivotable_turn P t row h) h.broken z ez
+    spare_free (pivotable_turn c.requires.begun.0 h) h.broken (c.columns-n.result + c.positions-m.result + 3) ez
 
-pub clear_others-requires-clause-row_in : goal.clear_others-requires-clause-row_in
-clear_others-requires-clause-row_in g c =
+-- the position is open again
+pub clear_others-cleared-requires : goal.clear_others-cleared-requires
+clear_others-cleared-requires g c =
     let t = c.args.self.now in
-    let row = c.args.row in
-    let ei : length c.self.inside.basis.items ≡ positions t = ap (λ (t : Table). positions t) c.self.view_is in
-    let em : c.len-m.result ≡ positions t = c.len-m.ensures ∙ c.self.inside.basis.ok.0 ∙ ei in
-    let en : c.self.inside.columns ≡ t.columns = ap (λ (t : Table). t.columns) c.self.view_is in
-    let k = c.index-column.result.now in
-    let ek : k ≡ columns_of t.basis row = read_at c.self.inside.basis.items row k (omega (arith, ei, c.requires.row_in)) c.index-column.ensures ∙ ap (λ (t : Table). columns_of t.basis row) c.self.view_is in
-    let z = c.self.inside.columns + c.len-m.result + 3 in
-    let ez : c.self.inside.columns + c.len-m.result + 3 ≡ spare_column t.columns (positions t) = omega (arith, em, en) in
-    let e : positions c.replace.new.self ≡ positions t = ap length c.replace.ensures.basis ∙ length-set t.basis row z in
-    omega (arith, e, c.requires.row_in)
-
-pub clear_others-requires-clause-free : goal.clear_others-requires-clause-free
-clear_others-requires-clause-free g c =
-    let t = c.args.self.now in
-    let row = c.args.row in
-    let ei : length c.self.inside.basis.items ≡ positions t = ap (λ (t : Table). positions t) c.self.view_is in
-    let em : c.len-m.result ≡ positions t = c.len-m.ensures ∙ c.self.inside.basis.ok.0 ∙ ei in
-    let en : c.self.inside.columns ≡ t.columns = ap (λ (t : Table). t.columns) c.self.view_is in
-    let k = c.index-column.result.now in
-    let ek : k ≡ columns_of t.basis row = read_at c.self.inside.basis.items row k (omega (arith, ei, c.requires.row_in)) c.index-column.ensures ∙ ap (λ (t : Table). columns_of t.basis row) c.self.view_is in
-    let z = c.self.inside.columns + c.len-m.result + 3 in
-    let ez : c.self.inside.columns + c.len-m.result + 3 ≡ spare_column t.columns (positions t) = omega (arith, em, en) in
-    let P = c.requires.begun.0 in
+    let em = c.positions-m.ensures.positions in
+    let ez : c.columns-n.result + c.positions-m.result + 3 ≡ spare_column t.columns (positions t) = omega (arith, c.columns-n.ensures.columns, em) in
     let h = c.requires.begun.1 in
-    opened_free h.before t row h.column (pivotable_turn P t row h) h.broken k z ek ez c.replace.new.self c.replace.ensures.exchanged
+    let a = pivotable_turn c.requires.begun.0 h in
+    let ek = c.basic-column.ensures.column in
+    let x = c.replace.ensures.exchanged in
+    let e = c.replace.ensures.sized.positions in
+    record {
+      ready = record {
+        row_in = omega (arith, e, c.requires.row_in);
+        free = opened_free a h.broken ek ez x;
+        opened = opened_again a h.broken ek ez x;
+        below = omega (arith, e, em);
+        positive = opened_positive a h.broken ek ez x;
+        own = opened_own a h.broken ek ez x (c.positions-m.result + 1) (omega (arith, e, em));
+      };
+    }
 
-pub clear_others-requires-clause-open : goal.clear_others-requires-clause-open
-clear_others-requires-clause-open g c =
+pub replace-requires-2 : goal.replace-requires-2
+replace-requires-2 g c =
     let t = c.args.self.now in
-    let row = c.args.row in
-    let ei : length c.self.inside.basis.items ≡ positions t = ap (λ (t : Table). positions t) c.self.view_is in
-    let em : c.len-m.result ≡ positions t = c.len-m.ensures ∙ c.self.inside.basis.ok.0 ∙ ei in
-    let en : c.self.inside.columns ≡ t.columns = ap (λ (t : Table). t.columns) c.self.view_is in
-    let k = c.index-column.result.now in
-    let ek : k ≡ columns_of t.basis row = read_at c.self.inside.basis.items row k (omega (arith, ei, c.requires.row_in)) c.index-column.ensures ∙ ap (λ (t : Table). columns_of t.basis row) c.self.view_is in
-    let z = c.self.inside.columns + c.len-m.result + 3 in
-    let ez : c.self.inside.columns + c.len-m.result + 3 ≡ spare_column t.columns (positions t) = omega (arith, em, en) in
-    let P = c.requires.begun.0 in
+    let ez : c.columns-n.result + c.positions-m.result + 3 ≡ spare_column t.columns (positions t) = omega (arith, c.columns-n.ensures.columns, c.positions-m.ensures.positions) in
     let h = c.requires.begun.1 in
-    opened_again h.before t row h.column (pivotable_turn P t row h) h.broken k z ek ez c.replace.new.self c.replace.ensures.exchanged
-
-pub clear_others-requires-clause-count : goal.clear_others-requires-clause-count
-clear_others-requires-clause-count g c =
-    let t = c.args.self.now in
-    let row = c.args.row in
-    let ei : length c.self.inside.basis.items ≡ positions t = ap (λ (t : Table). positions t) c.self.view_is in
-    let em : c.len-m.result ≡ positions t = c.len-m.ensures ∙ c.self.inside.basis.ok.0 ∙ ei in
-    let en : c.self.inside.columns ≡ t.columns = ap (λ (t : Table). t.columns) c.self.view_is in
-    let k = c.index-column.result.now in
-    let ek : k ≡ columns_of t.basis row = read_at c.self.inside.basis.items row k (omega (arith, ei, c.requires.row_in)) c.index-column.ensures ∙ ap (λ (t : Table). columns_of t.basis row) c.self.view_is in
-    let z = c.self.inside.columns + c.len-m.result + 3 in
-    let ez : c.self.inside.columns + c.len-m.result + 3 ≡ spare_column t.columns (positions t) = omega (arith, em, en) in
-    let e : positions c.replace.new.self ≡ positions t = ap length c.replace.ensures.basis ∙ length-set t.basis row z in
-    omega (arith, e, em)
-
-pub clear_others-requires-clause-positive : goal.clear_others-requires-clause-positive
-clear_others-requires-clause-positive g c =
-    let t = c.args.self.now in
-    let row = c.args.row in
-    let ei : length c.self.inside.basis.items ≡ positions t = ap (λ (t : Table). positions t) c.self.view_is in
-    let em : c.len-m.result ≡ positions t = c.len-m.ensures ∙ c.self.inside.basis.ok.0 ∙ ei in
-    let en : c.self.inside.columns ≡ t.columns = ap (λ (t : Table). t.columns) c.self.view_is in
-    let k = c.index-column.result.now in
-    let ek : k ≡ columns_of t.basis row = read_at c.self.inside.basis.items row k (omega (arith, ei, c.requires.row_in)) c.index-column.ensures ∙ ap (λ (t : Table). columns_of t.basis row) c.self.view_is in
-    let z = c.self.inside.columns + c.len-m.result + 3 in
-    let ez : c.self.inside.columns + c.len-m.result + 3 ≡ spare_column t.columns (positions t) = omega (arith, em, en) in
-    let P = c.requires.begun.0 in
-    let h = c.requires.begun.1 in
-    opened_positive h.before t row h.column (pivotable_turn P t row h) h.broken k z ek ez c.replace.new.self c.replace.ensures.exchanged
-
-pub clear_others-requires-clause-own : goal.clear_others-requires-clause-own
-clear_others-requires-clause-own g c =
-    let t = c.args.self.now in
-    let row = c.args.row in
-    let ei : length c.self.inside.basis.items ≡ positions t = ap (λ (t : Table). positions t) c.self.view_is in
-    let em : c.len-m.result ≡ positions t = c.len-m.ensures ∙ c.self.inside.basis.ok.0 ∙ ei in
-    let en : c.self.inside.columns ≡ t.columns = ap (λ (t : Table). t.columns) c.self.view_is in
-    let k = c.index-column.result.now in
-    let ek : k ≡ columns_of t.basis row = read_at c.self.inside.basis.items row k (omega (arith, ei, c.requires.row_in)) c.index-column.ensures ∙ ap (λ (t : Table). columns_of t.basis row) c.self.view_is in
-    let z = c.self.inside.columns + c.len-m.result + 3 in
-    let ez : c.self.inside.columns + c.len-m.result + 3 ≡ spare_column t.columns (positions t) = omega (arith, em, en) in
-    let P = c.requires.begun.0 in
-    let h = c.requires.begun.1 in
-    let e : positions c.replace.new.self ≡ positions t = ap length c.replace.ensures.basis ∙ length-set t.basis row z in
-    opened_own h.before t row h.column (pivotable_turn P t row h) h.broken k z ek ez c.replace.new.self c.replace.ensures.exchanged (c.len-m.result + 1) (omega (arith, e, em))
-
-pub replace-requires-in-Ok-clause-free : goal.replace-requires-in-Ok-clause-free
-replace-requires-in-Ok-clause-free g c =
-    let t = c.args.self.now in
-    let row = c.args.row in
-    let ei : length c.self.inside.basis.items ≡ positions t = ap (λ (t : Table). positions t) c.self.view_is in
-    let em : c.len-m.result ≡ positions t = c.len-m.ensures ∙ c.self.inside.basis.ok.0 ∙ ei in
-    let en : c.self.inside.columns ≡ t.columns = ap (λ (t : Table). t.columns) c.self.view_is in
-    let k = c.index-column.result.now in
-    let ek : k ≡ columns_of t.basis row = read_at c.self.inside.basis.items row k (omega (arith, ei, c.requires.row_in)) c.index-column.ensures ∙ ap (λ (t : Table). columns_of t.basis row) c.self.view_is in
-    let z = c.self.inside.columns + c.len-m.result + 3 in
-    let ez : c.self.inside.columns + c.len-m.result + 3 ≡ spare_column t.columns (positions t) = omega (arith, em, en) in
-    let P = c.requires.begun.0 in
-    let h = c.requires.begun.1 in
-    cleared_free h.before t row h.column (pivotable_turn P t row h) h.broken k z ek ez c.replace.new.self c.replace.ensures.exchanged c.clear_others.new.self c.clear_others.ensures.basis c.clear_others.ensures.columns
-
-pub replace-requires-in-Ok-clause-row_in : goal.replace-requires-in-Ok-clause-row_in
-replace-requires-in-Ok-clause-row_in g c =
-    let t = c.args.self.now in
-    let row = c.args.row in
-    let ei : length c.self.inside.basis.items ≡ positions t = ap (λ (t : Table). positions t) c.self.view_is in
-    let em : c.len-m.result ≡ positions t = c.len-m.ensures ∙ c.self.inside.basis.ok.0 ∙ ei in
-    let en : c.self.inside.columns ≡ t.columns = ap (λ (t : Table). t.columns) c.self.view_is in
-    let k = c.index-column.result.now in
-    let ek : k ≡ columns_of t.basis row = read_at c.self.inside.basis.items row k (omega (arith, ei, c.requires.row_in)) c.index-column.ensures ∙ ap (λ (t : Table). columns_of t.basis row) c.self.view_is in
-    let z = c.self.inside.columns + c.len-m.result + 3 in
-    let ez : c.self.inside.columns + c.len-m.result + 3 ≡ spare_column t.columns (positions t) = omega (arith, em, en) in
-    let e : positions c.clear_others.new.self ≡ positions t = ap length (c.clear_others.ensures.basis ∙ c.replace.ensures.basis) ∙ length-set t.basis row z in
-    omega (arith, e, c.requires.row_in)
-
-pub replace-requires-in-Err-clause-free : goal.replace-requires-in-Err-clause-free
-replace-requires-in-Err-clause-free g c =
-    let t = c.args.self.now in
-    let row = c.args.row in
-    let ei : length c.self.inside.basis.items ≡ positions t = ap (λ (t : Table). positions t) c.self.view_is in
-    let em : c.len-m.result ≡ positions t = c.len-m.ensures ∙ c.self.inside.basis.ok.0 ∙ ei in
-    let en : c.self.inside.columns ≡ t.columns = ap (λ (t : Table). t.columns) c.self.view_is in
-    let k = c.index-column.result.now in
-    let ek : k ≡ columns_of t.basis row = read_at c.self.inside.basis.items row k (omega (arith, ei, c.requires.row_in)) c.index-column.ensures ∙ ap (λ (t : Table). columns_of t.basis row) c.self.view_is in
-    let z = c.self.inside.columns + c.len-m.result + 3 in
-    let ez : c.self.inside.columns + c.len-m.result + 3 ≡ spare_column t.columns (positions t) = omega (arith, em, en) in
-    let P = c.requires.begun.0 in
-    let h = c.requires.begun.1 in
-    cleared_free h.before t row h.column (pivotable_turn P t row h) h.broken k z ek ez c.replace.new.self c.replace.ensures.exchanged c.clear_others.new.self c.clear_others.ensures.basis c.clear_others.ensures.columns
-
-pub replace-requires-in-Err-clause-row_in : goal.replace-requires-in-Err-clause-row_in
-replace-requires-in-Err-clause-row_in g c =
-    let t = c.args.self.now in
-    let row = c.args.row in
-    let ei : length c.self.inside.basis.items ≡ positions t = ap (λ (t : Table). positions t) c.self.view_is in
-    let em : c.len-m.result ≡ positions t = c.len-m.ensures ∙ c.self.inside.basis.ok.0 ∙ ei in
-    let en : c.self.inside.columns ≡ t.columns = ap (λ (t : Table). t.columns) c.self.view_is in
-    let k = c.index-column.result.now in
-    let ek : k ≡ columns_of t.basis row = read_at c.self.inside.basis.items row k (omega (arith, ei, c.requires.row_in)) c.index-column.ensures ∙ ap (λ (t : Table). columns_of t.basis row) c.self.view_is in
-    let z = c.self.inside.columns + c.len-m.result + 3 in
-    let ez : c.self.inside.columns + c.len-m.result + 3 ≡ spare_column t.columns (positions t) = omega (arith, em, en) in
-    let e : positions c.clear_others.new.self ≡ positions t = ap length (c.clear_others.ensures.basis ∙ c.replace.ensures.basis) ∙ length-set t.basis row z in
-    omega (arith, e, c.requires.row_in)
+    let a = pivotable_turn c.requires.begun.0 h in
+    let r2 = c.clear_others-cleared in
+    record {
+      row_in = omega (arith, c.clear_others-cleared.ensures.sized.positions, c.replace.ensures.sized.positions, c.requires.row_in);
+      free = cleared_free a h.broken c.basic-column.ensures.column ez c.replace.ensures.exchanged r2.new.self r2.ensures.basis r2.ensures.sized.columns;
+    }
 
 pub returns-in-Ok-clause-turned : goal.returns-in-Ok-clause-turned
 returns-in-Ok-clause-turned g c P h =
     let t = c.args.self.now in
-    let row = c.args.row in
-    let ei : length c.self.inside.basis.items ≡ positions t = ap (λ (t : Table). positions t) c.self.view_is in
-    let em : c.len-m.result ≡ positions t = c.len-m.ensures ∙ c.self.inside.basis.ok.0 ∙ ei in
-    let en : c.self.inside.columns ≡ t.columns = ap (λ (t : Table). t.columns) c.self.view_is in
-    let k = c.index-column.result.now in
-    let ek : k ≡ columns_of t.basis row = read_at c.self.inside.basis.items row k (omega (arith, ei, c.requires.row_in)) c.index-column.ensures ∙ ap (λ (t : Table). columns_of t.basis row) c.self.view_is in
-    let z = c.self.inside.columns + c.len-m.result + 3 in
-    let ez : c.self.inside.columns + c.len-m.result + 3 ≡ spare_column t.columns (positions t) = omega (arith, em, en) in
-    let a = pivotable_turn P t row h in
-    let r4 = c.replace-in-Ok.ensures.rows in
-    let count = c.len-m.result + 1 in
-    let all : positions t < count = omega (arith, em) in
-    let cl = c.in-Ok.ensures.cleared in
-    let t4 = c.replace-in-Ok.new.self in
-    let b4 = c.replace-in-Ok.ensures.basis in
-    let n4 = c.replace-in-Ok.ensures.columns in
-    turn_ended P t row h t4 (basis4 h.before t row h.column a h.broken k z ek ez c.replace.new.self c.replace.ensures.exchanged c.clear_others.new.self c.clear_others.ensures.basis c.clear_others.ensures.columns t4 b4 n4)
-    (pivoted4 h.before t row h.column a h.broken k z ek ez c.replace.new.self c.replace.ensures.exchanged c.clear_others.new.self c.clear_others.ensures.basis c.clear_others.ensures.columns t4 b4 n4 r4 count all cl)
-    (closed4 h.before t row h.column a h.broken k z ek ez c.replace.new.self c.replace.ensures.exchanged c.clear_others.new.self c.clear_others.ensures.basis c.clear_others.ensures.columns t4 b4 n4 r4 count all cl)
-    (columns4 h.before t row h.column a h.broken k z ek ez c.replace.new.self c.replace.ensures.exchanged c.clear_others.new.self c.clear_others.ensures.basis c.clear_others.ensures.columns t4 b4 n4)
+    let em = c.positions-m.ensures.positions in
+    let ez : c.columns-n.result + c.positions-m.result + 3 ≡ spare_column t.columns (positions t) = omega (arith, c.columns-n.ensures.columns, em) in
+    let a = pivotable_turn P h in
+    let ek = c.basic-column.ensures.column in
+    let x = c.replace.ensures.exchanged in
+    let r2 = c.clear_others-cleared.new.self in
+    let b2 = c.clear_others-cleared.ensures.basis in
+    let n2 = c.clear_others-cleared.ensures.sized.columns in
+    let t4 = c.replace-2.new.self in
+    let b4 = c.replace-2.ensures.basis in
+    let n4 = c.replace-2.ensures.sized.columns in
+    let r4 = c.replace-2.ensures.rows in
+    let all : positions t < c.positions-m.result + 1 = omega (arith, em) in
+    turn_ended P h t4 (basis4 a h.broken ek ez x r2 b2 n2 t4 b4 n4)
+    (pivoted4 a h.broken ek ez x r2 b2 n2 t4 b4 n4 r4 (c.positions-m.result + 1) all c.in-Ok.ensures.cleared)
+    (closed4 a h.broken ek ez x r2 b2 n2 t4 b4 n4 r4 (c.positions-m.result + 1) all c.in-Ok.ensures.cleared)
+    (columns4 a h.broken ek ez x r2 b2 n2 t4 b4 n4)
 
 pub returns-in-Err-clause-wide : goal.returns-in-Err-clause-wide
 returns-in-Err-clause-wide g c P h =
     let t = c.args.self.now in
-    let row = c.args.row in
-    let ei : length c.self.inside.basis.items ≡ positions t = ap (λ (t : Table). positions t) c.self.view_is in
-    let em : c.len-m.result ≡ positions t = c.len-m.ensures ∙ c.self.inside.basis.ok.0 ∙ ei in
-    let en : c.self.inside.columns ≡ t.columns = ap (λ (t : Table). t.columns) c.self.view_is in
-    let k = c.index-column.result.now in
-    let ek : k ≡ columns_of t.basis row = read_at c.self.inside.basis.items row k (omega (arith, ei, c.requires.row_in)) c.index-column.ensures ∙ ap (λ (t : Table). columns_of t.basis row) c.self.view_is in
-    let z = c.self.inside.columns + c.len-m.result + 3 in
-    let ez : c.self.inside.columns + c.len-m.result + 3 ≡ spare_column t.columns (positions t) = omega (arith, em, en) in
-    let inside : c.in-Err.i < c.len-m.result + 1 = c.in-Err.ensures.stopped.inside in
-    let el : c.replace.new.self.limit ≡ t.limit = c.replace.ensures.limit in
-    let a = pivotable_turn P t row h in
-    let count = c.len-m.result + 1 in
-    let t4 = c.replace-in-Err.new.self in
-    let b4 = c.replace-in-Err.ensures.basis in
-    let n4 = c.replace-in-Err.ensures.columns in
+    let em = c.positions-m.ensures.positions in
+    let ez : c.columns-n.result + c.positions-m.result + 3 ≡ spare_column t.columns (positions t) = omega (arith, c.columns-n.ensures.columns, em) in
+    let a = pivotable_turn P h in
+    let ek = c.basic-column.ensures.column in
+    let x = c.replace.ensures.exchanged in
+    let r2 = c.clear_others-cleared.new.self in
+    let b2 = c.clear_others-cleared.ensures.basis in
+    let n2 = c.clear_others-cleared.ensures.sized.columns in
+    let t4 = c.replace-2.new.self in
+    let b4 = c.replace-2.ensures.basis in
+    let n4 = c.replace-2.ensures.sized.columns in
     let sp = c.in-Err.ensures.stopped in
+    let inside : c.in-Err.i < c.positions-m.result + 1 = sp.inside in
     let il : c.in-Err.i ≤ positions t = omega (arith, em) in
-    let ib : c.in-Err.i ≤ positions h.before = omega (arith, begun_size h.before t row h.column a h.broken) in
-    subst (λ l. HasWideRow l P (columns_of t4.basis) c.in-Err.i) el
-    (turn_wide P t row h t4 (basis4 h.before t row h.column a h.broken k z ek ez c.replace.new.self c.replace.ensures.exchanged c.clear_others.new.self c.clear_others.ensures.basis c.clear_others.ensures.columns t4 b4 n4) c.replace.new.self.limit c.in-Err.i ib sp.other
-    (wide_again h.before t row h.column a h.broken k z ek ez c.replace.new.self c.replace.ensures.exchanged c.clear_others.new.self c.clear_others.ensures.basis c.clear_others.ensures.columns t4 b4 n4 c.replace.new.self.limit count c.in-Err.i sp il))
+    let ib : c.in-Err.i ≤ positions h.before = omega (arith, begun_size a h.broken) in
+    subst (λ l. HasWideRow l P (columns_of t4.basis) c.in-Err.i) c.replace.ensures.sized.limit
+    (turn_wide P h t4 (basis4 a h.broken ek ez x r2 b2 n2 t4 b4 n4) c.replace.new.self.limit c.in-Err.i ib sp.other
+    (wide_again a h.broken ek ez x r2 b2 n2 t4 b4 n4 c.replace.new.self.limit (c.positions-m.result + 1) c.in-Err.i sp il))
 
 pub returns-in-Err-clause-position : goal.returns-in-Err-clause-position
 returns-in-Err-clause-position g c =
-    let t = c.args.self.now in
-    let row = c.args.row in
-    let ei : length c.self.inside.basis.items ≡ positions t = ap (λ (t : Table). positions t) c.self.view_is in
-    let em : c.len-m.result ≡ positions t = c.len-m.ensures ∙ c.self.inside.basis.ok.0 ∙ ei in
-    let en : c.self.inside.columns ≡ t.columns = ap (λ (t : Table). t.columns) c.self.view_is in
-    let k = c.index-column.result.now in
-    let ek : k ≡ columns_of t.basis row = read_at c.self.inside.basis.items row k (omega (arith, ei, c.requires.row_in)) c.index-column.ensures ∙ ap (λ (t : Table). columns_of t.basis row) c.self.view_is in
-    let z = c.self.inside.columns + c.len-m.result + 3 in
-    let ez : c.self.inside.columns + c.len-m.result + 3 ≡ spare_column t.columns (positions t) = omega (arith, em, en) in
-    let inside : c.in-Err.i < c.len-m.result + 1 = c.in-Err.ensures.stopped.inside in
-    omega (arith, em)
+    let inside : c.in-Err.i < c.positions-m.result + 1 = c.in-Err.ensures.stopped.inside in
+    omega (arith, c.positions-m.ensures.positions)
 
-pub returns-in-Ok-clause-positions : goal.returns-in-Ok-clause-positions
-returns-in-Ok-clause-positions g c =
-    let t = c.args.self.now in
-    let row = c.args.row in
-    let ei : length c.self.inside.basis.items ≡ positions t = ap (λ (t : Table). positions t) c.self.view_is in
-    let em : c.len-m.result ≡ positions t = c.len-m.ensures ∙ c.self.inside.basis.ok.0 ∙ ei in
-    let en : c.self.inside.columns ≡ t.columns = ap (λ (t : Table). t.columns) c.self.view_is in
-    let k = c.index-column.result.now in
-    let ek : k ≡ columns_of t.basis row = read_at c.self.inside.basis.items row k (omega (arith, ei, c.requires.row_in)) c.index-column.ensures ∙ ap (λ (t : Table). columns_of t.basis row) c.self.view_is in
-    let z = c.self.inside.columns + c.len-m.result + 3 in
-    let ez : c.self.inside.columns + c.len-m.result + 3 ≡ spare_column t.columns (positions t) = omega (arith, em, en) in
-    ap length c.replace-in-Ok.ensures.basis ∙ length-set c.clear_others.new.self.basis row k ∙ ap length (c.clear_others.ensures.basis ∙ c.replace.ensures.basis) ∙ length-set t.basis row z
+pub returns-in-Ok-clause-sized : goal.returns-in-Ok-clause-sized
+returns-in-Ok-clause-sized g c = sized_after c.replace.ensures.sized (sized_after c.clear_others-cleared.ensures.sized c.replace-2.ensures.sized)
 
-pub returns-in-Err-clause-positions : goal.returns-in-Err-clause-positions
-returns-in-Err-clause-positions g c =
-    let t = c.args.self.now in
-    let row = c.args.row in
-    let ei : length c.self.inside.basis.items ≡ positions t = ap (λ (t : Table). positions t) c.self.view_is in
-    let em : c.len-m.result ≡ positions t = c.len-m.ensures ∙ c.self.inside.basis.ok.0 ∙ ei in
-    let en : c.self.inside.columns ≡ t.columns = ap (λ (t : Table). t.columns) c.self.view_is in
-    let k = c.index-column.result.now in
-    let ek : k ≡ columns_of t.basis row = read_at c.self.inside.basis.items row k (omega (arith, ei, c.requires.row_in)) c.index-column.ensures ∙ ap (λ (t : Table). columns_of t.basis row) c.self.view_is in
-    let z = c.self.inside.columns + c.len-m.result + 3 in
-    let ez : c.self.inside.columns + c.len-m.result + 3 ≡ spare_column t.columns (positions t) = omega (arith, em, en) in
-    ap length c.replace-in-Err.ensures.basis ∙ length-set c.clear_others.new.self.basis row k ∙ ap length (c.clear_others.ensures.basis ∙ c.replace.ensures.basis) ∙ length-set t.basis row z
+pub returns-in-Err-clause-sized : goal.returns-in-Err-clause-sized
+returns-in-Err-clause-sized g c = sized_after c.replace.ensures.sized (sized_after c.clear_others-cleared.ensures.sized c.replace-2.ensures.sized)

@@ -2,7 +2,7 @@ use Rattle.std.proofs.Common.{ℕ, ◌≤◌, IfErr, MatchResult, subst}
 use Rattle.rob_linear.specs.WideRows.{HasWideRow}
 use Rattle.rob_simplex.specs.Dictionaries.{columns_of}
 use Rattle.rob_simplex.specs.Explicit.{FirstTurns}
-use Rattle.rob_simplex.proofs.FirstTurns.{counts_after}
+use Rattle.rob_simplex.proofs.Sizes.{counted_after, sized_after}
 use Rattle.rob_simplex.proofs.dictionary.Dictionary.explicit_turns.Goals as goal
 
 pub drive_out-requires : goal.drive_out-requires
@@ -10,12 +10,14 @@ drive_out-requires g c = record { stands = (c.requires.opened.0, c.in-Ok.ensures
 
 pub returns-in-Ok-clause-ended : goal.returns-in-Ok-clause-ended
 returns-in-Ok-clause-ended g c P h =
-    subst (λ (l : ℕ). MatchResult c.drive_out.result (λ ending. FirstTurns P ending c.drive_out.new.self) (λ i. HasWideRow l P (columns_of c.drive_out.new.self.basis) i)) c.bring_in.ensures.limit
+    subst (λ (l : ℕ). MatchResult c.drive_out.result (λ ending. FirstTurns P ending c.drive_out.new.self) (λ i. HasWideRow l P (columns_of c.drive_out.new.self.basis) i)) c.bring_in.ensures.sized.limit
     (c.drive_out.ensures.ended P (c.in-Ok.ensures.ended P h))
 
 pub returns-in-Ok-clause-position : goal.returns-in-Ok-clause-position
-returns-in-Ok-clause-position g c = subst (λ (m : ℕ). IfErr c.drive_out.result (λ i. i ≤ m)) c.bring_in.ensures.positions c.drive_out.ensures.position
+returns-in-Ok-clause-position g c = subst (λ (m : ℕ). IfErr c.drive_out.result (λ i. i ≤ m)) c.bring_in.ensures.sized.positions c.drive_out.ensures.position
 
 pub returns-in-Ok-clause-counted : goal.returns-in-Ok-clause-counted
-returns-in-Ok-clause-counted g c =
-    counts_after g.L.Ledger.ops g.L.Ledger.wides c.args.ledger.now c.bring_in.new.ledger c.drive_out.new.ledger c.bring_in.ensures.counted.ops c.bring_in.ensures.counted.wides c.drive_out.ensures.counted
+returns-in-Ok-clause-counted g c = counted_after c.bring_in.ensures.counted c.drive_out.ensures.counted
+
+pub returns-in-Ok-clause-sized : goal.returns-in-Ok-clause-sized
+returns-in-Ok-clause-sized g c = sized_after c.bring_in.ensures.sized c.drive_out.ensures.sized

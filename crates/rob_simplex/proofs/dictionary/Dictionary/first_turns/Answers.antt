@@ -2,7 +2,8 @@ use Rattle.std.proofs.Common.{ℕ, ◌≤◌, IfErr, MatchResult, subst, inl}
 use Rattle.rob_linear.specs.WideRows.{HasWideRow}
 use Rattle.rob_simplex.specs.Dictionaries.{columns_of}
 use Rattle.rob_simplex.specs.Explicit.{FirstTurns}
-use Rattle.rob_simplex.proofs.FirstTurns.{starts_left, starts_beside, counts_after}
+use Rattle.rob_simplex.proofs.FirstTurns.{starts_left, starts_beside}
+use Rattle.rob_simplex.proofs.Sizes.{counted_after, sized_after}
 use Rattle.rob_simplex.proofs.dictionary.Dictionary.first_turns.Goals as goal
 
 pub returns-in_default-clause-ended : goal.returns-in_default-clause-ended
@@ -31,12 +32,14 @@ explicit_turns-requires g c = record {
 
 pub returns-in-Open-clause-ended : goal.returns-in-Open-clause-ended
 returns-in-Open-clause-ended g c P h =
-    subst (λ (l : ℕ). MatchResult c.explicit_turns.result (λ ending. FirstTurns P ending c.explicit_turns.new.self) (λ i. HasWideRow l P (columns_of c.explicit_turns.new.self.basis) i)) c.go_beside.ensures.limit
+    subst (λ (l : ℕ). MatchResult c.explicit_turns.result (λ ending. FirstTurns P ending c.explicit_turns.new.self) (λ i. HasWideRow l P (columns_of c.explicit_turns.new.self.basis) i)) c.go_beside.ensures.sized.limit
     (c.explicit_turns.ensures.ended P (c.in-Open.ensures.ended P (starts_beside P c.args.self.now h c.in-Some.q c.in-Some.ensures.least)))
 
 pub returns-in-Open-clause-position : goal.returns-in-Open-clause-position
-returns-in-Open-clause-position g c = subst (λ (m : ℕ). IfErr c.explicit_turns.result (λ i. i ≤ m)) c.go_beside.ensures.positions c.explicit_turns.ensures.position
+returns-in-Open-clause-position g c = subst (λ (m : ℕ). IfErr c.explicit_turns.result (λ i. i ≤ m)) c.go_beside.ensures.sized.positions c.explicit_turns.ensures.position
 
 pub returns-in-Open-clause-counted : goal.returns-in-Open-clause-counted
-returns-in-Open-clause-counted g c =
-    counts_after g.L.Ledger.ops g.L.Ledger.wides c.args.ledger.now c.go_beside.new.ledger c.explicit_turns.new.ledger c.go_beside.ensures.ops c.go_beside.ensures.wides c.explicit_turns.ensures.counted
+returns-in-Open-clause-counted g c = counted_after c.go_beside.ensures.counted c.explicit_turns.ensures.counted
+
+pub returns-in-Open-clause-sized : goal.returns-in-Open-clause-sized
+returns-in-Open-clause-sized g c = sized_after c.go_beside.ensures.sized c.explicit_turns.ensures.sized

@@ -10,7 +10,7 @@ improve_to_end-requires g c =
     let r = c.requires.starts in
     record {
       stands = (r.0, subst (λ v. FirstEnds r.0 v c.first_phase.new.self) c.in-Ok-Feasible.field-0-is (c.in-Ok-Feasible.ensures.ended r.0 r.1));
-      limit = subst (λ l. g.N.Exact.limit ≤ l) (sym c.first_phase.ensures.limit) c.requires.limit;
+      limit = subst (λ l. g.N.Exact.limit ≤ l) (sym c.first_phase.ensures.sized.limit) c.requires.limit;
     }
 
 pub returns-in-Ok-Feasible-clause-told : goal.returns-in-Ok-Feasible-clause-told
@@ -29,7 +29,7 @@ returns-in-Ok-Feasible-clause-caused g c P h =
 
 pub returns-in-Err-clause-caused : goal.returns-in-Err-clause-caused
 returns-in-Err-clause-caused g c P h =
-    inl (subst (λ l. HasWideRow l P (columns_of c.first_phase.new.self.basis) c.in-Err.i) (sym c.first_phase.ensures.limit) (c.in-Err.ensures.ended P h))
+    inl (subst (λ l. HasWideRow l P (columns_of c.first_phase.new.self.basis) c.in-Err.i) (sym c.first_phase.ensures.sized.limit) (c.in-Err.ensures.ended P h))
 
 pub returns-in-Ok-Feasible-clause-halted : goal.returns-in-Ok-Feasible-clause-halted
 returns-in-Ok-Feasible-clause-halted g c P h =
@@ -37,4 +37,4 @@ returns-in-Ok-Feasible-clause-halted g c P h =
 
 pub returns-in-Err-clause-halted : goal.returns-in-Err-clause-halted
 returns-in-Err-clause-halted g c P h =
-    subst (λ l. HasWideRow l P (columns_of c.first_phase.new.self.basis) c.in-Err.i) (sym c.first_phase.ensures.limit) (c.in-Err.ensures.ended P h)
+    subst (λ l. HasWideRow l P (columns_of c.first_phase.new.self.basis) c.in-Err.i) (sym c.first_phase.ensures.sized.limit) (c.in-Err.ensures.ended P h)

@@ -7,7 +7,7 @@ use Rattle.rob_simplex.proofs.dictionary.Dictionary.follow_second.Goals as goal
 pub improve_to_end-requires : goal.improve_to_end-requires
 improve_to_end-requires g c = record {
   stands = (c.requires.begun.0, c.in-Ok.ensures.turned c.requires.begun.0 c.requires.begun.1);
-  limit = subst (λ l. g.N.Exact.limit ≤ l) (sym c.end_turn.ensures.limit) c.requires.limit;
+  limit = subst (λ l. g.N.Exact.limit ≤ l) (sym c.end_turn.ensures.sized.limit) c.requires.limit;
 }
 
 pub returns-in-Ok-clause-told : goal.returns-in-Ok-clause-told
@@ -21,4 +21,4 @@ returns-in-Err-clause-told g c P h = wide_below g.N.Exact.limit c.args.self.now.
 
 pub returns-in-Err-clause-caused : goal.returns-in-Err-clause-caused
 returns-in-Err-clause-caused g c P h =
-    inl (subst (λ l. HasWideRow l P (columns_of c.end_turn.new.self.basis) c.in-Err.i) (sym c.end_turn.ensures.limit) (c.in-Err.ensures.wide P h))
+    inl (subst (λ l. HasWideRow l P (columns_of c.end_turn.new.self.basis) c.in-Err.i) (sym c.end_turn.ensures.sized.limit) (c.in-Err.ensures.wide P h))

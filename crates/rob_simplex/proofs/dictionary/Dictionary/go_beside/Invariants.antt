@@ -1,18 +1,15 @@
 -- The rows stand beside, and less turns are left with each turn.
-use Rattle.std.proofs.Common.{◌≡◌, ◌≤◌}
 use Rattle.rob_linear.specs.Programs.{Program}
-use Rattle.rob_simplex.specs.Dictionaries.{positions}
+use Rattle.rob_simplex.specs.Counting.{CountsRows}
+use Rattle.rob_simplex.specs.Dictionaries.{IsSized}
 use Rattle.rob_simplex.specs.Phases.{InBeside, turns_left_beside}
 use Rattle.rob_simplex.proofs.dictionary.Dictionary.go_beside.Given as goal
 
 abbrev pub invariant-turns : goal.invariant-turns
 invariant-turns g l = record {
   stands : (P : Program) → InBeside P l.fn.q l.fn.self → InBeside P l.fn.q l.self;
-  positions : positions l.self ≡ positions l.fn.self;
-  columns : l.self.columns ≡ l.fn.self.columns;
-  limit : l.self.limit ≡ l.fn.self.limit;
-  ops : g.L.Ledger.ops l.fn.ledger ≤ g.L.Ledger.ops l.ledger;
-  wides : g.L.Ledger.wides l.ledger ≡ g.L.Ledger.wides l.fn.ledger;
+  sized : IsSized l.fn.self l.self;
+  counted : CountsRows g.L.Ledger.ops g.L.Ledger.wides l.fn.ledger l.ledger;
 }
 
 abbrev pub decreases-turns : goal.decreases-turns

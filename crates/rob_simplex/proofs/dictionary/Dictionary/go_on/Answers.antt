@@ -3,7 +3,7 @@ use Rattle.std.specs.Prelude.{IfErr, MatchResult}
 use Rattle.rob_linear.specs.Vectors.{at}
 use Rattle.rob_linear.specs.Programs.{with_cost}
 use Rattle.rob_linear.specs.WideRows.{HasWideRowFrom}
-use Rattle.rob_simplex.specs.Dictionaries.{Table, positions, columns_of}
+use Rattle.rob_simplex.specs.Dictionaries.{positions, columns_of}
 use Rattle.rob_simplex.specs.Judging.{Tells}
 use Rattle.rob_simplex.specs.PathEnds.{PathStopsFrom}
 use Rattle.rob_simplex.specs.Phases.{EndsFrom}
@@ -17,7 +17,7 @@ put_on-requires-clause-within g c = within_above g.N.Exact.limit (2 ^ 62 - 1) g.
 pub improve_and_judge-requires : goal.improve_and_judge-requires
 improve_and_judge-requires g c = record {
   stands = (with_cost c.requires.stands.0 (at c.args.cost.now), c.in-Ok.ensures.put c.requires.stands.0 c.requires.stands.1);
-  limit = subst (λ l. g.N.Exact.limit ≤ l) (sym c.put_on.ensures.limit) c.requires.limit;
+  limit = subst (λ l. g.N.Exact.limit ≤ l) (sym c.put_on.ensures.sized.limit) c.requires.limit;
 }
 
 pub returns-in-Ok-clause-told : goal.returns-in-Ok-clause-told
@@ -28,9 +28,9 @@ returns-in-Ok-clause-told g c P h =
 
 pub returns-in-Err-clause-told : goal.returns-in-Err-clause-told
 returns-in-Err-clause-told g c P h =
-    let em : c.len.result ≡ positions c.put_on.new.self = c.len.ensures ∙ c.self.inside.basis.ok.0 ∙ ap (λ (t : Table). positions t) c.self.view_is in
-    wide_below_from g.N.Exact.limit c.args.self.now.limit c.requires.limit (with_cost P (at c.args.cost.now)) (columns_of c.args.self.now.basis) (columns_of c.put_on.new.self.basis) c.len.result
-    (cost_refused c.args.self.now.limit P (at c.args.cost.now) c.args.self.now c.put_on.new.self.basis c.len.result h c.put_on.ensures.basis (em ∙ ap length c.put_on.ensures.basis ∙ h.rows_are) (c.in-Err.ensures.wide P h))
+    let em : c.positions.result ≡ positions c.put_on.new.self = c.positions.ensures.positions in
+    wide_below_from g.N.Exact.limit c.args.self.now.limit c.requires.limit (with_cost P (at c.args.cost.now)) (columns_of c.args.self.now.basis) (columns_of c.put_on.new.self.basis) c.positions.result
+    (cost_refused c.args.self.now.limit P (at c.args.cost.now) c.args.self.now c.put_on.new.self.basis c.positions.result h c.put_on.ensures.basis (em ∙ ap length c.put_on.ensures.basis ∙ h.rows_are) (c.in-Err.ensures.wide P h))
 
 pub returns-in-Ok-clause-caused : goal.returns-in-Ok-clause-caused
 returns-in-Ok-clause-caused g c P h =
@@ -40,6 +40,6 @@ returns-in-Ok-clause-caused g c P h =
 
 pub returns-in-Err-clause-caused : goal.returns-in-Err-clause-caused
 returns-in-Err-clause-caused g c P h =
-    let em : c.len.result ≡ positions c.put_on.new.self = c.len.ensures ∙ c.self.inside.basis.ok.0 ∙ ap (λ (t : Table). positions t) c.self.view_is in
-    inl (subst (λ l. HasWideRowFrom l (with_cost P (at c.args.cost.now)) (columns_of c.args.self.now.basis) (columns_of c.put_on.new.self.basis) c.len.result) (sym c.put_on.ensures.limit)
-    (cost_refused c.args.self.now.limit P (at c.args.cost.now) c.args.self.now c.put_on.new.self.basis c.len.result h c.put_on.ensures.basis (em ∙ ap length c.put_on.ensures.basis ∙ h.rows_are) (c.in-Err.ensures.wide P h)))
+    let em : c.positions.result ≡ positions c.put_on.new.self = c.positions.ensures.positions in
+    inl (subst (λ l. HasWideRowFrom l (with_cost P (at c.args.cost.now)) (columns_of c.args.self.now.basis) (columns_of c.put_on.new.self.basis) c.positions.result) (sym c.put_on.ensures.sized.limit)
+    (cost_refused c.args.self.now.limit P (at c.args.cost.now) c.args.self.now c.put_on.new.self.basis c.positions.result h c.put_on.ensures.basis (em ∙ ap length c.put_on.ensures.basis ∙ h.rows_are) (c.in-Err.ensures.wide P h)))

@@ -1,10 +1,11 @@
-use Rattle.std.proofs.Common.{◌≡◌, ◌∙◌, refl, sym, subst, arith, Some, None}
+use Rattle.std.proofs.Common.{◌≡◌, ◌∙◌, sym, subst, Some, None}
 use Rattle.rob_linear.specs.WideRows.{HasWideRowFrom}
 use Rattle.rob_simplex.specs.Dictionaries.{columns_of}
 use Rattle.rob_simplex.specs.Begun.{StandsFrom}
 use Rattle.rob_simplex.specs.Phases.{HasTurned}
 use Rattle.rob_simplex.proofs.BegunTurns.{begun_where}
 use Rattle.rob_simplex.proofs.PathsFrom.{from_here, one_turn, ends_from, refused_from}
+use Rattle.rob_simplex.proofs.Sizes.{sized_same, sized_after, counted_same, counted_after}
 use Rattle.rob_simplex.proofs.dictionary.Dictionary.improve.Goals as goal
 
 pub returns-in-Ok-Optimal-clause-told : goal.returns-in-Ok-Optimal-clause-told
@@ -22,11 +23,8 @@ returns-in-Ok-Unbounded-clause-told g c P h =
 pub turns-init : goal.turns-init
 turns-init g c = record {
   stands = λ P h. (h, from_here P c.args.self.now h);
-  positions = refl;
-  columns = refl;
-  limit = refl;
-  ops = omega arith;
-  wides = refl;
+  sized = sized_same;
+  counted = counted_same;
 }
 
 pub turns-preserved : goal.turns-preserved
@@ -35,11 +33,8 @@ turns-preserved g c = record {
       let i = c.turns.invariant.stands P h in
       let told = subst (λ v. HasTurned P v c.turns.self c.advance.new.self) c.in-Ok-Replaced.field-0-is (c.in-Ok-Replaced.ensures.turned P i.0) in
       (told.0, one_turn P (columns_of c.args.self.now.basis) c.turns.self c.advance.new.self i.1 told.1);
-  positions = c.advance.ensures.positions ∙ c.turns.invariant.positions;
-  columns = c.advance.ensures.columns ∙ c.turns.invariant.columns;
-  limit = c.advance.ensures.limit ∙ c.turns.invariant.limit;
-  ops = omega (arith, c.advance.ensures.ops, c.turns.invariant.ops);
-  wides = c.advance.ensures.wides ∙ c.turns.invariant.wides;
+  sized = sized_after c.turns.invariant.sized c.advance.ensures.sized;
+  counted = counted_after c.turns.invariant.counted c.advance.ensures.counted;
 }
 
 pub turns-smaller : goal.turns-smaller
@@ -50,7 +45,7 @@ turns-smaller g c =
 pub returns-in-Err-clause-told : goal.returns-in-Err-clause-told
 returns-in-Err-clause-told g c P h =
     let i = c.turns.invariant.stands P h in
-    subst (λ l. HasWideRowFrom l P (columns_of c.args.self.now.basis) (columns_of c.advance.new.self.basis) c.in-Err.halt.position) c.turns.invariant.limit
+    subst (λ l. HasWideRowFrom l P (columns_of c.args.self.now.basis) (columns_of c.advance.new.self.basis) c.in-Err.halt.position) c.turns.invariant.sized.limit
     (refused_from c.turns.self.limit P (columns_of c.args.self.now.basis) c.turns.self c.advance.new.self c.in-Err.halt.position i.1 (c.in-Err.ensures.wide P i.0))
 
 pub returns-in-Err-clause-begun : goal.returns-in-Err-clause-begun

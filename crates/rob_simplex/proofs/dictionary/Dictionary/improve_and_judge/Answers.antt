@@ -27,7 +27,7 @@ returns-in-Some-clause-caused g c P h = inr (ends_wide_from g.N.Exact.limit P (c
 
 pub returns-in-Err-clause-caused : goal.returns-in-Err-clause-caused
 returns-in-Err-clause-caused g c P h =
-    inl (subst (λ l. HasWideRowFrom l P (columns_of c.args.self.now.basis) (columns_of c.improve.new.self.basis) c.in-Err.halt.position) (sym c.improve.ensures.limit) (c.in-Err.ensures.told P h))
+    inl (subst (λ l. HasWideRowFrom l P (columns_of c.args.self.now.basis) (columns_of c.improve.new.self.basis) c.in-Err.halt.position) (sym c.improve.ensures.sized.limit) (c.in-Err.ensures.told P h))
 
 pub returns-in-Some-clause-halted : goal.returns-in-Some-clause-halted
 returns-in-Some-clause-halted g c P h = ends_wide_from g.N.Exact.limit P (columns_of c.args.self.now.basis) c.improve.new.self c.in-Ok.growing c.in-Some.i (c.in-Ok.ensures.told P h) c.in-Some.ensures.judged.1

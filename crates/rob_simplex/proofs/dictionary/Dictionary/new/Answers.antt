@@ -4,7 +4,7 @@ use Rattle.rob_linear.specs.Vectors.{at}
 use Rattle.rob_simplex.specs.Tables.{row_at, HasBounds}
 use Rattle.rob_simplex.specs.Dictionaries.{columns_of}
 use Rattle.rob_simplex.specs.Starts.{start_place, start_column, start_entry}
-use Rattle.rob_simplex.proofs.WrittenBack.{written_back}
+use Rattle.rob_entries.proofs.WrittenRows.{written_back}
 use Rattle.rob_simplex.proofs.StartLemmas.{start_is_sound, sound_carry, starting, starting_carry, zero_bounds}
 use Rattle.rob_simplex.proofs.dictionary.Dictionary.new.Goals as goal
 

@@ -1,8 +1,23 @@
-use Rattle.std.proofs.Common.{◌≡◌, ◌∙◌, ℕ, ap, subst, arith, List, length, set}
-use Rattle.std.proofs.lemmas.List.{length-set}
+use Rattle.std.proofs.Common.{◌≡◌, ◌∙◌, ℕ, ap, subst, arith, List, set}
 use Rattle.rob_simplex.specs.Dictionaries.{positions, spare_column, IsExchanged}
-use Rattle.rob_simplex.proofs.PivotLemmas.{set_twice}
+use Rattle.rob_simplex.proofs.PivotLemmas.{set_twice, free_begun}
+use Rattle.rob_simplex.proofs.Sizes.{sized_after}
 use Rattle.rob_simplex.proofs.dictionary.Dictionary.pivot.Goals as goal
+
+pub replace-requires : goal.replace-requires
+replace-requires g c =
+    let a = c.requires.ready in
+    let s = c.pivot_or_open.ensures.sized in
+    record {
+      row_in = omega (arith, a.row_in, s.positions);
+      free = free_begun c.args.self.now c.pivot_or_open.new.self c.args.row c.args.column a.row_in a.free a.apart c.in-Err.ensures.begun s.columns;
+    }
+
+pub returns-in-Ok-clause-small : goal.returns-in-Ok-clause-small
+returns-in-Ok-clause-small g c = c.in-Ok.ensures.pivoted.small
+
+pub returns-in-Ok-clause-basis : goal.returns-in-Ok-clause-basis
+returns-in-Ok-clause-basis g c = c.in-Ok.ensures.pivoted.basis
 
 pub returns-in-Err-clause-basis : goal.returns-in-Err-clause-basis
 returns-in-Err-clause-basis g c =
@@ -11,12 +26,16 @@ returns-in-Err-clause-basis g c =
 
 pub returns-in-Err-clause-broken : goal.returns-in-Err-clause-broken
 returns-in-Err-clause-broken g c =
-    let em : positions c.pivot_or_open.new.self ≡ positions c.args.self.now =
-    ap length c.in-Err.ensures.begun.basis ∙ length-set c.args.self.now.basis c.args.row (spare_column c.args.self.now.columns (positions c.args.self.now)) in
-    let es : spare_column c.pivot_or_open.new.self.columns (positions c.pivot_or_open.new.self) ≡ spare_column c.args.self.now.columns (positions c.args.self.now) = omega (arith, em, c.pivot_or_open.ensures.columns) in
+    let t = c.args.self.now in
+    let half = c.pivot_or_open.new.self in
+    let s = c.pivot_or_open.ensures.sized in
+    let es : spare_column half.columns (positions half) ≡ spare_column t.columns (positions t) = omega (arith, s.positions, s.columns) in
     record {
-      half = c.pivot_or_open.new.self;
+      half = half;
       begun = c.in-Err.ensures.begun;
-      columns_are = c.pivot_or_open.ensures.columns;
-      told = subst (λ k. IsExchanged c.pivot_or_open.new.self c.replace.new.self c.args.row k c.args.column) (c.in-Err.ensures.begun.opened.spare ∙ es) c.replace.ensures.exchanged;
+      columns_are = s.columns;
+      told = subst (λ k. IsExchanged half c.replace.new.self c.args.row k c.args.column) (c.in-Err.ensures.begun.opened.spare ∙ es) c.replace.ensures.exchanged;
     }
+
+pub returns-in-Err-clause-sized : goal.returns-in-Err-clause-sized
+returns-in-Err-clause-sized g c = sized_after c.pivot_or_open.ensures.sized c.replace.ensures.sized

@@ -13,15 +13,15 @@ use Rattle.rob_simplex.proofs.NewCosts.{nothing_put}
 use Rattle.rob_simplex.proofs.CostStages.{half_wide, next_lowered}
 use Rattle.rob_simplex.proofs.dictionary.Dictionary.put_in.Goals as goal
 
-pub lower-requires-clause-free : goal.lower-requires-clause-free
-lower-requires-clause-free g c =
-    column_free (truncated c.requires.stands.0 c.args.column) c.args.self.now c.requires.stands.1 c.args.column c.requires.column_in (position_not c.args.self.now.basis c.args.column c.in-None.ensures.position)
-
 pub lower-requires-clause-way : goal.lower-requires-clause-way
-lower-requires-clause-way g c = way_free (truncated c.requires.stands.0 c.args.column) c.args.self.now c.requires.stands.1
-
-pub lower-requires-clause-zero : goal.lower-requires-clause-zero
-lower-requires-clause-zero g c = way_zero (truncated c.requires.stands.0 c.args.column) c.args.self.now c.requires.stands.1
+lower-requires-clause-way g c =
+    let h = c.requires.stands.1 in
+    record {
+      free = column_free h c.args.column c.requires.column_in (position_not c.args.self.now.basis c.args.column c.in-None.ensures.position);
+      way = way_free h;
+      other = λ e. absurd (omega (arith, e, c.requires.column_in));
+      zero = way_zero h;
+    }
 
 pub lower-requires-clause-own : goal.lower-requires-clause-own
 lower-requires-clause-own g c z =
@@ -40,7 +40,7 @@ pub returns-in-None-clause-put : goal.returns-in-None-clause-put
 returns-in-None-clause-put g c P ef h =
     let seen : to_z w64 (of_z w64 c.args.factor) ≡ c.args.factor = to_z-of_z w64 c.args.factor c.ranges.factor in
     on_ok_weaker c.lower.result
-    (next_lowered P c.args.column (omega (arith, c.requires.column_in, h.columns_are)) c.args.self.now h c.args.factor ef c.lower.new.self c.lower.ensures.basis c.lower.ensures.columns
+    (next_lowered P c.args.column (omega (arith, c.requires.column_in, h.columns_are)) c.args.self.now h c.args.factor ef c.lower.new.self c.lower.ensures.basis c.lower.ensures.sized.columns
     (position_not c.args.self.now.basis c.args.column c.in-None.ensures.position) c.lower.ensures.rows)
     (subst (λ (z : ℤ). OnOk c.lower.result (IsLowered (width_of c.args.self.now) c.args.column (amount_of c.args.self.now z) (rows_of c.args.self.now (positions c.args.self.now)) (rows_of c.lower.new.self (positions c.args.self.now)))) seen
     c.lower.ensures.lowered)

@@ -1,4 +1,4 @@
-use Rattle.std.proofs.Common.{◌≡◌, ℕ, ◌-◌, ◌^◌, ◌≤◌, ◌∙◌, refl, sym, subst, arith, List, nat_abs, get_or, add-one, to_z, of_z, w64}
+use Rattle.std.proofs.Common.{◌≡◌, ℕ, ◌-◌, ◌^◌, ◌≤◌, ◌∙◌, sym, subst, arith, List, nat_abs, get_or, add-one, to_z, of_z, w64}
 use lib.IntN.{pos}
 use Rattle.rob_linear.specs.Vectors.{at}
 use Rattle.rob_linear.specs.Programs.{with_cost}
@@ -6,18 +6,17 @@ use Rattle.rob_linear.specs.Stages.{truncated}
 use Rattle.rob_linear.specs.WideRows.{IsOwnWideAt}
 use Rattle.rob_simplex.specs.Dictionaries.{columns_of}
 use Rattle.rob_simplex.specs.Phases.{StandsFor}
-use Rattle.rob_simplex.proofs.Places.{seen_within}
+use Rattle.rob_number.proofs.CastLemmas.{seen_within}
 use Rattle.rob_simplex.proofs.NewCosts.{cost_dropped, all_put}
+use Rattle.rob_simplex.proofs.Sizes.{sized_after, counted_same, counted_after}
 use Rattle.rob_simplex.proofs.dictionary.Dictionary.put_on.Goals as goal
 
 pub loop-k-init : goal.loop-k-init
 loop-k-init g c = record {
-  stands = λ P h. cost_dropped P (at c.args.cost.now) c.args.self.now c.drop_cost.new.self h c.drop_cost.ensures.basis c.drop_cost.ensures.columns c.drop_cost.ensures.objective c.drop_cost.ensures.rows;
+  stands = λ P h. cost_dropped P (at c.args.cost.now) c.args.self.now c.drop_cost.new.self h c.drop_cost.ensures.basis c.drop_cost.ensures.sized.columns c.drop_cost.ensures.objective c.drop_cost.ensures.rows;
   basis = c.drop_cost.ensures.basis;
-  columns = c.drop_cost.ensures.columns;
-  limit = c.drop_cost.ensures.limit;
-  ops = omega arith;
-  wides = refl;
+  sized = c.drop_cost.ensures.sized;
+  counted = counted_same;
 }
 
 pub put_in-requires-clause-stands : goal.put_in-requires-clause-stands
@@ -30,10 +29,8 @@ loop-k-preserved g c =
     record {
       stands = λ P h. subst (λ (k : ℕ). StandsFor (truncated (with_cost P (at c.args.cost.now)) k) c.put_in.new.self) (sym (add-one c.loop-k.k)) (c.in-Ok.ensures.put (with_cost P (at c.args.cost.now)) (sym seen) (c.loop-k.invariant.stands P h));
       basis = c.put_in.ensures.basis ∙ c.loop-k.invariant.basis;
-      columns = c.put_in.ensures.columns ∙ c.loop-k.invariant.columns;
-      limit = c.put_in.ensures.limit ∙ c.loop-k.invariant.limit;
-      ops = omega (arith, c.put_in.ensures.ops, c.loop-k.invariant.ops);
-      wides = c.put_in.ensures.wides ∙ c.loop-k.invariant.wides;
+      sized = sized_after c.loop-k.invariant.sized c.put_in.ensures.sized;
+      counted = counted_after c.loop-k.invariant.counted c.put_in.ensures.counted;
     }
 
 pub returns-in-Err-clause-wide : goal.returns-in-Err-clause-wide
@@ -41,7 +38,7 @@ returns-in-Err-clause-wide g c P h =
     let small : nat_abs (get_or c.args.cost.now c.loop-k.k (pos 0)) ≤ 2 ^ 62 - 1 = c.requires.within c.loop-k.k (pos 0) c.loop-k-test.true in
     let seen : to_z w64 (of_z w64 (get_or c.args.cost.now c.loop-k.k (pos 0))) ≡ get_or c.args.cost.now c.loop-k.k (pos 0) = seen_within (2 ^ 62 - 1) (get_or c.args.cost.now c.loop-k.k (pos 0)) (omega arith) small in
     subst (λ (b : List ℕ). IsOwnWideAt c.args.self.now.limit (with_cost P (at c.args.cost.now)) (columns_of b) P.m) c.loop-k.invariant.basis
-    (subst (λ (l : ℕ). IsOwnWideAt l (with_cost P (at c.args.cost.now)) (columns_of c.loop-k.self.basis) P.m) c.loop-k.invariant.limit
+    (subst (λ (l : ℕ). IsOwnWideAt l (with_cost P (at c.args.cost.now)) (columns_of c.loop-k.self.basis) P.m) c.loop-k.invariant.sized.limit
     (c.in-Err.ensures.wide (with_cost P (at c.args.cost.now)) (sym seen) (c.loop-k.invariant.stands P h)))
 
 pub returns-clause-put : goal.returns-clause-put

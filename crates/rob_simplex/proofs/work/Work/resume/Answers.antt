@@ -31,19 +31,19 @@ invariant_of-self g c =
     let v : Solver = record { state = c.self.inside.state; dictionary = c.self.inside.dictionary; weights = c.self.inside.weights } in
     let P = c.requires.stands.0 in
     let told = subst (λ e. EndsFrom (with_cost P (at c.args.cost.now)) (columns_of c.self.inside.dictionary.basis) e c.go_on.new.self × Tells g.N.Exact.limit e c.go_on.new.self) c.in-Ok-None.field-0-is (c.in-Ok-None.ensures.told P (resumed_stands P v c.args.self.now c.self.view_is c.requires.stands.1)) in
-    sound_optimal g.E.Entry.top g.N.Exact.limit v c.self.invariant c.go_on.new.self c.self.inside.weights c.go_on.ensures.limit c.go_on.ensures.columns c.go_on.ensures.positions c.self.invariant.weights_size (with_cost P (at c.args.cost.now)) told.0.own told.1
+    sound_optimal c.self.invariant c.go_on.new.self c.self.inside.weights c.go_on.ensures.sized.limit c.go_on.ensures.sized.columns c.go_on.ensures.sized.positions c.self.invariant.weights_size (with_cost P (at c.args.cost.now)) told.0.own told.1
 
 pub invariant_of-self-in-Ok-Some : goal.invariant_of-self-in-Ok-Some
 invariant_of-self-in-Ok-Some g c =
     let v : Solver = record { state = c.self.inside.state; dictionary = c.self.inside.dictionary; weights = c.self.inside.weights } in
     let P = c.requires.stands.0 in
     let told = subst (λ e. EndsFrom (with_cost P (at c.args.cost.now)) (columns_of c.self.inside.dictionary.basis) e c.go_on.new.self × Tells g.N.Exact.limit e c.go_on.new.self) c.in-Ok-Some.field-0-is (c.in-Ok-Some.ensures.told P (resumed_stands P v c.args.self.now c.self.view_is c.requires.stands.1)) in
-    sound_unbounded g.E.Entry.top g.N.Exact.limit v c.self.invariant c.go_on.new.self c.self.inside.weights c.go_on.ensures.limit c.go_on.ensures.columns c.go_on.ensures.positions c.self.invariant.weights_size (with_cost P (at c.args.cost.now)) told.0.own c.in-Ok-Some.column told.0.ends.0.inside told.1
+    sound_unbounded c.self.invariant c.go_on.new.self c.self.inside.weights c.go_on.ensures.sized.limit c.go_on.ensures.sized.columns c.go_on.ensures.sized.positions c.self.invariant.weights_size (with_cost P (at c.args.cost.now)) told.0.own c.in-Ok-Some.column told.0.ends.0.inside told.1
 
 pub invariant_of-self-in-Err : goal.invariant_of-self-in-Err
 invariant_of-self-in-Err g c =
     let v : Solver = record { state = c.self.inside.state; dictionary = c.self.inside.dictionary; weights = c.self.inside.weights } in
-    sound_stopped g.E.Entry.top g.N.Exact.limit v c.self.invariant c.go_on.new.self c.self.inside.weights c.go_on.ensures.limit c.go_on.ensures.columns c.go_on.ensures.positions c.self.invariant.weights_size Elsewhere
+    sound_stopped c.self.invariant c.go_on.new.self c.self.inside.weights c.go_on.ensures.sized.limit c.go_on.ensures.sized.columns c.go_on.ensures.sized.positions c.self.invariant.weights_size Elsewhere
 
 pub returns-in-Ok-None-clause-resumed : goal.returns-in-Ok-None-clause-resumed
 returns-in-Ok-None-clause-resumed g c P h =
