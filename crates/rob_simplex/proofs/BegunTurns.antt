@@ -27,16 +27,28 @@ use Rattle.rob_simplex.proofs.ReadRows.{basic_low, basic_high}
 use Rattle.rob_simplex.proofs.SecondPhase.{entering_free, not_spare, turn_second, turns_on, wide_second}
 
 -- ---- what is known where a path stopped
-pub turn_where : (A B : Table → Type 0) → ((t : Table) → A t → B t) → (t : Table) (row : ℕ) → HasBegunTurn A t row → HasBegunTurn B t row
-turn_where A B f t row h = record { before = h.before; stood = f h.before h.stood; column = h.column; enters = h.enters; leaves = h.leaves; broken = h.broken }
+pub turn_where : (A B : Table → Type 0) → ((t : Table) → A t → B t) → (t : Table) (row : ℕ) → HasBegunTurn A t row
+    → HasBegunTurn B t row
+turn_where A B f t row h =
+    record {
+      before = h.before;
+      stood = f h.before h.stood;
+      column = h.column;
+      enters = h.enters;
+      leaves =
+          h.leaves;
+      broken = h.broken;
+    }
 
-pub begun_where : (A B : Table → Type 0) → ((t : Table) → A t → B t) → (cause : Cause) (t : Table) → HasBegunAt A cause t → HasBegunAt B cause t
+pub begun_where : (A B : Table → Type 0) → ((t : Table) → A t → B t) → (cause : Cause) (t : Table)
+    → HasBegunAt A cause t → HasBegunAt B cause t
 begun_where A B f Told t h = h
 begun_where A B f (Turn row) t h = turn_where A B f t row h
 begun_where A B f First t h = h
 begun_where A B f Elsewhere t h = h
 
-pub halts_begun : (IsEnd : Columns → Type 0) (Stood : Table → Type 0) (limit : ℕ) (P : Program) (i : ℕ) (cause : Cause) (t : Table) → HasBegunAt Stood cause t → HaltsAt IsEnd Stood limit P i cause t
+pub halts_begun : (IsEnd : Columns → Type 0) (Stood : Table → Type 0) (limit : ℕ) (P : Program) (i : ℕ) (cause : Cause)
+    (t : Table) → HasBegunAt Stood cause t → HaltsAt IsEnd Stood limit P i cause t
 halts_begun IsEnd Stood limit P i Told t h = absurd h
 halts_begun IsEnd Stood limit P i (Turn row) t h = h
 halts_begun IsEnd Stood limit P i First t h = absurd h
@@ -45,18 +57,23 @@ halts_begun IsEnd Stood limit P i Elsewhere t h = h
 -- on the path that goes on from a basis of the program's path
 stands_on : (P : Program) (t : Table) → InSecond P t → (u : Table) → StandsFrom P (columns_of t.basis) u → InSecond P u
 stands_on P t h u s =
-    let w : Reached P (columns_of u.basis) × ¬ (HasAuxiliary P (columns_of u.basis)) = turned_on P s.1.turns (columns_of t.basis) (columns_of u.basis) h.reached h.without s.1.turned in
+    let w : Reached P (columns_of u.basis) × ¬ (HasAuxiliary P (columns_of u.basis)) =
+    turned_on P s.1.turns (columns_of t.basis) (columns_of u.basis) h.reached h.without s.1.turned in
     record { own = s.0; reached = w.0; without = w.1 }
 
-pub halts_on : (limit : ℕ) (P : Program) (t t' : Table) (i : ℕ) (cause : Cause) → InSecond P t → HaltsAt (LastFrom P (columns_of t.basis)) (StandsFrom P (columns_of t.basis)) limit P i cause t' → HaltsAt (Last P) (InSecond P) limit P i cause t'
+pub halts_on : (limit : ℕ) (P : Program) (t t' : Table) (i : ℕ) (cause : Cause) → InSecond P t
+    → HaltsAt (LastFrom P (columns_of t.basis)) (StandsFrom P (columns_of t.basis)) limit P i cause t'
+    → HaltsAt (Last P) (InSecond P) limit P i cause t'
 halts_on limit P t t' i Told h w =
     let b = second_from P t t' w.growing h (record { own = w.own; reached = w.last.reached; ends = w.ends }) in
     ends_wide limit P t' w.growing i b.0 b.1 w.wide
-halts_on limit P t t' i (Turn row) h w = turn_where (StandsFrom P (columns_of t.basis)) (InSecond P) (stands_on P t h) t' row w
+halts_on limit P t t' i (Turn row) h w =
+    turn_where (StandsFrom P (columns_of t.basis)) (InSecond P) (stands_on P t h) t' row w
 halts_on limit P t t' i First h w = w
 halts_on limit P t t' i Elsewhere h w = w
 
-pub halted_path : (limit : ℕ) (P : Program) (s : Solver) (i : ℕ) (cause : Cause) → HaltsAt (Last P) (InSecond P) limit P i cause s.dictionary → halted_by limit P i s cause
+pub halted_path : (limit : ℕ) (P : Program) (s : Solver) (i : ℕ) (cause : Cause)
+    → HaltsAt (Last P) (InSecond P) limit P i cause s.dictionary → halted_by limit P i s cause
 halted_path limit P s i Told h = inl h
 halted_path limit P s i (Turn row) h = h
 halted_path limit P s i First h = h
@@ -71,19 +88,30 @@ module _ (P : Program) {t : Table} {row : ℕ} (h : HasBegunTurn (InSecond P) t 
   size_is = omega (arith, st.rows_are, st.columns_are)
 
   -- the row of the pivot is 0 in the columns of the other positions
-  top_zero : (i : ℕ) → i ≤ positions h.before → i ≢ row → rows_of h.before row (basic_columns h.before.columns h.before.basis i) ≡ pos 0
+  top_zero : (i : ℕ) → i ≤ positions h.before → i ≢ row
+      → rows_of h.before row (basic_columns h.before.columns h.before.basis i) ≡ pos 0
   top_zero i il d =
-      let z = (st.stands.multiples.rows_of row (let l : row < positions h.before = h.leaves.inside in omega (arith, st.rows_are))).along.zeros i (omega (arith, st.rows_are)) d in
+      let z =
+      (st.stands.multiples.rows_of row
+      (let l : row < positions h.before = h.leaves.inside in omega (arith, st.rows_are))).along.zeros i
+      (omega (arith, st.rows_are)) d in
       elim (cases_lt i (positions h.before)) [
         | inl l ↦
             let im : i < P.m = omega (arith, st.rows_are) in
-            let e : own_of (system_of P) (columns_of h.before.basis) i ≡ columns_of h.before.basis i = own_low (system_of P) (columns_of h.before.basis) i im in
-            let c : columns_of h.before.basis i < P.n + P.m = subst (λ k. k < P.n + P.m) e (st.stands.multiples.inside i im) in
-            ap (rows_of h.before row) (basic_low h.before.columns h.before.basis i l ∙ sym (place_low P (columns_of h.before.basis i) c) ∙ ap (auxiliary_place P) (sym e)) ∙ z
+            let e : own_of (system_of P) (columns_of h.before.basis) i ≡ columns_of h.before.basis i =
+            own_low (system_of P) (columns_of h.before.basis) i im in
+            let c : columns_of h.before.basis i < P.n + P.m =
+            subst (λ k. k < P.n + P.m) e (st.stands.multiples.inside i im) in
+            ap (rows_of h.before row)
+            (basic_low h.before.columns h.before.basis i l ∙ sym (place_low P (columns_of h.before.basis i) c)
+            ∙ ap (auxiliary_place P) (sym e)) ∙ z
         | inr l ↦
-            let e : own_of (system_of P) (columns_of h.before.basis) i ≡ P.n + P.m = own_high (system_of P) (columns_of h.before.basis) i (omega (arith, st.rows_are)) in
+            let e : own_of (system_of P) (columns_of h.before.basis) i ≡ P.n + P.m =
+            own_high (system_of P) (columns_of h.before.basis) i (omega (arith, st.rows_are)) in
             let x : suc (h.before.columns + positions h.before) ≡ suc (P.n + P.m) = omega (arith, size_is) in
-            ap (rows_of h.before row) (basic_high h.before.columns h.before.basis i l ∙ x ∙ sym (place_high P (P.n + P.m) (omega arith)) ∙ ap (auxiliary_place P) (sym e)) ∙ z
+            ap (rows_of h.before row)
+            (basic_high h.before.columns h.before.basis i l ∙ x ∙ sym (place_high P (P.n + P.m) (omega arith))
+            ∙ ap (auxiliary_place P) (sym e)) ∙ z
       ]
 
   pub pivotable_turn : IsPivotable h.before row h.column
@@ -94,7 +122,9 @@ module _ (P : Program) {t : Table} {row : ℕ} (h : HasBegunTurn (InSecond P) t 
     others_apart = λ i il d. st.closed.free i il;
     positive = h.leaves.positive;
     inside = λ i il d. basics_inside st i il;
-    own = λ i il d. some_of (rows_of h.before i (basic_columns h.before.columns h.before.basis i)) (own_positive h.before (stands_own P h.before st) i il);
+    own =
+        λ i il d. some_of (rows_of h.before i (basic_columns h.before.columns h.before.basis i))
+        (own_positive h.before (stands_own P h.before st) i il);
     top_zero = top_zero;
   }
 
@@ -103,10 +133,13 @@ module _ (P : Program) {t : Table} {row : ℕ} (h : HasBegunTurn (InSecond P) t 
     turn_ended p c en =
         stands_on P h.before h.stood t' (
           turn_second st h.enters h.leaves t' p c eb en,
-          one_turn P (columns_of h.before.basis) h.before t' (from_here P h.before st) (turns_on st h.enters h.leaves t' eb),
+          one_turn P (columns_of h.before.basis) h.before t' (from_here P h.before st)
+              (turns_on st h.enters h.leaves t' eb),
         )
 
-    pub turn_wide : (limit i : ℕ) → i ≤ positions h.before → i ≢ row → IsWideCleared limit (width_of h.before) h.column (rows_of h.before i) (rows_of h.before row) → HasWideRow limit P (columns_of t'.basis) i
+    pub turn_wide : (limit i : ℕ) → i ≤ positions h.before → i ≢ row
+        → IsWideCleared limit (width_of h.before) h.column (rows_of h.before i) (rows_of h.before row)
+        → HasWideRow limit P (columns_of t'.basis) i
     turn_wide limit i il d w =
         wide_from limit P h.before (columns_of t'.basis) i h.stood
         (refused_from limit P (columns_of h.before.basis) h.before t' i (from_here P h.before st)

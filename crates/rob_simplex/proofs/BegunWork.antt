@@ -17,8 +17,11 @@ use Rattle.rob_simplex.proofs.CopiedTables.{solver_of}
 use Rattle.rob_simplex.proofs.Deepened.{deep_is}
 
 -- what was begun, in the dictionary
-pub begun_here : (P : Program) (v s : Solver) → v ≡ s → HasBegun P s → (cause : Cause) → s.state ≡ Stopped cause → HasBegunAt (InSecond P) cause v.dictionary
-begun_here P v s e h cause st = subst (λ (u : Solver). HasBegunAt (InSecond P) cause u.dictionary) (sym e) (subst (λ (x : State). begun_in P s x) st h)
+pub begun_here : (P : Program) (v s : Solver) → v ≡ s → HasBegun P s → (cause : Cause) → s.state ≡ Stopped cause
+    → HasBegunAt (InSecond P) cause v.dictionary
+begun_here P v s e h cause st =
+    subst (λ (u : Solver). HasBegunAt (InSecond P) cause u.dictionary) (sym e)
+    (subst (λ (x : State). begun_in P s x) st h)
 
 stopped_in : (P : Program) (s : Solver) (x : State) → begun_in P s x → has_stopped x
 stopped_in P s (Stopped cause) h = tt
@@ -37,7 +40,8 @@ turn_row P t row h =
     let e = begun_size (pivotable_turn P h) h.broken in
     omega arith
 
-pub begun_rows : (P : Program) (v : Solver) (cause : Cause) → HasBegunAt (InSecond P) cause v.dictionary → P.m ≡ positions v
+pub begun_rows : (P : Program) (v : Solver) (cause : Cause) → HasBegunAt (InSecond P) cause v.dictionary
+    → P.m ≡ positions v
 begun_rows P v (Turn row) h =
     let e = begun_size (pivotable_turn P h) h.broken in
     sym h.stood.own.rows_are ∙ sym e
@@ -46,7 +50,8 @@ begun_rows P v Told h = absurd h
 begun_rows P v Elsewhere h = absurd h
 
 -- ---- rows of another limit take it over
-exchanged_with : (top : ℕ) (t t' : Table) (row left column : ℕ) → IsExchanged t t' row left column → IsExchanged t (with_limit top t') row left column
+exchanged_with : (top : ℕ) (t t' : Table) (row left column : ℕ) → IsExchanged t t' row left column
+    → IsExchanged t (with_limit top t') row left column
 exchanged_with top t t' row left column x = record {
   basis = x.basis;
   columns = x.columns;
@@ -59,7 +64,8 @@ exchanged_with top t t' row left column x = record {
   kept_others = x.kept_others;
 }
 
-broken_with : (top : ℕ) (t t' : Table) (row column : ℕ) → IsBroken t t' row column → IsBroken t (with_limit top t') row column
+broken_with : (top : ℕ) (t t' : Table) (row column : ℕ) → IsBroken t t' row column
+    → IsBroken t (with_limit top t') row column
 broken_with top t t' row column h = record {
   half = h.half;
   begun = h.begun;
@@ -67,7 +73,8 @@ broken_with top t t' row column h = record {
   told = exchanged_with top h.half t' row (spare_column t.columns (rows_count t)) column h.told;
 }
 
-turn_with : (top : ℕ) (Stood : Table → Type 0) (t : Table) (row : ℕ) → HasBegunTurn Stood t row → HasBegunTurn Stood (with_limit top t) row
+turn_with : (top : ℕ) (Stood : Table → Type 0) (t : Table) (row : ℕ) → HasBegunTurn Stood t row
+    → HasBegunTurn Stood (with_limit top t) row
 turn_with top Stood t row h = record {
   before = h.before;
   stood = h.stood;
@@ -77,13 +84,15 @@ turn_with top Stood t row h = record {
   broken = broken_with top h.before t row h.column h.broken;
 }
 
-cause_with : (top : ℕ) (Stood : Table → Type 0) (cause : Cause) (t : Table) → HasBegunAt Stood cause t → HasBegunAt Stood cause (with_limit top t)
+cause_with : (top : ℕ) (Stood : Table → Type 0) (cause : Cause) (t : Table) → HasBegunAt Stood cause t
+    → HasBegunAt Stood cause (with_limit top t)
 cause_with top Stood (Turn row) t h = turn_with top Stood t row h
 cause_with top Stood First t h = h
 cause_with top Stood Told t h = h
 cause_with top Stood Elsewhere t h = h
 
-begun_with : (top : ℕ) (P : Program) (s : Solver) (w : List ℤ) (x : State) → begun_in P s x → begun_in P (solver_of s.state (with_limit top s.dictionary) w) x
+begun_with : (top : ℕ) (P : Program) (s : Solver) (w : List ℤ) (x : State) → begun_in P s x
+    → begun_in P (solver_of s.state (with_limit top s.dictionary) w) x
 begun_with top P s w (Stopped cause) h = cause_with top (InSecond P) cause s.dictionary h
 begun_with top P s w New h = h
 begun_with top P s w Optimal h = h

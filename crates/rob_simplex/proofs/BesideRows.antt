@@ -27,14 +27,19 @@ module _ {P : Program} {q : ℕ} {t : Table} (h : InBeside P q t) where
 
   -- row q is 0 in the other basic columns, and positive in its own
   other_zero : (i : ℕ) → i < P.m → i ≢ q → rows_of t q (columns_of t.basis i) ≡ pos 0
-  other_zero i l d = ap (rows_of t q) (sym (own_is i l)) ∙ (h.holds.multiples.rows_of q (omega (arith, q_low))).along.zeros i (omega arith) d
+  other_zero i l d =
+      ap (rows_of t q) (sym (own_is i l))
+      ∙ (h.holds.multiples.rows_of q (omega (arith, q_low))).along.zeros i (omega arith) d
 
   own_positive : pos 0 <ℤ rows_of t q (columns_of t.basis q)
-  own_positive = subst (λ k. pos 0 <ℤ rows_of t q k) (own_is q q_low) (h.holds.multiples.rows_of q (omega (arith, q_low))).positive
+  own_positive =
+      subst (λ k. pos 0 <ℤ rows_of t q k) (own_is q q_low) (h.holds.multiples.rows_of q (omega (arith, q_low))).positive
 
   basic_nonneg : (i : ℕ) → i < P.m → pos 0 ≤ℤ rows_of t q (columns_of t.basis i)
   basic_nonneg i l = elim (cases_eq i q) [
-    | inl e ↦ subst (λ k. pos 0 ≤ℤ rows_of t q (columns_of t.basis k)) (sym e) (let p : pos 0 <ℤ rows_of t q (columns_of t.basis q) = own_positive in omega (arith, ints))
+    | inl e ↦
+        subst (λ k. pos 0 ≤ℤ rows_of t q (columns_of t.basis k)) (sym e)
+        (let p : pos 0 <ℤ rows_of t q (columns_of t.basis q) = own_positive in omega (arith, ints))
     | inr d ↦ let z : rows_of t q (columns_of t.basis i) ≡ pos 0 = other_zero i l d in omega (arith, ints)
   ]
 
@@ -48,9 +53,12 @@ module _ {P : Program} {q : ℕ} {t : Table} (h : InBeside P q t) where
     not_basic = λ i il e. elim (cases_lt i (positions t)) [
       | inl l ↦
           let n : pos 0 ≤ℤ rows_of t q (columns_of t.basis i) = basic_nonneg i (omega (arith, h.rows_are)) in
-          let z : pos 0 ≤ℤ rows_of t q column = subst (λ k. pos 0 ≤ℤ rows_of t q k) (sym (basic_low t.columns t.basis i l) ∙ e) n in
+          let z : pos 0 ≤ℤ rows_of t q column =
+          subst (λ k. pos 0 ≤ℤ rows_of t q k) (sym (basic_low t.columns t.basis i l) ∙ e) n in
           absurd (omega (arith, ints))
-      | inr l ↦ let x : suc (t.columns + positions t) ≡ column = sym (basic_high t.columns t.basis i l) ∙ e in omega (arith, size_is, low)
+      | inr l ↦
+          let x : suc (t.columns + positions t) ≡ column = sym (basic_high t.columns t.basis i l) ∙ e in
+          omega (arith, size_is, low)
     ];
     not_right = λ e. absurd (omega (arith, size_is, low));
   }
@@ -65,4 +73,5 @@ module _ {P : Program} {q : ℕ} {t : Table} (h : IsOpenBeside P q t) where
       let b : rows_of h.before q (P.n + P.m) <ℤ pos 0 = h.stood.holds.below in
       let n : pos 0 <ℤ neg_ℤ (rows_of h.before q (P.n + P.m)) = omega (arith, ints) in
       parallel_positive (suc (suc (suc (P.n + P.m)))) (λ k. neg_ℤ (rows_of h.before q k)) (rows_of t q) (P.n + P.m)
-      (parallel_sym (suc (suc (suc (P.n + P.m)))) (rows_of t q) (λ k. neg_ℤ (rows_of h.before q k)) h.begun.row_at) (omega arith) n
+      (parallel_sym (suc (suc (suc (P.n + P.m)))) (rows_of t q) (λ k. neg_ℤ (rows_of h.before q k)) h.begun.row_at)
+      (omega arith) n

@@ -1,5 +1,5 @@
--- A pivot that was begun by some rows is ended by rows of a greater limit: cleared again, a row that was cleared is a positive
--- multiple of itself.
+-- A pivot that was begun by some rows is ended by rows of a greater limit: cleared again, a row that was cleared is a
+-- positive multiple of itself.
 use Rattle.std.proofs.Common.{◌≡◌, ◌≢◌, ◌⊎◌, ℕ, suc, ◌+◌, ◌<◌, ◌≤◌, sym, refl, ap, ◌∙◌, subst, arith, inl, inr, List, length, set}
 use Rattle.std.proofs.lemmas.Bool.{cases_eq, cases_lt}
 use Rattle.std.proofs.lemmas.Int.{ints}
@@ -19,7 +19,8 @@ use Rattle.rob_simplex.proofs.ReadRows.{basic_low, basic_high}
 
 -- ---- a row that is cleared again
 -- by a multiple of the row that cleared it
-cleared_along : (n column : ℕ) (low top top' new : ℕ → ℤ) → IsParallel n top' top → IsClearedBy n column low top' new → IsClearedBy n column low top new
+cleared_along : (n column : ℕ) (low top top' new : ℕ → ℤ) → IsParallel n top' top → IsClearedBy n column low top' new
+    → IsClearedBy n column low top new
 cleared_along n column low top top' new par c = record {
   divisor = c.divisor *ℤ par.p;
   p = c.p *ℤ par.p;
@@ -32,15 +33,18 @@ cleared_along n column low top top' new par c = record {
   cleared = c.cleared;
 }
 
-twice_ring : (D E p q r s x y a b : ℤ) → D *ℤ y ≡ (p *ℤ a) -ℤ (q *ℤ b) → E *ℤ x ≡ (r *ℤ y) -ℤ (s *ℤ b) → (E *ℤ D) *ℤ x ≡ ((r *ℤ p) *ℤ a) -ℤ (((r *ℤ q) +ℤ (D *ℤ s)) *ℤ b)
+twice_ring : (D E p q r s x y a b : ℤ) → D *ℤ y ≡ (p *ℤ a) -ℤ (q *ℤ b) → E *ℤ x ≡ (r *ℤ y) -ℤ (s *ℤ b)
+    → (E *ℤ D) *ℤ x ≡ ((r *ℤ p) *ℤ a) -ℤ (((r *ℤ q) +ℤ (D *ℤ s)) *ℤ b)
 twice_ring D E p q r s x y a b first second =
     let u : (E *ℤ D) *ℤ x ≡ D *ℤ (E *ℤ x) = simp ring in
     let v : D *ℤ ((r *ℤ y) -ℤ (s *ℤ b)) ≡ (r *ℤ (D *ℤ y)) -ℤ ((D *ℤ s) *ℤ b) = simp ring in
-    let w : (r *ℤ ((p *ℤ a) -ℤ (q *ℤ b))) -ℤ ((D *ℤ s) *ℤ b) ≡ ((r *ℤ p) *ℤ a) -ℤ (((r *ℤ q) +ℤ (D *ℤ s)) *ℤ b) = simp ring in
+    let w : (r *ℤ ((p *ℤ a) -ℤ (q *ℤ b))) -ℤ ((D *ℤ s) *ℤ b) ≡ ((r *ℤ p) *ℤ a) -ℤ (((r *ℤ q) +ℤ (D *ℤ s)) *ℤ b) =
+    simp ring in
     u ∙ ap (λ t. D *ℤ t) second ∙ v ∙ ap (λ t. (r *ℤ t) -ℤ ((D *ℤ s) *ℤ b)) first ∙ w
 
 -- what comes out is the first row cleared
-pub cleared_again : (n column : ℕ) (low middle top top' new : ℕ → ℤ) → IsParallel n top' top → ((k : ℕ) → k < n → middle k ≡ low k) ⊎ IsClearedBy n column low top middle → IsClearedBy n column middle top' new
+pub cleared_again : (n column : ℕ) (low middle top top' new : ℕ → ℤ) → IsParallel n top' top
+    → ((k : ℕ) → k < n → middle k ≡ low k) ⊎ IsClearedBy n column low top middle → IsClearedBy n column middle top' new
     → IsClearedBy n column low top new
 cleared_again n column low middle top top' new par (inl same) c =
     let d = cleared_along n column middle top top' new par c in
@@ -61,12 +65,15 @@ cleared_again n column low middle top top' new par (inr b) c =
       q = (d.p *ℤ b.q) +ℤ (b.divisor *ℤ d.q);
       divides = mul-pos_z d.divisor b.divisor d.divides b.divides;
       positive = mul-pos_z d.p b.p d.positive b.positive;
-      entries = λ k l. twice_ring b.divisor d.divisor b.p b.q d.p d.q (new k) (middle k) (low k) (top k) (b.entries k l) (d.entries k l);
+      entries =
+          λ k l. twice_ring b.divisor d.divisor b.p b.q d.p d.q (new k) (middle k) (low k) (top k) (b.entries k l)
+          (d.entries k l);
       cleared = d.cleared;
     }
 
 -- a row keeps an entry where the row that clears it has none
-keeps_entry : (n column k : ℕ) (low top new : ℕ → ℤ) → k < n → low k ≢ pos 0 → top k ≡ pos 0 → ((j : ℕ) → j < n → new j ≡ low j) ⊎ IsClearedBy n column low top new → new k ≢ pos 0
+keeps_entry : (n column k : ℕ) (low top new : ℕ → ℤ) → k < n → low k ≢ pos 0 → top k ≡ pos 0
+    → ((j : ℕ) → j < n → new j ≡ low j) ⊎ IsClearedBy n column low top new → new k ≢ pos 0
 keeps_entry n column k low top new l some none (inl same) z = some (sym (same k l) ∙ z)
 keeps_entry n column k low top new l some none (inr c) z =
     let q : c.q *ℤ top k ≡ pos 0 = ap (λ t. c.q *ℤ t) none ∙ mul-zero c.q in
@@ -75,7 +82,8 @@ keeps_entry n column k low top new l some none (inr c) z =
     some (mul_cancel_zero c.p (low k) c.positive (omega (arith, ints)))
 
 -- the same rows
-cleared_read : (n n' column column' : ℕ) (low low' top top' new new' : ℕ → ℤ) → n ≡ n' → column ≡ column' → column' < n' → ((k : ℕ) → k < n' → low k ≡ low' k) → ((k : ℕ) → k < n' → top k ≡ top' k) → ((k : ℕ) → k < n' → new' k ≡ new k)
+cleared_read : (n n' column column' : ℕ) (low low' top top' new new' : ℕ → ℤ) → n ≡ n' → column ≡ column' → column' < n'
+    → ((k : ℕ) → k < n' → low k ≡ low' k) → ((k : ℕ) → k < n' → top k ≡ top' k) → ((k : ℕ) → k < n' → new' k ≡ new k)
     → IsClearedBy n column low top new → IsClearedBy n' column' low' top' new'
 cleared_read n n' column column' low low' top top' new new' en ec cl el et ew c = record {
   divisor = c.divisor;
@@ -84,7 +92,8 @@ cleared_read n n' column column' low low' top top' new new' en ec cl el et ew c 
   divides = c.divides;
   positive = c.positive;
   entries = λ k l.
-      ap (λ t. c.divisor *ℤ t) (ew k l) ∙ c.entries k (subst (λ m. k < m) (sym en) l) ∙ ap (λ t. (c.p *ℤ t) -ℤ (c.q *ℤ top k)) (el k l)
+      ap (λ t. c.divisor *ℤ t) (ew k l) ∙ c.entries k (subst (λ m. k < m) (sym en) l)
+      ∙ ap (λ t. (c.p *ℤ t) -ℤ (c.q *ℤ top k)) (el k l)
       ∙ ap (λ t. (c.p *ℤ low' k) -ℤ (c.q *ℤ t)) (et k l);
   cleared = ew column' cl ∙ ap new (sym ec) ∙ c.cleared;
 }
@@ -131,17 +140,25 @@ module _ {b t : Table} {row column : ℕ} (a : IsPivotable b row column) (h : Is
     not_basic = λ i il x. elim (cases_lt i (positions t)) [
       | inl l ↦
           let y : columns_of (set b.basis row column) i ≡ spare_column b.columns (positions b) =
-          ap (λ (v : List ℕ). columns_of v i) (sym begun_basis) ∙ sym (basic_low t.columns t.basis i l) ∙ x ∙ e ∙ spare_is in
+          ap (λ (v : List ℕ). columns_of v i) (sym begun_basis) ∙ sym (basic_low t.columns t.basis i l) ∙ x ∙ e
+          ∙ spare_is in
           elim (cases_eq i row) [
-            | inl q ↦ a.apart (sym (ap (columns_of (set b.basis row column)) q ∙ get_or-set_same b.basis row column 0 a.row_in) ∙ y)
-            | inr q ↦ a.others_apart i (omega (arith, begun_size)) q (sym (get_or-set_other b.basis row i column 0 q) ∙ y)
+            | inl q ↦
+                a.apart
+                (sym (ap (columns_of (set b.basis row column)) q ∙ get_or-set_same b.basis row column 0 a.row_in) ∙ y)
+            | inr q ↦
+                a.others_apart i (omega (arith, begun_size)) q (sym (get_or-set_other b.basis row i column 0 q) ∙ y)
           ]
-      | inr l ↦ let y : basic_columns t.columns t.basis i ≡ suc (t.columns + positions t) = basic_high t.columns t.basis i l in absurd (omega arith)
+      | inr l ↦
+          let y : basic_columns t.columns t.basis i ≡ suc (t.columns + positions t) =
+          basic_high t.columns t.basis i l in
+          absurd (omega arith)
     ];
     not_right = λ x. absurd (omega arith);
   }
 
-  module _ {k z : ℕ} (ek : k ≡ columns_of t.basis row) (ez : z ≡ spare_column t.columns (positions t)) {r : Table} (x : IsExchanged t r row (columns_of t.basis row) z) where
+  module _ {k z : ℕ} (ek : k ≡ columns_of t.basis row) (ez : z ≡ spare_column t.columns (positions t)) {r : Table}
+      (x : IsExchanged t r row (columns_of t.basis row) z) where
     k_is : k ≡ column
     k_is = ek ∙ column_is
 
@@ -150,7 +167,8 @@ module _ {b t : Table} {row column : ℕ} (a : IsPivotable b row column) (h : Is
 
     basis_r : r.basis ≡ set b.basis row (spare_column b.columns (positions b))
     basis_r =
-        x.basis ∙ ap (λ (l : List ℕ). set l row z) begun_basis ∙ set_twice b.basis row column z ∙ ap (λ v. set b.basis row v) z_is
+        x.basis ∙ ap (λ (l : List ℕ). set l row z) begun_basis ∙ set_twice b.basis row column z
+        ∙ ap (λ v. set b.basis row v) z_is
 
     pub opened_size : positions r ≡ positions b
     opened_size = ap length basis_r ∙ length-set b.basis row (spare_column b.columns (positions b))
@@ -166,14 +184,18 @@ module _ {b t : Table} {row column : ℕ} (a : IsPivotable b row column) (h : Is
     same_r i c il cl = elim (cases_eq i row) [
       | inl e ↦
           subst (λ (v : ℕ). rows_of r v c ≡ rows_of h.half v c) (sym e)
-          (x.row_stays c (omega (arith, begun_size, begun_columns)) ∙ h.told.row_stays c (omega (arith, half_size, h.columns_are)))
+          (x.row_stays c (omega (arith, begun_size, begun_columns))
+          ∙ h.told.row_stays c (omega (arith, half_size, h.columns_are)))
       | inr d ↦ elim (cases_eq c column) [
         | inl e ↦
-            ap (rows_of r i) (e ∙ sym column_is) ∙ x.moved i (omega (arith, begun_size)) d ∙ ap (rows_of t i) z_is ∙ h.told.moved i (omega (arith, half_size)) d
+            ap (rows_of r i) (e ∙ sym column_is) ∙ x.moved i (omega (arith, begun_size)) d ∙ ap (rows_of t i) z_is
+            ∙ h.told.moved i (omega (arith, half_size)) d
             ∙ ap (rows_of h.half i) (sym e)
         | inr o ↦ elim (cases_eq c (spare_column b.columns (positions b))) [
-          | inl e ↦ ap (rows_of r i) (e ∙ sym z_is) ∙ x.emptied i (omega (arith, begun_size)) d ∙ sym (ap (rows_of h.half i) e ∙ h.begun.zero i il)
-          | inr q ↦ x.others i c (omega (arith, begun_size)) d (λ e. o (e ∙ column_is)) (λ e. q (e ∙ z_is)) ∙ h.told.others i c (omega (arith, half_size)) d q o
+          | inl e ↦ ap (rows_of r i) (e ∙ sym z_is) ∙ x.emptied i (omega (arith, begun_size)) d
+              ∙ sym (ap (rows_of h.half i) e ∙ h.begun.zero i il)
+          | inr q ↦ x.others i c (omega (arith, begun_size)) d (λ e. o (e ∙ column_is)) (λ e. q (e ∙ z_is))
+              ∙ h.told.others i c (omega (arith, half_size)) d q o
         ]
       ]
     ]
@@ -190,9 +212,12 @@ module _ {b t : Table} {row column : ℕ} (a : IsPivotable b row column) (h : Is
 
     pub opened_again : IsOpen r row
     opened_again =
-        let e : spare_column r.columns (positions r) ≡ spare_column b.columns (positions b) = omega (arith, opened_size, columns_r) in
+        let e : spare_column r.columns (positions r) ≡ spare_column b.columns (positions b) =
+        omega (arith, opened_size, columns_r) in
         record {
-          spare = ap (λ (l : List ℕ). columns_of l row) basis_r ∙ get_or-set_same b.basis row (spare_column b.columns (positions b)) 0 a.row_in ∙ sym e;
+          spare =
+              ap (λ (l : List ℕ). columns_of l row) basis_r
+              ∙ get_or-set_same b.basis row (spare_column b.columns (positions b)) 0 a.row_in ∙ sym e;
           zero = ap (rows_of r row) e ∙ zero_r row (omega (arith, a.row_in));
         }
 
@@ -201,7 +226,8 @@ module _ {b t : Table} {row column : ℕ} (a : IsPivotable b row column) (h : Is
         let p : pos 0 <ℤ rows_of h.half row column =
         parallel_positive (width_of b) (rows_of b row) (rows_of h.half row) column
         (parallel_sym (width_of b) (rows_of h.half row) (rows_of b row) h.begun.row_at) column_in a.positive in
-        subst (λ v. pos 0 <ℤ rows_of r row v) (sym k_is) (subst (λ v. pos 0 <ℤ v) (sym (same_r row column (omega (arith, a.row_in)) column_in)) p)
+        subst (λ v. pos 0 <ℤ rows_of r row v) (sym k_is)
+        (subst (λ v. pos 0 <ℤ v) (sym (same_r row column (omega (arith, a.row_in)) column_in)) p)
 
     pub opened_own : (count : ℕ) → count ≤ suc (positions r) → KeepsOwn count r row
     opened_own count cl = record {
@@ -211,18 +237,24 @@ module _ {b t : Table} {row column : ℕ} (a : IsPivotable b row column) (h : Is
           ap (λ n. basic_columns n r.basis i) columns_r ∙ ap (λ (l : List ℕ). basic_columns b.columns l i) basis_r
           ∙ basic_set b.columns b.basis row (spare_column b.columns (positions b)) i d in
           let inside : basic_columns b.columns b.basis i < width_of b = a.inside i ib d in
-          let some = keeps_entry (width_of b) column (basic_columns b.columns b.basis i) (rows_of b i) (rows_of b row) (rows_of h.half i) inside
+          let some =
+          keeps_entry (width_of b) column (basic_columns b.columns b.basis i) (rows_of b i) (rows_of b row)
+          (rows_of h.half i) inside
           (a.own i ib d) (a.top_zero i ib d) (h.begun.row_other i ib d) in
           (λ w. some (sym (same_r i (basic_columns b.columns b.basis i) ib inside) ∙ ap (rows_of r i) (sym e) ∙ w));
       kept = λ l. absurd (omega arith);
     }
 
     -- a row that is cleared is the row before, cleared
-    cleared_before : (i : ℕ) (new new' : ℕ → ℤ) → i ≤ positions b → i ≢ row → ((c : ℕ) → c < width_of b → new' c ≡ new c)
-        → IsClearedBy (width_of r) k (rows_of r i) (rows_of r row) new → IsClearedBy (width_of b) column (rows_of b i) (rows_of b row) new'
+    cleared_before : (i : ℕ) (new new' : ℕ → ℤ) → i ≤ positions b → i ≢ row
+        → ((c : ℕ) → c < width_of b → new' c ≡ new c)
+        → IsClearedBy (width_of r) k (rows_of r i) (rows_of r row) new
+        → IsClearedBy (width_of b) column (rows_of b i) (rows_of b row) new'
     cleared_before i new new' il d same c =
-        cleared_again (width_of b) column (rows_of b i) (rows_of h.half i) (rows_of b row) (rows_of h.half row) new' h.begun.row_at (h.begun.row_other i il d)
-        (cleared_read (width_of r) (width_of b) k column (rows_of r i) (rows_of h.half i) (rows_of r row) (rows_of h.half row) new new' width_r k_is column_in
+        cleared_again (width_of b) column (rows_of b i) (rows_of h.half i) (rows_of b row) (rows_of h.half row) new'
+        h.begun.row_at (h.begun.row_other i il d)
+        (cleared_read (width_of r) (width_of b) k column (rows_of r i) (rows_of h.half i) (rows_of r row)
+        (rows_of h.half row) new new' width_r k_is column_in
         (λ c l. same_r i c il l) (λ c l. same_r row c (omega (arith, a.row_in)) l) same c)
 
     module _ (r2 : Table) (b2 : r2.basis ≡ r.basis) (n2 : r2.columns ≡ r.columns) where
@@ -230,12 +262,14 @@ module _ {b t : Table} {row column : ℕ} (a : IsPivotable b row column) (h : Is
       size2 = ap length b2 ∙ opened_size
 
       pub cleared_free : IsFree r2.columns r2.basis k
-      cleared_free = subst (λ n. IsFree n r2.basis k) (sym n2) (subst (λ (l : List ℕ). IsFree r.columns l k) (sym b2) opened_free)
+      cleared_free =
+          subst (λ n. IsFree n r2.basis k) (sym n2) (subst (λ (l : List ℕ). IsFree r.columns l k) (sym b2) opened_free)
 
       module _ (t4 : Table) (b4 : t4.basis ≡ set r2.basis row k) (n4 : t4.columns ≡ r2.columns) where
         pub basis4 : t4.basis ≡ set b.basis row column
         basis4 =
-            b4 ∙ ap (λ (l : List ℕ). set l row k) (b2 ∙ basis_r) ∙ set_twice b.basis row (spare_column b.columns (positions b)) k
+            b4 ∙ ap (λ (l : List ℕ). set l row k) (b2 ∙ basis_r)
+            ∙ set_twice b.basis row (spare_column b.columns (positions b)) k
             ∙ ap (λ v. set b.basis row v) k_is
 
         pub columns4 : t4.columns ≡ b.columns
@@ -245,9 +279,11 @@ module _ {b t : Table} {row column : ℕ} (a : IsPivotable b row column) (h : Is
         size4 = ap length basis4 ∙ length-set b.basis row column
 
         -- ---- all rows are cleared
-        module _ (r4 : IsAlone r2 row k → (i c : ℕ) → i ≤ positions r2 → c < r2.columns + positions r2 + 4 → rows_of t4 i c ≡ rows_of r2 i c)
+        module _ (r4 : IsAlone r2 row k → (i c : ℕ) → i ≤ positions r2 → c < r2.columns + positions r2 + 4
+            → rows_of t4 i c ≡ rows_of r2 i c)
             (count : ℕ) (all : positions t < count) (cl : ClearsTable count r r2 row k) where
-          cleared_r : (i : ℕ) → i ≤ positions b → i ≢ row → IsClearedBy (width_of r) k (rows_of r i) (rows_of r row) (rows_of r2 i)
+          cleared_r : (i : ℕ) → i ≤ positions b → i ≢ row
+              → IsClearedBy (width_of r) k (rows_of r i) (rows_of r row) (rows_of r2 i)
           cleared_r i il d = cl.cleared i (omega (arith, begun_size)) (omega (arith, opened_size)) d
 
           alone : IsAlone r2 row k
@@ -268,7 +304,9 @@ module _ {b t : Table} {row column : ℕ} (a : IsPivotable b row column) (h : Is
               q_positive = h.begun.row_at.q_positive;
               same = λ c l. ap (λ v. h.begun.row_at.p *ℤ v) (row4 c l) ∙ h.begun.row_at.same c l;
             };
-            row_other = λ i il d. cleared_before i (rows_of r2 i) (rows_of t4 i) il d (λ c l. same4 i c il l) (cleared_r i il d);
+            row_other =
+                λ i il d. cleared_before i (rows_of r2 i) (rows_of t4 i) il d (λ c l. same4 i c il l)
+                (cleared_r i il d);
           }
 
           zero4 : (i : ℕ) → i ≤ positions b → rows_of t4 i (spare_column b.columns (positions b)) ≡ pos 0
@@ -280,26 +318,36 @@ module _ {b t : Table} {row column : ℕ} (a : IsPivotable b row column) (h : Is
             | inr d ↦
                 let c = cleared_r i il d in
                 same4 i (spare_column b.columns (positions b)) il (omega arith)
-                ∙ zero_stays c.divisor c.p c.q (rows_of r2 i (spare_column b.columns (positions b))) (rows_of r i (spare_column b.columns (positions b)))
-                (rows_of r row (spare_column b.columns (positions b))) c.divides (c.entries (spare_column b.columns (positions b)) (omega (arith, width_r)))
+                ∙ zero_stays c.divisor c.p c.q (rows_of r2 i (spare_column b.columns (positions b)))
+                (rows_of r i (spare_column b.columns (positions b)))
+                (rows_of r row (spare_column b.columns (positions b))) c.divides
+                (c.entries (spare_column b.columns (positions b)) (omega (arith, width_r)))
                 (zero_r i il) (zero_r row (omega (arith, a.row_in)))
           ]
 
           pub closed4 : IsClosed t4
           closed4 =
-              let e : spare_column t4.columns (positions t4) ≡ spare_column b.columns (positions b) = omega (arith, size4, columns4) in
+              let e : spare_column t4.columns (positions t4) ≡ spare_column b.columns (positions b) =
+              omega (arith, size4, columns4) in
               record {
                 free = λ i il v.
-                    let y : columns_of (set b.basis row column) i ≡ spare_column b.columns (positions b) = ap (λ (l : List ℕ). columns_of l i) (sym basis4) ∙ v ∙ e in
+                    let y : columns_of (set b.basis row column) i ≡ spare_column b.columns (positions b) =
+                    ap (λ (l : List ℕ). columns_of l i) (sym basis4) ∙ v ∙ e in
                     elim (cases_eq i row) [
-                      | inl q ↦ a.apart (sym (ap (columns_of (set b.basis row column)) q ∙ get_or-set_same b.basis row column 0 a.row_in) ∙ y)
-                      | inr q ↦ a.others_apart i (omega (arith, size4)) q (sym (get_or-set_other b.basis row i column 0 q) ∙ y)
+                      | inl q ↦
+                          a.apart
+                          (sym (ap (columns_of (set b.basis row column)) q
+                          ∙ get_or-set_same b.basis row column 0 a.row_in) ∙ y)
+                      | inr q ↦
+                          a.others_apart i (omega (arith, size4)) q
+                          (sym (get_or-set_other b.basis row i column 0 q) ∙ y)
                     ];
                 zero = λ i il. ap (rows_of t4 i) e ∙ zero4 i (omega (arith, size4));
               }
 
         -- ---- a row would be wide
-        pub wide_again : (limit count i : ℕ) → StopsTable limit count r r2 row k i → i ≤ positions t → IsWideCleared limit (width_of b) column (rows_of b i) (rows_of b row)
+        pub wide_again : (limit count i : ℕ) → StopsTable limit count r r2 row k i → i ≤ positions t
+            → IsWideCleared limit (width_of b) column (rows_of b i) (rows_of b row)
         wide_again limit count i sp il =
             let ib : i ≤ positions b = omega (arith, begun_size) in
             let w = sp.wide (omega (arith, opened_size)) in (

@@ -29,8 +29,10 @@ use Rattle.rob_simplex.specs.Phases.{StandsFor}
 use Rattle.rob_simplex.proofs.LoweredRows.{nothing}
 
 -- a row that is 0 in the auxiliary and the spare column is as wide without them
-pub narrowed : (limit : ℕ) (P : Program) (w : Vector) → w (P.n + P.m) ≡ pos 0 → w (P.n + P.m + 3) ≡ pos 0 → IsPrimitive (P.n + P.m + 4) w → (k : ℕ) × (k < P.n + P.m + 4) × (limit < unsigned_abs (w k))
-    → IsPrimitive (suc (suc (P.n + P.m))) (λ k. w (auxiliary_place P k)) × HasWideEntry limit (system_of P) (λ k. w (auxiliary_place P k))
+pub narrowed : (limit : ℕ) (P : Program) (w : Vector) → w (P.n + P.m) ≡ pos 0 → w (P.n + P.m + 3) ≡ pos 0
+    → IsPrimitive (P.n + P.m + 4) w → (k : ℕ) × (k < P.n + P.m + 4) × (limit < unsigned_abs (w k))
+    → IsPrimitive (suc (suc (P.n + P.m))) (λ k. w (auxiliary_place P k))
+    × HasWideEntry limit (system_of P) (λ k. w (auxiliary_place P k))
 narrowed limit P w aux spare prim x = (primitive_without P w aux short, wide_entry)
   where
     short : IsPrimitive (suc (suc (suc (P.n + P.m)))) w
@@ -39,9 +41,11 @@ narrowed limit P w aux spare prim x = (primitive_without P w aux short, wide_ent
       | inr o ↦ each k (omega arith)
     ])
 
-    at_high : (c : ℕ) → P.n + P.m < c → c < suc (suc (suc (P.n + P.m))) → limit < unsigned_abs (w c) → HasWideEntry limit (system_of P) (λ k. w (auxiliary_place P k))
+    at_high : (c : ℕ) → P.n + P.m < c → c < suc (suc (suc (P.n + P.m))) → limit < unsigned_abs (w c)
+        → HasWideEntry limit (system_of P) (λ k. w (auxiliary_place P k))
     at_high zero l u o = absurd (omega arith)
-    at_high (suc c) l u o = (c, omega arith, subst (λ k. limit < unsigned_abs (w k)) (sym (place_high P c (omega arith))) o)
+    at_high (suc c) l u o =
+        (c, omega arith, subst (λ k. limit < unsigned_abs (w k)) (sym (place_high P c (omega arith))) o)
 
     wide_entry : HasWideEntry limit (system_of P) (λ k. w (auxiliary_place P k))
     wide_entry =
@@ -50,34 +54,51 @@ narrowed limit P w aux spare prim x = (primitive_without P w aux short, wide_ent
         elim (cases_lt x.0 (P.n + P.m)) [
           | inl l ↦ (x.0, omega arith, subst (λ k. limit < unsigned_abs (w k)) (sym (place_low P x.0 l)) over)
           | inr l ↦ elim (cases_eq x.0 (P.n + P.m)) [
-            | inl e ↦ absurd (let z : unsigned_abs (w x.0) ≡ 0 = ap (λ k. unsigned_abs (w k)) e ∙ ap unsigned_abs aux in omega arith)
+            | inl e ↦
+                absurd (let z : unsigned_abs (w x.0) ≡ 0 =
+                ap (λ k. unsigned_abs (w k)) e ∙ ap unsigned_abs aux in omega arith)
             | inr o ↦ elim (cases_eq x.0 (P.n + P.m + 3)) [
-              | inl e ↦ absurd (let z : unsigned_abs (w x.0) ≡ 0 = ap (λ k. unsigned_abs (w k)) e ∙ ap unsigned_abs spare in omega arith)
+              | inl e ↦
+                  absurd (let z : unsigned_abs (w x.0) ≡ 0 =
+                  ap (λ k. unsigned_abs (w k)) e ∙ ap unsigned_abs spare in omega arith)
               | inr q ↦ at_high x.0 (omega arith) (omega arith) over
             ]
           ]
         ]
 
 -- a row that is 0 in the column already stays up to a factor
-pub cleared_parallel : (n n' column : ℕ) (low top new : Vector) → n' ≤ n → column < n → low column ≡ pos 0 → pos 0 <ℤ top column → IsClearedBy n column low top new → IsParallel n' low new
+pub cleared_parallel : (n n' column : ℕ) (low top new : Vector) → n' ≤ n → column < n → low column ≡ pos 0
+    → pos 0 <ℤ top column → IsClearedBy n column low top new → IsParallel n' low new
 cleared_parallel n n' column low top new le cl z p c =
-    let a : (c.p *ℤ low column) -ℤ (c.q *ℤ top column) ≡ pos 0 = sym (c.entries column cl) ∙ ap (λ v. c.divisor *ℤ v) c.cleared ∙ mul-zero c.divisor in
+    let a : (c.p *ℤ low column) -ℤ (c.q *ℤ top column) ≡ pos 0 =
+    sym (c.entries column cl) ∙ ap (λ v. c.divisor *ℤ v) c.cleared ∙ mul-zero c.divisor in
     let b : c.p *ℤ low column ≡ pos 0 = ap (λ v. c.p *ℤ v) z ∙ mul-zero c.p in
-    let d : top column *ℤ c.q ≡ pos 0 = *ℤ_comm (top column) c.q ∙ (let y : c.q *ℤ top column ≡ pos 0 = omega (arith, ints) in y) in
+    let d : top column *ℤ c.q ≡ pos 0 =
+    *ℤ_comm (top column) c.q ∙ (let y : c.q *ℤ top column ≡ pos 0 = omega (arith, ints) in y) in
     let q : c.q ≡ pos 0 = mul_cancel_zero (top column) c.q p d in
     record {
       p = c.p;
       q = c.divisor;
       p_positive = c.positive;
       q_positive = c.divides;
-      same = λ k l. sym (c.entries k (omega arith) ∙ ap (λ v. (c.p *ℤ low k) -ℤ (v *ℤ top k)) q ∙ none (c.p *ℤ low k) (top k));
+      same =
+          λ k l. sym (c.entries k (omega arith) ∙ ap (λ v. (c.p *ℤ low k) -ℤ (v *ℤ top k)) q
+          ∙ none (c.p *ℤ low k) (top k));
     }
   where
     none : (a t : ℤ) → a -ℤ (pos 0 *ℤ t) ≡ a
     none a t = omega (arith, ints)
 
 pub equal_parallel : (n : ℕ) (r s : Vector) → ((k : ℕ) → k < n → s k ≡ r k) → IsParallel n r s
-equal_parallel n r s e = record { p = pos 1; q = pos 1; p_positive = omega (arith, ints); q_positive = omega (arith, ints); same = λ k l. ap (λ v. pos 1 *ℤ v) (sym (e k l)) }
+equal_parallel n r s e =
+    record {
+      p = pos 1;
+      q = pos 1;
+      p_positive = omega (arith, ints);
+      q_positive = omega (arith, ints);
+      same =
+          λ k l. ap (λ v. pos 1 *ℤ v) (sym (e k l));
+    }
 
 pub self_le : (n : ℕ) → n ≤ n
 self_le n = omega arith
@@ -96,14 +117,17 @@ module _ (P : Program) (j : ℕ) (jl : j < P.n) (t : Table) (h : StandsFor (trun
   amount_is : (factor : ℤ) → P.c j ≡ factor → amount_of t factor ≡ P.c j *ℤ rows_of t P.m (suc (P.n + P.m))
   amount_is factor e =
       ap (λ v. v *ℤ rows_of t (positions t) (suc (t.columns + positions t))) (sym e)
-      ∙ ap (λ v. P.c j *ℤ rows_of t v (suc (t.columns + v))) rows_is ∙ ap (λ v. P.c j *ℤ rows_of t P.m (suc (v + P.m))) columns_is
+      ∙ ap (λ v. P.c j *ℤ rows_of t v (suc (t.columns + v))) rows_is
+      ∙ ap (λ v. P.c j *ℤ rows_of t P.m (suc (v + P.m))) columns_is
 
   -- the row that has lost the amount
-  module _ (factor : ℤ) (ef : P.c j ≡ factor) (r : Vector) (l : IsLowered (width_of t) j (amount_of t factor) (rows_of t (positions t)) r) where
+  module _ (factor : ℤ) (ef : P.c j ≡ factor) (r : Vector)
+      (l : IsLowered (width_of t) j (amount_of t factor) (rows_of t (positions t)) r) where
     unit_there : (k : ℕ) → unit_row j (auxiliary_place P k) ≡ unit_row j k
     unit_there k = elim (cases_lt k (P.n + P.m)) [
       | inl a ↦ ap (unit_row j) (place_low P k a)
-      | inr a ↦ ap (unit_row j) (place_high P k a) ∙ unit_zero j (suc k) (λ e. absurd (omega (arith, jl))) ∙ sym (unit_zero j k (λ e. absurd (omega (arith, jl))))
+      | inr a ↦ ap (unit_row j) (place_high P k a) ∙ unit_zero j (suc k) (λ e. absurd (omega (arith, jl)))
+          ∙ sym (unit_zero j k (λ e. absurd (omega (arith, jl))))
     ]
 
     pub half : IsMultipleHalf P (own_of (system_of P) (columns_of t.basis)) j (λ k. r (auxiliary_place P k))
@@ -123,41 +147,64 @@ module _ (P : Program) (j : ℕ) (jl : j < P.n) (t : Table) (h : StandsFor (trun
     }
       where
         same_factor : (k : ℕ) → auxiliary_place P k < P.n + P.m + 4
-            → l.divisor *ℤ r (auxiliary_place P k) ≡ l.p *ℤ (rows_of t P.m (auxiliary_place P k) -ℤ ((P.c j *ℤ rows_of t P.m (auxiliary_place P (P.n + P.m))) *ℤ unit_row j k))
+            → l.divisor *ℤ r (auxiliary_place P k) ≡ l.p
+            *ℤ (rows_of t P.m (auxiliary_place P k)
+            -ℤ ((P.c j *ℤ rows_of t P.m (auxiliary_place P (P.n + P.m))) *ℤ unit_row j k))
         same_factor k pl =
-            let e : rows_of t (positions t) (auxiliary_place P k) ≡ rows_of t P.m (auxiliary_place P k) = ap (λ i. rows_of t i (auxiliary_place P k)) rows_is in
-            l.entries (auxiliary_place P k) (omega (arith, width_is)) ∙ ap (λ v. l.p *ℤ (v -ℤ (amount_of t factor *ℤ unit_row j (auxiliary_place P k)))) e
-            ∙ ap (λ v. l.p *ℤ (rows_of t P.m (auxiliary_place P k) -ℤ (v *ℤ unit_row j (auxiliary_place P k)))) (amount_is factor ef)
-            ∙ ap (λ v. l.p *ℤ (rows_of t P.m (auxiliary_place P k) -ℤ ((P.c j *ℤ rows_of t P.m v) *ℤ unit_row j (auxiliary_place P k)))) (sym (place_high P (P.n + P.m) (omega arith)))
-            ∙ ap (λ v. l.p *ℤ (rows_of t P.m (auxiliary_place P k) -ℤ ((P.c j *ℤ rows_of t P.m (auxiliary_place P (P.n + P.m))) *ℤ v))) (unit_there k)
+            let e : rows_of t (positions t) (auxiliary_place P k) ≡ rows_of t P.m (auxiliary_place P k) =
+            ap (λ i. rows_of t i (auxiliary_place P k)) rows_is in
+            l.entries (auxiliary_place P k) (omega (arith, width_is))
+            ∙ ap (λ v. l.p *ℤ (v -ℤ (amount_of t factor *ℤ unit_row j (auxiliary_place P k)))) e
+            ∙ ap (λ v. l.p *ℤ (rows_of t P.m (auxiliary_place P k) -ℤ (v *ℤ unit_row j (auxiliary_place P k))))
+            (amount_is factor ef)
+            ∙ ap
+            (λ v. l.p *ℤ (rows_of t P.m
+            (auxiliary_place P k) -ℤ ((P.c j *ℤ rows_of t P.m v) *ℤ unit_row j (auxiliary_place P k))))
+            (sym (place_high P (P.n + P.m) (omega arith)))
+            ∙ ap
+            (λ v. l.p *ℤ (rows_of t P.m
+            (auxiliary_place P k) -ℤ ((P.c j *ℤ rows_of t P.m (auxiliary_place P (P.n + P.m))) *ℤ v))) (unit_there k)
 
     -- it stays 0 in the auxiliary and the spare column
     zero_at : (k : ℕ) → k < width_of t → k ≢ j → rows_of t (positions t) k ≡ pos 0 → r k ≡ pos 0
-    zero_at k kl d z = mul_cancel_zero l.divisor (r k) l.divides (l.entries k kl ∙ nothing l.p (amount_of t factor) (rows_of t (positions t) k) (unit_row j k) z (unit_zero j k d))
+    zero_at k kl d z =
+        mul_cancel_zero l.divisor (r k) l.divides
+        (l.entries k kl ∙ nothing l.p (amount_of t factor) (rows_of t (positions t) k) (unit_row j k) z
+        (unit_zero j k d))
 
     pub auxiliary_zero : r (P.n + P.m) ≡ pos 0
-    auxiliary_zero = zero_at (P.n + P.m) (omega (arith, width_is)) (λ e. absurd (omega (arith, jl))) (ap (λ i. rows_of t i (P.n + P.m)) rows_is ∙ h.empty P.m (self_le P.m))
+    auxiliary_zero =
+        zero_at (P.n + P.m) (omega (arith, width_is)) (λ e. absurd (omega (arith, jl)))
+        (ap (λ i. rows_of t i (P.n + P.m)) rows_is ∙ h.empty P.m (self_le P.m))
 
     pub spare_zero : r (P.n + P.m + 3) ≡ pos 0
     spare_zero =
         let e : spare_column t.columns (positions t) ≡ P.n + P.m + 3 = omega (arith, rows_is, columns_is) in
-        zero_at (P.n + P.m + 3) (omega (arith, width_is)) (λ f. absurd (omega (arith, jl))) (ap (rows_of t (positions t)) (sym e) ∙ h.closed.zero (positions t) (omega arith))
+        zero_at (P.n + P.m + 3) (omega (arith, width_is)) (λ f. absurd (omega (arith, jl)))
+        (ap (rows_of t (positions t)) (sym e) ∙ h.closed.zero (positions t) (omega arith))
 
   -- where that row is wide, so is the half stage
-  pub half_wide : (limit : ℕ) (factor : ℤ) → P.c j ≡ factor → IsWideLowered limit (width_of t) j (amount_of t factor) (rows_of t (positions t)) → IsOwnWideAt limit P (columns_of t.basis) P.m
+  pub half_wide : (limit : ℕ) (factor : ℤ) → P.c j ≡ factor
+      → IsWideLowered limit (width_of t) j (amount_of t factor) (rows_of t (positions t))
+      → IsOwnWideAt limit P (columns_of t.basis) P.m
   half_wide limit factor ef w =
-      let x = narrowed limit P w.0 (auxiliary_zero factor ef w.0 w.1) (spare_zero factor ef w.0 w.1) (subst (λ v. IsPrimitive v w.0) width_is w.2) (w.3.0, subst (λ v. w.3.0 < v) width_is w.3.1, w.3.2) in
+      let x =
+      narrowed limit P w.0 (auxiliary_zero factor ef w.0 w.1) (spare_zero factor ef w.0 w.1)
+      (subst (λ v. IsPrimitive v w.0) width_is w.2) (w.3.0, subst (λ v. w.3.0 < v) width_is w.3.1, w.3.2) in
       inr (
         refl,
-        multiple_half_wide limit P (columns_of t.basis) (without_column P (rows_of t)) (cost_before P j) j (λ k. w.0 (auxiliary_place P k)) (λ k. w.0 (auxiliary_place P k)) h.stands.multiples jl
+        multiple_half_wide limit P (columns_of t.basis) (without_column P (rows_of t)) (cost_before P j) j
+            (λ k. w.0 (auxiliary_place P k)) (λ k. w.0 (auxiliary_place P k)) h.stands.multiples jl
             (half factor ef w.0 w.1) (parallel_refl (suc (suc (P.n + P.m))) (λ k. w.0 (auxiliary_place P k))) x.0 x.1,
       )
 
   -- ---- the next dictionary, of the same basis
   module _ (t' : Table) (eb : t'.basis ≡ t.basis) (en : t'.columns ≡ t.columns)
-      (low : (i : ℕ) → i < P.m → IsParallel (suc (suc (P.n + P.m))) (without_column P (rows_of t) i) (without_column P (rows_of t') i))
+      (low : (i : ℕ) → i < P.m
+      → IsParallel (suc (suc (P.n + P.m))) (without_column P (rows_of t) i) (without_column P (rows_of t') i))
       (next : IsMultipleStage P (own_of (system_of P) (columns_of t.basis)) (suc j) (without_column P (rows_of t') P.m))
-      (empty : (i : ℕ) → i ≤ P.m → rows_of t' i (P.n + P.m) ≡ pos 0) (spare : (i : ℕ) → i ≤ P.m → rows_of t' i (P.n + P.m + 3) ≡ pos 0) where
+      (empty : (i : ℕ) → i ≤ P.m → rows_of t' i (P.n + P.m) ≡ pos 0)
+      (spare : (i : ℕ) → i ≤ P.m → rows_of t' i (P.n + P.m + 3) ≡ pos 0) where
     em : positions t' ≡ P.m
     em = ap length eb ∙ rows_is
 
@@ -169,23 +216,33 @@ module _ (P : Program) (j : ℕ) (jl : j < P.n) (t : Table) (h : StandsFor (trun
       rows_are = em;
       columns_are = en ∙ columns_is;
       stands =
-          subst (λ (b : List ℕ). StandsMultiple (system_of (truncated P (suc j))) (columns_of b) (without_column P (rows_of t'))) (sym eb)
-          (multiple_new_cost (truncated P j) (columns_of t.basis) (without_column P (rows_of t)) (without_column P (rows_of t')) (cost_before P (suc j)) h.stands low next);
+          subst (λ (b : List ℕ). StandsMultiple (system_of (truncated P (suc j))) (columns_of b)
+          (without_column P (rows_of t'))) (sym eb)
+          (multiple_new_cost (truncated P j) (columns_of t.basis) (without_column P (rows_of t))
+          (without_column P (rows_of t')) (cost_before P (suc j)) h.stands low next);
       empty = empty;
       closed = record {
-        free = λ i il x. h.closed.free i (omega (arith, em, rows_is)) (ap (λ (b : List ℕ). columns_of b i) (sym eb) ∙ x ∙ (let y : spare_column t'.columns (positions t') ≡ spare_column t.columns (positions t) = omega (arith, em, en, rows_is) in y));
+        free =
+            λ i il x. h.closed.free i (omega (arith, em, rows_is))
+            (ap (λ (b : List ℕ). columns_of b i) (sym eb) ∙ x
+            ∙ (let y : spare_column t'.columns (positions t') ≡ spare_column t.columns (positions t) =
+            omega (arith, em, en, rows_is) in y));
         zero = λ i il. ap (rows_of t' i) spare_is ∙ spare i (omega (arith, em));
       };
     }
 
   -- ---- the column isn't basic: the row that has lost the amount is the next stage
   module _ (factor : ℤ) (ef : P.c j ≡ factor) (t' : Table) (eb : t'.basis ≡ t.basis) (en : t'.columns ≡ t.columns)
-      (out : (i : ℕ) → i < positions t → columns_of t.basis i ≢ j) (rows : (i c : ℕ) → i < positions t → rows_of t' i c ≡ rows_of t i c)
+      (out : (i : ℕ) → i < positions t → columns_of t.basis i ≢ j)
+      (rows : (i c : ℕ) → i < positions t → rows_of t' i c ≡ rows_of t i c)
       (l : IsLowered (width_of t) j (amount_of t factor) (rows_of t (positions t)) (rows_of t' (positions t))) where
     l' : IsLowered (width_of t) j (amount_of t factor) (rows_of t (positions t)) (rows_of t' P.m)
-    l' = subst (λ (i : ℕ). IsLowered (width_of t) j (amount_of t factor) (rows_of t (positions t)) (rows_of t' i)) rows_is l
+    l' =
+        subst (λ (i : ℕ). IsLowered (width_of t) j (amount_of t factor) (rows_of t (positions t)) (rows_of t' i))
+        rows_is l
 
-    each : (c : ℕ) → rows_of t' P.m c ≡ pos 0 → ((i : ℕ) → i ≤ P.m → rows_of t i c ≡ pos 0) → (i : ℕ) → i ≤ P.m → rows_of t' i c ≡ pos 0
+    each : (c : ℕ) → rows_of t' P.m c ≡ pos 0 → ((i : ℕ) → i ≤ P.m → rows_of t i c ≡ pos 0) → (i : ℕ) → i ≤ P.m
+        → rows_of t' i c ≡ pos 0
     each c z below i il = elim (cases_lt i P.m) [
       | inl a ↦ rows i c (omega (arith, rows_is)) ∙ below i il
       | inr a ↦ let e : i ≡ P.m = omega arith in ap (λ v. rows_of t' v c) e ∙ z
@@ -194,8 +251,13 @@ module _ (P : Program) (j : ℕ) (jl : j < P.n) (t : Table) (h : StandsFor (trun
     pub next_lowered : StandsFor (truncated P (suc j)) t'
     next_lowered =
         next_stands t' eb en
-        (λ i il. equal_parallel (suc (suc (P.n + P.m))) (without_column P (rows_of t) i) (without_column P (rows_of t') i) (λ k kl. rows i (auxiliary_place P k) (omega (arith, rows_is))))
-        (multiple_next P (own_of (system_of P) (columns_of t.basis)) (without_column P (rows_of t)) (cost_before P j) j (without_column P (rows_of t') P.m) h.stands.multiples jl
-        (λ i il e. out i (omega (arith, rows_is)) (sym (e ∙ own_low (system_of P) (columns_of t.basis) i il))) (half factor ef (rows_of t' P.m) l'))
+        (λ i il. equal_parallel (suc (suc (P.n + P.m))) (without_column P (rows_of t) i)
+        (without_column P (rows_of t') i) (λ k kl. rows i (auxiliary_place P k) (omega (arith, rows_is))))
+        (multiple_next P (own_of (system_of P) (columns_of t.basis)) (without_column P (rows_of t)) (cost_before P j) j
+        (without_column P (rows_of t') P.m) h.stands.multiples jl
+        (λ i il e. out i (omega (arith, rows_is)) (sym (e ∙ own_low (system_of P) (columns_of t.basis) i il)))
+        (half factor ef (rows_of t' P.m) l'))
         (each (P.n + P.m) (auxiliary_zero factor ef (rows_of t' P.m) l') h.empty)
-        (each (P.n + P.m + 3) (spare_zero factor ef (rows_of t' P.m) l') (λ i il. let e : spare_column t.columns (positions t) ≡ P.n + P.m + 3 = omega (arith, rows_is, columns_is) in ap (rows_of t i) (sym e) ∙ h.closed.zero i (omega (arith, rows_is))))
+        (each (P.n + P.m + 3) (spare_zero factor ef (rows_of t' P.m) l')
+        (λ i il. let e : spare_column t.columns (positions t) ≡ P.n + P.m + 3 =
+        omega (arith, rows_is, columns_is) in ap (rows_of t i) (sym e) ∙ h.closed.zero i (omega (arith, rows_is))))

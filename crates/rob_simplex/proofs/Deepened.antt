@@ -13,17 +13,20 @@ use Rattle.rob_simplex.specs.declared.state.State.{State}
 use Rattle.rob_simplex.proofs.CopiedTables.{solver_of}
 
 -- ---- what its rows tell
-pub tells_with : (top limit : ℕ) (growing : Option ℕ) (t : Table) → Tells limit growing t → Tells limit growing (with_limit top t)
+pub tells_with : (top limit : ℕ) (growing : Option ℕ) (t : Table) → Tells limit growing t
+    → Tells limit growing (with_limit top t)
 tells_with top limit growing t h = record {
   rows = λ i l. let x = h.rows i l in record { point = x.point; ray = x.ray };
   objective = λ e. let x = h.objective e in record { dual = x.dual; value = x.value };
 }
 
 -- ---- the invariant
-pub deepened_sound : (low top limit : ℕ) (v : Solver) → IsSound low limit v → (HasWeights v → ⊥) → (t : Table) → t ≡ with_limit top v.dictionary → (w : List ℤ) → length w ≡ rows_count t
+pub deepened_sound : (low top limit : ℕ) (v : Solver) → IsSound low limit v → (HasWeights v → ⊥) → (t : Table)
+    → t ≡ with_limit top v.dictionary → (w : List ℤ) → length w ≡ rows_count t
     → IsSound top limit (record { state = v.state; dictionary = t; weights = w })
 deepened_sound low top limit v h none t e w size =
-    subst (λ (u : Table). (x : List ℤ) → length x ≡ rows_count u → IsSound top limit (record { state = v.state; dictionary = u; weights = x })) (sym e)
+    subst (λ (u : Table). (x : List ℤ) → length x ≡ rows_count u
+    → IsSound top limit (record { state = v.state; dictionary = u; weights = x })) (sym e)
     (λ x s. record {
       limit_is = refl;
       few = h.few;
@@ -57,8 +60,11 @@ module _ (top : ℕ) (s s' : Solver) (h : StandsAs top s s') where
 
   -- another cost can be put on its rows too
   pub can_resume : (P : Program) → CanResume P s → CanResume P s'
-  can_resume P r = subst (λ (x : Solver). CanResume P x) deep_is (record { point = r.point; own = stands_with top P s.dictionary r.own })
+  can_resume P r =
+      subst (λ (x : Solver). CanResume P x) deep_is
+      (record { point = r.point; own = stands_with top P s.dictionary r.own })
 
   -- and it is at the same point
   pub same_point : (IsEnd : Columns → Type 0) (P : Program) → IsPointAt IsEnd P s → IsPointAt IsEnd P s'
-  same_point IsEnd P p = subst (λ (x : Solver). IsPointAt IsEnd P x) deep_is (record { last = p.last; basis = p.basis; basic = p.basic })
+  same_point IsEnd P p =
+      subst (λ (x : Solver). IsPointAt IsEnd P x) deep_is (record { last = p.last; basis = p.basis; basic = p.basic })

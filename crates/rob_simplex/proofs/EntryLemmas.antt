@@ -11,7 +11,8 @@ use Rattle.rob_entries.specs.Choices.{IsLowest}
 use Rattle.rob_simplex.proofs.Places.{row_within}
 use Rattle.rob_simplex.proofs.ReadRows.{read_near, read_own, read_none}
 
-module _ {limit n : ℕ} {basis places near : List ℕ} {table : List ℤ} {bounds : List ℕ} {workspace : ℕ} (sound : IsSound limit n basis places near table bounds workspace) (i : ℕ) (il : i ≤ length basis) where
+module _ {limit n : ℕ} {basis places near : List ℕ} {table : List ℤ} {bounds : List ℕ} {workspace : ℕ}
+    (sound : IsSound limit n basis places near table bounds workspace) (i : ℕ) (il : i ≤ length basis) where
   abbrev pub shown : Table
   shown = record { limit = limit; columns = n; basis = basis; places = places; table = table }
 
@@ -27,32 +28,42 @@ module _ {limit n : ℕ} {basis places near : List ℕ} {table : List ℤ} {boun
       let low : bound_at bounds i ≤ limit = sound.bounded.low i bound_in in
       subst (λ t. nat_abs t ≤ limit) (sym e) (omega arith)
 
-  pub near_value : (column p : ℕ) → p ≡ columns_of places column → p < n + 3 → (x : ℤ) → x ≡ at table (i * (n + 4) + p) → (x ≡ rows_of shown i column) × (nat_abs x ≤ limit)
+  pub near_value : (column p : ℕ) → p ≡ columns_of places column → p < n + 3 → (x : ℤ) → x ≡ at table (i * (n + 4) + p)
+      → (x ≡ rows_of shown i column) × (nat_abs x ≤ limit)
   near_value column p ep l x e = (
-    e ∙ ap (row_at table (n + 4) i) ep ∙ sym (read_near (n + 3) (columns_of places) i (row_at table (n + 4) i) column (omega arith)),
+    e ∙ ap (row_at table (n + 4) i) ep
+        ∙ sym (read_near (n + 3) (columns_of places) i (row_at table (n + 4) i) column (omega arith)),
     number p (omega arith) x e,
   )
 
-  pub own_value : (column p : ℕ) → p ≡ columns_of places column → p ≡ n + 3 + i → (x : ℤ) → x ≡ at table (i * (n + 4) + (n + 3)) → (x ≡ rows_of shown i column) × (nat_abs x ≤ limit)
+  pub own_value : (column p : ℕ) → p ≡ columns_of places column → p ≡ n + 3 + i → (x : ℤ)
+      → x ≡ at table (i * (n + 4) + (n + 3)) → (x ≡ rows_of shown i column) × (nat_abs x ≤ limit)
   own_value column p ep l x e = (
     e ∙ sym (read_own (n + 3) (columns_of places) i (row_at table (n + 4) i) column (sym ep ∙ l)),
     number (n + 3) (omega arith) x e,
   )
 
   -- ---- the first negative entry
-  module _ (own : pos 0 ≤ℤ rows_of shown i (basic_columns n basis i)) (best : ℕ) (lowest : IsLowest (row_at table (n + 4) i) (columns_of near) (n + 2) (n + length basis) best) where
+  module _ (own : pos 0 ≤ℤ rows_of shown i (basic_columns n basis i)) (best : ℕ)
+      (lowest : IsLowest (row_at table (n + 4) i) (columns_of near) (n + 2) (n + length basis) best) where
     own_nonneg : pos 0 ≤ℤ row_at table (n + 4) i (n + 3)
-    own_nonneg = subst (λ t. pos 0 ≤ℤ t) (read_own (n + 3) (columns_of places) i (row_at table (n + 4) i) (basic_columns n basis i) (sound.placed.basic_at i il)) own
+    own_nonneg =
+        subst (λ t. pos 0 ≤ℤ t) (read_own (n + 3) (columns_of places) i (row_at table (n + 4) i)
+        (basic_columns n basis i) (sound.placed.basic_at i il)) own
 
     right_near : columns_of near (n + 2) ≡ right_column n (length basis)
     right_near =
         let e : columns_of places (right_column n (length basis)) ≡ n + 2 = sound.right_at in
-        ap (columns_of near) (sym e) ∙ sound.placed.near_column (right_column n (length basis)) (omega arith) (omega arith)
+        ap (columns_of near) (sym e)
+        ∙ sound.placed.near_column (right_column n (length basis)) (omega arith) (omega arith)
 
-    none_before : (limit : ℕ) → limit ≤ best → best ≤ n + length basis → (j : ℕ) → j < n + 3 → columns_of near j < limit → pos 0 ≤ℤ row_at table (n + 4) i j
+    none_before : (limit : ℕ) → limit ≤ best → best ≤ n + length basis → (j : ℕ) → j < n + 3 → columns_of near j < limit
+        → pos 0 ≤ℤ row_at table (n + 4) i j
     none_before limit l b j jl jn = elim (cases_eq j (n + 2)) [
       | inr d ↦ lowest.none_lower j (omega arith) (omega arith)
-      | inl e ↦ absurd (let r : columns_of near j ≡ right_column n (length basis) = ap (columns_of near) e ∙ right_near in omega arith)
+      | inl e ↦
+          absurd (let r : columns_of near j ≡ right_column n (length basis) =
+          ap (columns_of near) e ∙ right_near in omega arith)
     ]
 
     pub is_first : best < n + length basis → FirstNegative (n + length basis) (rows_of shown i) best
@@ -61,7 +72,10 @@ module _ {limit n : ℕ} {basis places near : List ℕ} {table : List ℤ} {boun
       | inr f ↦
           let kl : f.0 < n + 2 = f.1 in
           let e : columns_of near f.0 ≡ best = f.2 in
-          let r = condensed_first (length basis) (n + 3) (n + length basis + 4) (columns_of places) (columns_of near) (basic_columns n basis) (row_at table (n + 4)) (λ j. row_at table (n + 4) j (n + 3)) i f.0 sound.placed (omega arith) f.3
+          let r =
+          condensed_first (length basis) (n + 3) (n + length basis + 4) (columns_of places) (columns_of near)
+          (basic_columns n basis) (row_at table (n + 4)) (λ j. row_at table (n + 4) j (n + 3)) i f.0 sound.placed
+          (omega arith) f.3
           (λ j jl jn. none_before best (omega arith) (omega arith) j jl (omega arith)) own_nonneg in
           record {
             inside = b;
@@ -73,23 +87,33 @@ module _ {limit n : ℕ} {basis places near : List ℕ} {table : List ℤ} {boun
     pub is_none : n + length basis ≤ best → (k : ℕ) → k < n + length basis → pos 0 ≤ℤ rows_of shown i k
     is_none b k l =
         let low : best ≤ n + length basis = lowest.low in
-        condensed_none (length basis) (n + 3) (n + length basis + 4) (columns_of places) (columns_of near) (basic_columns n basis) (row_at table (n + 4)) (λ j. row_at table (n + 4) j (n + 3)) i (n + length basis) sound.placed
+        condensed_none (length basis) (n + 3) (n + length basis + 4) (columns_of places) (columns_of near)
+        (basic_columns n basis) (row_at table (n + 4)) (λ j. row_at table (n + 4) j (n + 3)) i (n + length basis)
+        sound.placed
         (λ j jl jn. none_before (n + length basis) b low j jl jn) own_nonneg k (omega arith) l
 
 -- ---- no entry is over the limit
-module _ {limit n : ℕ} {basis places near : List ℕ} {table : List ℤ} {bounds : List ℕ} {workspace : ℕ} (s : IsSound limit n basis places near table bounds workspace) where
-  pub small_entries : (i c : ℕ) → i ≤ length basis → nat_abs (read_row (n + 3) (columns_of places) i (row_at table (n + 4) i) c) ≤ limit
+module _ {limit n : ℕ} {basis places near : List ℕ} {table : List ℤ} {bounds : List ℕ} {workspace : ℕ}
+    (s : IsSound limit n basis places near table bounds workspace) where
+  pub small_entries : (i c : ℕ) → i ≤ length basis
+      → nat_abs (read_row (n + 3) (columns_of places) i (row_at table (n + 4) i) c) ≤ limit
   small_entries i c il =
       let il2 : i < length bounds = omega (arith, s.count) in
       let low : bound_at bounds i ≤ limit = s.bounded.low i il2 in
       elim (cases_lt (columns_of places c) (n + 3)) [
         | inl l ↦
-            let b : nat_abs (row_at table (n + 4) i (columns_of places c)) ≤ bound_at bounds i = s.bounded.within i (columns_of places c) il2 (omega arith) in
-            subst (λ z. nat_abs z ≤ limit) (sym (read_near (n + 3) (columns_of places) i (row_at table (n + 4) i) c l)) (omega arith)
+            let b : nat_abs (row_at table (n + 4) i (columns_of places c)) ≤ bound_at bounds i =
+            s.bounded.within i (columns_of places c) il2 (omega arith) in
+            subst (λ z. nat_abs z ≤ limit) (sym (read_near (n + 3) (columns_of places) i (row_at table (n + 4) i) c l))
+            (omega arith)
         | inr l ↦ elim (cases_eq (columns_of places c) (n + 3 + i)) [
           | inl e ↦
-              let b : nat_abs (row_at table (n + 4) i (n + 3)) ≤ bound_at bounds i = s.bounded.within i (n + 3) il2 (omega arith) in
-              subst (λ z. nat_abs z ≤ limit) (sym (read_own (n + 3) (columns_of places) i (row_at table (n + 4) i) c e)) (omega arith)
-          | inr d ↦ subst (λ z. nat_abs z ≤ limit) (sym (read_none (n + 3) (columns_of places) i (row_at table (n + 4) i) c l d)) (omega arith)
+              let b : nat_abs (row_at table (n + 4) i (n + 3)) ≤ bound_at bounds i =
+              s.bounded.within i (n + 3) il2 (omega arith) in
+              subst (λ z. nat_abs z ≤ limit) (sym (read_own (n + 3) (columns_of places) i (row_at table (n + 4) i) c e))
+              (omega arith)
+          | inr d ↦
+              subst (λ z. nat_abs z ≤ limit)
+              (sym (read_none (n + 3) (columns_of places) i (row_at table (n + 4) i) c l d)) (omega arith)
         ]
       ]

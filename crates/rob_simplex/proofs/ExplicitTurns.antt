@@ -1,4 +1,5 @@
--- A turn of the first phase in the explicit form, on a dictionary, is one of the path, and the kept row turns with the others.
+-- A turn of the first phase in the explicit form, on a dictionary, is one of the path, and the kept row turns with
+-- the others.
 use Rattle.std.proofs.Common.{◌≡◌, ◌≢◌, ℕ, suc, ◌+◌, ◌-◌, ◌<◌, ◌≤◌, sym, refl, ap, ◌∙◌, subst, arith, inl, inr, List, length, set, cond, nat_lt, nat_eq, min, Bool, true, false}
 use Rattle.std.proofs.lemmas.Bool.{cases_eq, cases_lt}
 use Rattle.std.proofs.lemmas.Bool.Decides.{nat_tests}
@@ -49,18 +50,24 @@ module _ {P : Program} {t : Table} (h : HoldsExplicit P t) where
 
   -- the objective's row is 0 in the basic columns
   basic_zero : (i : ℕ) → i < P.m → rows_of t P.m (columns_of t.basis i) ≡ pos 0
-  basic_zero i l = ap (rows_of t P.m) (sym (own_is i l)) ∙ (h.stands.multiples.rows_of P.m (omega arith)).along.zeros i (omega arith) (λ e. absurd (omega arith))
+  basic_zero i l =
+      ap (rows_of t P.m) (sym (own_is i l))
+      ∙ (h.stands.multiples.rows_of P.m (omega arith)).along.zeros i (omega arith) (λ e. absurd (omega arith))
 
   pub explicit_own : pos 0 ≤ℤ rows_of t (positions t) (basic_columns t.columns t.basis (positions t))
   explicit_own =
-      let e : basic_columns t.columns t.basis (positions t) ≡ suc (P.n + P.m) = basic_high t.columns t.basis (positions t) (omega arith) ∙ ap suc size_is in
+      let e : basic_columns t.columns t.basis (positions t) ≡ suc (P.n + P.m) =
+      basic_high t.columns t.basis (positions t) (omega arith) ∙ ap suc size_is in
       let p : pos 0 <ℤ rows_of t P.m (suc (P.n + P.m)) = explicit_positive P t h in
       let q : pos 0 ≤ℤ rows_of t P.m (suc (P.n + P.m)) = omega (arith, ints) in
-      subst (λ i. pos 0 ≤ℤ rows_of t i (basic_columns t.columns t.basis (positions t))) (sym h.rows_are) (subst (λ k. pos 0 ≤ℤ rows_of t P.m k) (sym e) q)
+      subst (λ i. pos 0 ≤ℤ rows_of t i (basic_columns t.columns t.basis (positions t))) (sym h.rows_are)
+      (subst (λ k. pos 0 ≤ℤ rows_of t P.m k) (sym e) q)
 
   module _ {column : ℕ} (first' : FirstNegative (t.columns + positions t) (rows_of t (positions t)) column) where
     first : FirstNegative (P.n + P.m) (rows_of t P.m) column
-    first = subst (λ k. FirstNegative k (rows_of t P.m) column) size_is (subst (λ i. FirstNegative (t.columns + positions t) (rows_of t i) column) h.rows_are first')
+    first =
+        subst (λ k. FirstNegative k (rows_of t P.m) column) size_is
+        (subst (λ i. FirstNegative (t.columns + positions t) (rows_of t i) column) h.rows_are first')
 
     low : column < P.n + P.m
     low = first.inside
@@ -70,10 +77,13 @@ module _ {P : Program} {t : Table} (h : HoldsExplicit P t) where
       inside = omega (arith, size_is, low);
       not_basic = λ i il e. elim (cases_lt i (positions t)) [
         | inl l ↦
-            let z : rows_of t P.m column ≡ pos 0 = ap (rows_of t P.m) (sym e ∙ basic_low t.columns t.basis i l) ∙ basic_zero i (omega (arith, h.rows_are)) in
+            let z : rows_of t P.m column ≡ pos 0 =
+            ap (rows_of t P.m) (sym e ∙ basic_low t.columns t.basis i l) ∙ basic_zero i (omega (arith, h.rows_are)) in
             let n : rows_of t P.m column <ℤ pos 0 = first.negative in
             omega (arith, ints)
-        | inr l ↦ let x : suc (t.columns + positions t) ≡ column = sym (basic_high t.columns t.basis i l) ∙ e in omega (arith, size_is, low)
+        | inr l ↦
+            let x : suc (t.columns + positions t) ≡ column = sym (basic_high t.columns t.basis i l) ∙ e in
+            omega (arith, size_is, low)
       ];
       not_right = λ e. absurd (omega (arith, size_is, low));
     }
@@ -88,10 +98,14 @@ module _ {P : Program} {t : Table} (h : HoldsExplicit P t) where
     pub explicit_bounded : ((i : ℕ) → i < positions t → rows_of t i column ≤ℤ pos 0) → ⊥
     explicit_bounded none =
         let b : (prim : Matrix) × IsBasis (auxiliary_of P) (own_of (auxiliary_of P) (columns_of t.basis)) prim =
-        multiple_rows_exist (auxiliary_of P) (own_of (auxiliary_of P) (columns_of t.basis)) (rows_of t) (auxiliary_tagged P) h.stands.multiples in
-        let par : AreParallel (auxiliary_of P) (rows_of t) b.0 = rows_parallel (auxiliary_of P) (own_of (auxiliary_of P) (columns_of t.basis)) b.0 (rows_of t) b.1 h.stands.multiples in
+        multiple_rows_exist (auxiliary_of P) (own_of (auxiliary_of P) (columns_of t.basis)) (rows_of t)
+        (auxiliary_tagged P) h.stands.multiples in
+        let par : AreParallel (auxiliary_of P) (rows_of t) b.0 =
+        rows_parallel (auxiliary_of P) (own_of (auxiliary_of P) (columns_of t.basis)) b.0 (rows_of t) b.1
+        h.stands.multiples in
         auxiliary_bounded P (own_of (auxiliary_of P) (columns_of t.basis)) b.0 column b.1
-        (unbounded_parallel (auxiliary_of P) (own_of (auxiliary_of P) (columns_of t.basis)) (rows_of t) b.0 column par record {
+        (unbounded_parallel (auxiliary_of P) (own_of (auxiliary_of P) (columns_of t.basis)) (rows_of t) b.0 column par
+        record {
           feasible = lex_feasible (auxiliary_of P) (rows_of t) h.stands.feasible;
           inside = omega (arith, low);
           improving = first.negative;
@@ -101,7 +115,9 @@ module _ {P : Program} {t : Table} (h : HoldsExplicit P t) where
     module _ {row : ℕ} (leaves' : Leaves (shape t.columns (positions t)) (rows_of t) column row) where
       leaves : Leaves (auxiliary_of P) (rows_of t) column row
       leaves =
-          let l : Leaves (shape P.n P.m) (rows_of t) column row = subst (λ n. Leaves (shape n P.m) (rows_of t) column row) h.columns_are (subst (λ m. Leaves (shape t.columns m) (rows_of t) column row) h.rows_are leaves') in
+          let l : Leaves (shape P.n P.m) (rows_of t) column row =
+          subst (λ n. Leaves (shape n P.m) (rows_of t) column row) h.columns_are
+          (subst (λ m. Leaves (shape t.columns m) (rows_of t) column row) h.rows_are leaves') in
           record { inside = l.inside; positive = l.positive; first = l.first }
 
       row_low : row < P.m
@@ -113,48 +129,71 @@ module _ {P : Program} {t : Table} (h : HoldsExplicit P t) where
       next_other : (i : ℕ) → i ≢ row → columns_of (set t.basis row column) i ≡ columns_of t.basis i
       next_other i d = get_or-set_other t.basis row i column 0 d
 
-      own_next : (i : ℕ) → i ≢ row → own_of (auxiliary_of P) (columns_of (set t.basis row column)) i ≡ own_of (auxiliary_of P) (columns_of t.basis) i
+      own_next : (i : ℕ) → i ≢ row
+          → own_of (auxiliary_of P) (columns_of (set t.basis row column)) i ≡ own_of (auxiliary_of P)
+          (columns_of t.basis) i
       own_next i d = ap (λ k. cond (nat_lt i P.m) k (suc (P.n + P.m))) (next_other i d)
 
       own_at : own_of (auxiliary_of P) (columns_of (set t.basis row column)) row ≡ column
       own_at = own_low (auxiliary_of P) (columns_of (set t.basis row column)) row row_low ∙ next_at
 
-      exchange : IsExchange (auxiliary_of P) (own_of (auxiliary_of P) (columns_of t.basis)) (own_of (auxiliary_of P) (columns_of (set t.basis row column))) (rows_of t) row column
-      exchange = record { row_in = row_low; col_in = omega (arith, low); entry = leaves.positive; own_at = own_at; own_other = own_next }
+      exchange : IsExchange (auxiliary_of P) (own_of (auxiliary_of P) (columns_of t.basis))
+          (own_of (auxiliary_of P) (columns_of (set t.basis row column))) (rows_of t) row column
+      exchange =
+          record {
+            row_in = row_low;
+            col_in = omega (arith, low);
+            entry = leaves.positive;
+            own_at = own_at;
+            own_other =
+                own_next;
+          }
 
       abbrev IsNext : Matrix → Type 0
       IsNext rows' =
-          TurnsTo (auxiliary_of P) (columns_of t.basis) (columns_of (set t.basis row column)) × StandsMultiple (auxiliary_of P) (columns_of (set t.basis row column)) rows'
+          TurnsTo (auxiliary_of P) (columns_of t.basis) (columns_of (set t.basis row column))
+          × StandsMultiple (auxiliary_of P) (columns_of (set t.basis row column)) rows'
           × Rises (auxiliary_of P) (rows_of t P.m) (rows' P.m)
 
       turned : (rows' : Matrix) → IsParallel (suc (right (auxiliary_of P))) (rows' row) (rows_of t row)
-          → ((i : ℕ) → i ≤ P.m → i ≢ row → IsClearedBy (suc (right (auxiliary_of P))) column (rows_of t i) (rows_of t row) (rows' i)) → IsNext rows'
+          → ((i : ℕ) → i ≤ P.m → i ≢ row
+          → IsClearedBy (suc (right (auxiliary_of P))) column (rows_of t i) (rows_of t row) (rows' i)) → IsNext rows'
       turned rows' row_at row_other =
-          multiple_turn (auxiliary_of P) (columns_of t.basis) (columns_of (set t.basis row column)) (rows_of t) rows' row column (auxiliary_tagged P) h.stands enters leaves
+          multiple_turn (auxiliary_of P) (columns_of t.basis) (columns_of (set t.basis row column)) (rows_of t) rows'
+          row column (auxiliary_tagged P) h.stands enters leaves
           (record { exchange = exchange; row_at = row_at; row_other = row_other })
 
       -- ---- whether the auxiliary column has left
       pub explicit_left : columns_of t.basis row ≡ P.n + P.m → ¬ (HasAuxiliary P (columns_of (set t.basis row column)))
       explicit_left e a = elim (cases_eq a.0 row) [
-        | inl c ↦ let x : P.n + P.m ≡ column = a.2 ∙ ap (columns_of (set t.basis row column)) c ∙ next_at in absurd (omega (arith, low))
+        | inl c ↦
+            let x : P.n + P.m ≡ column = a.2 ∙ ap (columns_of (set t.basis row column)) c ∙ next_at in
+            absurd (omega (arith, low))
         | inr d ↦
             let b : (prim : Matrix) × IsBasis (auxiliary_of P) (own_of (auxiliary_of P) (columns_of t.basis)) prim =
-            multiple_rows_exist (auxiliary_of P) (own_of (auxiliary_of P) (columns_of t.basis)) (rows_of t) (auxiliary_tagged P) h.stands.multiples in
-            let o : own_of (auxiliary_of P) (columns_of t.basis) a.0 ≡ own_of (auxiliary_of P) (columns_of t.basis) row =
+            multiple_rows_exist (auxiliary_of P) (own_of (auxiliary_of P) (columns_of t.basis)) (rows_of t)
+            (auxiliary_tagged P) h.stands.multiples in
+            let o : own_of (auxiliary_of P) (columns_of t.basis) a.0 ≡ own_of (auxiliary_of P) (columns_of t.basis)
+            row =
             own_is a.0 a.1 ∙ sym (next_other a.0 d) ∙ sym a.2 ∙ sym e ∙ sym (own_is row row_low) in
             let al : a.0 < P.m = a.1 in
-            d (own_apart (auxiliary_of P) (own_of (auxiliary_of P) (columns_of t.basis)) b.0 b.1 a.0 row (omega arith) (omega (arith, row_low)) o)
+            d (own_apart (auxiliary_of P) (own_of (auxiliary_of P) (columns_of t.basis)) b.0 b.1 a.0 row (omega arith)
+            (omega (arith, row_low)) o)
       ]
 
-      pub explicit_stays : columns_of t.basis row ≢ P.n + P.m → HasAuxiliary P (columns_of t.basis) → HasAuxiliary P (columns_of (set t.basis row column))
+      pub explicit_stays : columns_of t.basis row ≢ P.n + P.m → HasAuxiliary P (columns_of t.basis)
+          → HasAuxiliary P (columns_of (set t.basis row column))
       explicit_stays d a = (a.0, a.1, a.2 ∙ sym (next_other a.0 (λ c. d (ap (columns_of t.basis) (sym c) ∙ sym a.2))))
 
       -- ---- the dictionary after the turn
       width_is : width_of t ≡ suc (suc (suc (suc (P.n + P.m))))
       width_is = omega (arith, size_is)
 
-      shorter_row : (lower new : Vector) → IsClearedBy (width_of t) column lower (rows_of t row) new → IsClearedBy (suc (suc (suc (P.n + P.m)))) column lower (rows_of t row) new
-      shorter_row lower new c = shorter (width_of t) (suc (suc (suc (P.n + P.m)))) column lower (rows_of t row) new (omega (arith, width_is)) c
+      shorter_row : (lower new : Vector) → IsClearedBy (width_of t) column lower (rows_of t row) new
+          → IsClearedBy (suc (suc (suc (P.n + P.m)))) column lower (rows_of t row) new
+      shorter_row lower new c =
+          shorter (width_of t) (suc (suc (suc (P.n + P.m)))) column lower (rows_of t row) new (omega (arith, width_is))
+          c
 
       row_zero : rows_of t row (spare_column P.n P.m) ≡ pos 0
       row_zero =
@@ -164,62 +203,111 @@ module _ {P : Program} {t : Table} (h : HoldsExplicit P t) where
       module _ (t' : Table) (p : IsPivoted t t' row column) where
         next : IsNext (rows_of t')
         next = turned (rows_of t')
-            (record { p = p.row_at.p; q = p.row_at.q; p_positive = p.row_at.p_positive; q_positive = p.row_at.q_positive; same = λ k l. p.row_at.same k (omega (arith, width_is)) })
+            (record {
+              p = p.row_at.p;
+              q = p.row_at.q;
+              p_positive = p.row_at.p_positive;
+              q_positive =
+                  p.row_at.q_positive;
+              same = λ k l. p.row_at.same k (omega (arith, width_is));
+            })
             (λ i il d. shorter_row (rows_of t i) (rows_of t' i) (p.row_other i (omega (arith, h.rows_are)) d))
 
-        module _ (c : IsClosed t') (k : IsClearedBy (width_of t) column (kept_row_of t) (rows_of t row) (kept_row_of t')) (eb : t'.basis ≡ set t.basis row column) (en : t'.columns ≡ t.columns)
+        module _ (c : IsClosed t')
+            (k : IsClearedBy (width_of t) column (kept_row_of t) (rows_of t row) (kept_row_of t'))
+            (eb : t'.basis ≡ set t.basis row column) (en : t'.columns ≡ t.columns)
             (a : HasAuxiliary P (columns_of t.basis)) where
           pub turn_explicit : HoldsExplicit P t'
           turn_explicit = record {
             rows_are = ap length eb ∙ length-set t.basis row column ∙ h.rows_are;
             columns_are = en ∙ h.columns_are;
-            reached = subst (λ (b : List ℕ). Reached P (columns_of b)) (sym eb) (suc h.reached.0, (columns_of t.basis, h.reached.1, inl (a, next.0)));
-            stands = subst (λ (b : List ℕ). StandsMultiple (auxiliary_of P) (columns_of b) (rows_of t')) (sym eb) next.1;
+            reached =
+                subst (λ (b : List ℕ). Reached P (columns_of b)) (sym eb)
+                (suc h.reached.0, (columns_of t.basis, h.reached.1, inl (a, next.0)));
+            stands =
+                subst (λ (b : List ℕ). StandsMultiple (auxiliary_of P) (columns_of b) (rows_of t')) (sym eb) next.1;
             kept =
-                subst (λ (b : List ℕ). IsMultipleRow (kept_of P) (own_of (kept_of P) (columns_of b)) P.m (kept_row_of t')) (sym eb)
-                (kept_multiple P (own_of (auxiliary_of P) (columns_of t.basis)) (own_of (auxiliary_of P) (columns_of (set t.basis row column))) (rows_of t) (kept_row_of t) (kept_row_of t') row column h.stands.multiples h.kept row_low own_at own_next
+                subst (λ (b : List ℕ). IsMultipleRow (kept_of P) (own_of (kept_of P) (columns_of b)) P.m
+                (kept_row_of t')) (sym eb)
+                (kept_multiple P (own_of (auxiliary_of P) (columns_of t.basis))
+                (own_of (auxiliary_of P) (columns_of (set t.basis row column))) (rows_of t) (kept_row_of t)
+                (kept_row_of t') row column h.stands.multiples h.kept row_low own_at own_next
                 (shorter_row (kept_row_of t) (kept_row_of t') k));
             closed = c;
-            kept_zero = zero_stays k.divisor k.p k.q (kept_row_of t' (spare_column P.n P.m)) (kept_row_of t (spare_column P.n P.m)) (rows_of t row (spare_column P.n P.m)) k.divides (k.entries (spare_column P.n P.m) (omega (arith, width_is))) h.kept_zero row_zero;
+            kept_zero =
+                zero_stays k.divisor k.p k.q (kept_row_of t' (spare_column P.n P.m))
+                (kept_row_of t (spare_column P.n P.m)) (rows_of t row (spare_column P.n P.m)) k.divides
+                (k.entries (spare_column P.n P.m) (omega (arith, width_is))) h.kept_zero row_zero;
           }
 
-          pub explicit_falls : t'.limit ≡ t.limit → IsSmall t → IsSmall t' → turns_left_explicit t' < turns_left_explicit t
+          pub explicit_falls : t'.limit ≡ t.limit → IsSmall t → IsSmall t'
+              → turns_left_explicit t' < turns_left_explicit t
           explicit_falls el small small' =
               let h' : HoldsExplicit P t' = turn_explicit in
               let w : IsWithin (auxiliary_of P) t.limit (rows_of t P.m) = explicit_within P t h small in
-              let w' : IsWithin (auxiliary_of P) t.limit (rows_of t' P.m) = subst (λ l. IsWithin (auxiliary_of P) l (rows_of t' P.m)) el (explicit_within P t' h' small') in
-              let up : rank (auxiliary_of P) t.limit (rows_of t P.m) < rank (auxiliary_of P) t.limit (rows_of t' P.m) = rank_rises (auxiliary_of P) t.limit (rows_of t P.m) (rows_of t' P.m) w w' next.2 in
-              let high : rank (auxiliary_of P) t.limit (rows_of t' P.m) < rank_limit (auxiliary_of P) t.limit = rank_below (auxiliary_of P) t.limit (rows_of t' P.m) w' in
-              let e' : turns_left_explicit t' ≡ rank_limit (auxiliary_of P) t.limit - rank (auxiliary_of P) t.limit (rows_of t' P.m) =
-              explicit_left_is P t' h' ∙ ap (λ l. rank_limit (auxiliary_of P) l - rank (auxiliary_of P) l (rows_of t' P.m)) el in
-              subst (λ x. x < turns_left_explicit t) (sym e') (subst (λ x. rank_limit (auxiliary_of P) t.limit - rank (auxiliary_of P) t.limit (rows_of t' P.m) < x) (sym (explicit_left_is P t h))
-              (falls (rank_limit (auxiliary_of P) t.limit) (rank (auxiliary_of P) t.limit (rows_of t P.m)) (rank (auxiliary_of P) t.limit (rows_of t' P.m)) up high))
+              let w' : IsWithin (auxiliary_of P) t.limit (rows_of t' P.m) =
+              subst (λ l. IsWithin (auxiliary_of P) l (rows_of t' P.m)) el (explicit_within P t' h' small') in
+              let up : rank (auxiliary_of P) t.limit (rows_of t P.m) < rank (auxiliary_of P) t.limit (rows_of t' P.m) =
+              rank_rises (auxiliary_of P) t.limit (rows_of t P.m) (rows_of t' P.m) w w' next.2 in
+              let high : rank (auxiliary_of P) t.limit (rows_of t' P.m) < rank_limit (auxiliary_of P) t.limit =
+              rank_below (auxiliary_of P) t.limit (rows_of t' P.m) w' in
+              let e' : turns_left_explicit t' ≡ rank_limit (auxiliary_of P) t.limit - rank (auxiliary_of P) t.limit
+              (rows_of t' P.m) =
+              explicit_left_is P t' h'
+              ∙ ap (λ l. rank_limit (auxiliary_of P) l - rank (auxiliary_of P) l (rows_of t' P.m)) el in
+              subst (λ x. x < turns_left_explicit t) (sym e')
+              (subst (λ x. rank_limit (auxiliary_of P) t.limit - rank (auxiliary_of P) t.limit (rows_of t' P.m) < x)
+              (sym (explicit_left_is P t h))
+              (falls (rank_limit (auxiliary_of P) t.limit) (rank (auxiliary_of P) t.limit (rows_of t P.m))
+              (rank (auxiliary_of P) t.limit (rows_of t' P.m)) up high))
 
-          pub explicit_turned : t'.limit ≡ t.limit → IsSmall t → IsSmall t' → (b : Bool) → (b ≡ true → columns_of t.basis row ≡ P.n + P.m) → (b ≡ false → columns_of t.basis row ≢ P.n + P.m) → HasTurnedExplicit P (turn_after b) t t'
-          explicit_turned el small small' true gone stays = (turn_explicit, subst (λ (b : List ℕ). ¬ (HasAuxiliary P (columns_of b))) (sym eb) (explicit_left (gone refl)))
+          pub explicit_turned : t'.limit ≡ t.limit → IsSmall t → IsSmall t' → (b : Bool)
+              → (b ≡ true → columns_of t.basis row ≡ P.n + P.m) → (b ≡ false → columns_of t.basis row ≢ P.n + P.m)
+              → HasTurnedExplicit P (turn_after b) t t'
+          explicit_turned el small small' true gone stays = (
+            turn_explicit,
+            subst (λ (b : List ℕ). ¬ (HasAuxiliary P (columns_of b))) (sym eb)
+                (explicit_left (gone refl)),
+          )
           explicit_turned el small small' false gone stays = (
-            record { holds = turn_explicit; auxiliary = subst (λ (b : List ℕ). HasAuxiliary P (columns_of b)) (sym eb) (explicit_stays (stays refl) a) },
+            record {
+              holds = turn_explicit;
+              auxiliary =
+                  subst (λ (b : List ℕ). HasAuxiliary P (columns_of b)) (sym eb) (explicit_stays (stays refl) a);
+            },
             explicit_falls el small small',
           )
 
       -- ---- a row that would be wide
       next_rows : Matrix
-      next_rows i k = cond (nat_eq i row) (rows_of t row k) ((rows_of t row column *ℤ rows_of t i k) -ℤ (rows_of t i column *ℤ rows_of t row k))
+      next_rows i k =
+          cond (nat_eq i row) (rows_of t row k)
+          ((rows_of t row column *ℤ rows_of t i k) -ℤ (rows_of t i column *ℤ rows_of t row k))
 
       next_row : (k : ℕ) → next_rows row k ≡ rows_of t row k
       unfolding next_rows
       next_row k = grind (arith, nat_tests)
 
-      other_row : (i : ℕ) → i ≢ row → (k : ℕ) → next_rows i k ≡ (rows_of t row column *ℤ rows_of t i k) -ℤ (rows_of t i column *ℤ rows_of t row k)
+      other_row : (i : ℕ) → i ≢ row → (k : ℕ)
+          → next_rows i k ≡ (rows_of t row column *ℤ rows_of t i k) -ℤ (rows_of t i column *ℤ rows_of t row k)
       unfolding next_rows
       other_row i d k = grind (arith, nat_tests)
 
       turn_exists : IsNext next_rows
       turn_exists =
           turned next_rows
-          (record { p = pos 1; q = pos 1; p_positive = omega (arith, ints); q_positive = omega (arith, ints); same = λ k l. ap (λ x. pos 1 *ℤ x) (next_row k) })
-          (λ i il d. factors_clear (suc (right (auxiliary_of P))) column (rows_of t i) (rows_of t row) (next_rows i) (rows_of t row column) (rows_of t i column)
-          (omega (arith, low)) leaves.positive (*ℤ_comm (rows_of t row column) (rows_of t i column)) (λ k l. other_row i d k))
+          (record {
+            p = pos 1;
+            q = pos 1;
+            p_positive = omega (arith, ints);
+            q_positive = omega (arith, ints);
+            same =
+                λ k l. ap (λ x. pos 1 *ℤ x) (next_row k);
+          })
+          (λ i il d. factors_clear (suc (right (auxiliary_of P))) column (rows_of t i) (rows_of t row) (next_rows i)
+          (rows_of t row column) (rows_of t i column)
+          (omega (arith, low)) leaves.positive (*ℤ_comm (rows_of t row column) (rows_of t i column))
+          (λ k l. other_row i d k))
 
       pivotable : IsPivotableMultiple (auxiliary_of P) (own_of (auxiliary_of P) (columns_of t.basis)) (rows_of t) row
       pivotable = record {
@@ -236,36 +324,53 @@ module _ {P : Program} {t : Table} (h : HoldsExplicit P t) where
         needs : NeedsAuxiliary P
         needs = beside_needs P (columns_of t.basis) h.reached a
 
-        explicit_wide : (i : ℕ) → i ≤ P.m → i ≢ row → IsWideCleared limit (width_of t) column (rows_of t i) (rows_of t row) → HasWideRow limit P (columns_of (set t.basis row column)) i
+        explicit_wide : (i : ℕ) → i ≤ P.m → i ≢ row
+            → IsWideCleared limit (width_of t) column (rows_of t i) (rows_of t row)
+            → HasWideRow limit P (columns_of (set t.basis row column)) i
         explicit_wide i il d w =
             let e : spare_column t.columns (positions t) ≡ spare_column P.n P.m = omega (arith, size_is) in
-            let z : rows_of t i (spare_column P.n P.m) ≡ pos 0 = subst (λ k. rows_of t i k ≡ pos 0) e (h.closed.zero i (omega (arith, h.rows_are))) in
+            let z : rows_of t i (spare_column P.n P.m) ≡ pos 0 =
+            subst (λ k. rows_of t i k ≡ pos 0) e (h.closed.zero i (omega (arith, h.rows_are))) in
             record {
               reached = next_reached;
               wide = inr (inr (
                 needs,
                 inl (
-                    pivot_wide limit (auxiliary_of P) (columns_of t.basis) (columns_of (set t.basis row column)) (rows_of t) row column i w.0 (auxiliary_tagged P) pivotable exchange il d
+                    pivot_wide limit (auxiliary_of P) (columns_of t.basis) (columns_of (set t.basis row column))
+                    (rows_of t) row column i w.0 (auxiliary_tagged P) pivotable exchange il d
                     (wide_cleared limit P.n P.m (width_of t) column (rows_of t i) (rows_of t row) width_is w z row_zero)
-                    (wide_primitive limit P.n P.m (width_of t) column (rows_of t i) (rows_of t row) width_is w z row_zero)
+                    (wide_primitive limit P.n P.m (width_of t) column (rows_of t i) (rows_of t row) width_is w z
+                    row_zero)
                     (wide_entry limit P.n P.m (width_of t) column (rows_of t i) (rows_of t row) width_is w z row_zero)),
               ));
             }
 
-        explicit_wide_kept : IsWideCleared limit (width_of t) column (kept_row_of t) (rows_of t row) → HasWideRow limit P (columns_of (set t.basis row column)) P.m
+        explicit_wide_kept : IsWideCleared limit (width_of t) column (kept_row_of t) (rows_of t row)
+            → HasWideRow limit P (columns_of (set t.basis row column)) P.m
         explicit_wide_kept w =
             let m : IsMultipleRow (kept_of P) (own_of (kept_of P) (columns_of (set t.basis row column))) P.m w.0 =
-            kept_multiple P (own_of (auxiliary_of P) (columns_of t.basis)) (own_of (auxiliary_of P) (columns_of (set t.basis row column))) (rows_of t) (kept_row_of t) w.0 row column h.stands.multiples h.kept row_low own_at own_next
-            (wide_cleared limit P.n P.m (width_of t) column (kept_row_of t) (rows_of t row) width_is w h.kept_zero row_zero) in
+            kept_multiple P (own_of (auxiliary_of P) (columns_of t.basis))
+            (own_of (auxiliary_of P) (columns_of (set t.basis row column))) (rows_of t) (kept_row_of t) w.0 row column
+            h.stands.multiples h.kept row_low own_at own_next
+            (wide_cleared limit P.n P.m (width_of t) column (kept_row_of t) (rows_of t row) width_is w h.kept_zero
+            row_zero) in
             record {
               reached = next_reached;
               wide = inr (inr (
                 needs,
                 inr (
                   w.0,
-                  exchange_inside (auxiliary_of P) (own_of (auxiliary_of P) (columns_of t.basis)) (columns_of (set t.basis row column)) (rows_of t) row column h.stands.multiples.inside exchange,
-                  record { along = m.along; positive = m.positive; primitive = wide_primitive limit P.n P.m (width_of t) column (kept_row_of t) (rows_of t row) width_is w h.kept_zero row_zero },
-                  wide_entry limit P.n P.m (width_of t) column (kept_row_of t) (rows_of t row) width_is w h.kept_zero row_zero,
+                  exchange_inside (auxiliary_of P) (own_of (auxiliary_of P) (columns_of t.basis))
+                      (columns_of (set t.basis row column)) (rows_of t) row column h.stands.multiples.inside exchange,
+                  record {
+                    along = m.along;
+                    positive = m.positive;
+                    primitive =
+                        wide_primitive limit P.n P.m (width_of t) column (kept_row_of t) (rows_of t row) width_is w
+                        h.kept_zero row_zero;
+                  },
+                  wide_entry limit P.n P.m (width_of t) column (kept_row_of t) (rows_of t row) width_is w h.kept_zero
+                      row_zero,
                 ),
               ));
             }
@@ -275,13 +380,21 @@ module _ {P : Program} {t : Table} (h : HoldsExplicit P t) where
             → (i ≡ suc (positions t) → IsWideCleared limit (width_of t) column (kept_row_of t) (rows_of t row))
             → HasWideRow limit P (columns_of (set t.basis row column)) (min i (positions t))
         explicit_refused i il d w k = elim (cases_eq i (suc (positions t))) [
-          | inl e ↦ subst (λ v. HasWideRow limit P (columns_of (set t.basis row column)) v) (let x : P.m ≡ min i (positions t) = omega (arith, h.rows_are) in x) (explicit_wide_kept (k e))
-          | inr o ↦ subst (λ v. HasWideRow limit P (columns_of (set t.basis row column)) v) (let x : i ≡ min i (positions t) = omega (arith, h.rows_are) in x) (explicit_wide i (omega (arith, h.rows_are)) d (w (omega arith)))
+          | inl e ↦
+              subst (λ v. HasWideRow limit P (columns_of (set t.basis row column)) v)
+              (let x : P.m ≡ min i (positions t) = omega (arith, h.rows_are) in x) (explicit_wide_kept (k e))
+          | inr o ↦
+              subst (λ v. HasWideRow limit P (columns_of (set t.basis row column)) v)
+              (let x : i ≡ min i (positions t) = omega (arith, h.rows_are) in x)
+              (explicit_wide i (omega (arith, h.rows_are)) d (w (omega arith)))
         ]
 
 -- ---- the ends
-pub explicit_ends : (P : Program) (t : Table) → InExplicit P t → ((c : ℕ) → c < t.columns + positions t → pos 0 ≤ℤ rows_of t (positions t) c) → EndsExplicit P t
+pub explicit_ends : (P : Program) (t : Table) → InExplicit P t
+    → ((c : ℕ) → c < t.columns + positions t → pos 0 ≤ℤ rows_of t (positions t) c) → EndsExplicit P t
 explicit_ends P t h none = record {
   stands = h;
-  none = λ k l. subst (λ i. pos 0 ≤ℤ rows_of t i k) h.holds.rows_are (none k (omega (arith, h.holds.rows_are, h.holds.columns_are)));
+  none =
+      λ k l. subst (λ i. pos 0 ≤ℤ rows_of t i k) h.holds.rows_are
+      (none k (omega (arith, h.holds.rows_are, h.holds.columns_are)));
 }

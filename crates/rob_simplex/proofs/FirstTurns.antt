@@ -27,21 +27,33 @@ use Rattle.rob_simplex.specs.Explicit.{HoldsExplicit}
 use Rattle.rob_simplex.proofs.ReadRows.{basic_low, basic_high}
 
 -- rows that are multiples of rows that stand
-pub stands_parallel : (S : System) (basis : Columns) (rows rows' : Matrix) → IsTagged S → AreParallel S rows rows' → StandsMultiple S basis rows → StandsMultiple S basis rows'
+pub stands_parallel : (S : System) (basis : Columns) (rows rows' : Matrix) → IsTagged S → AreParallel S rows rows'
+    → StandsMultiple S basis rows → StandsMultiple S basis rows'
 stands_parallel S basis rows rows' g par s = record {
   multiples = record {
     inside = s.multiples.inside;
     last = s.multiples.last;
-    rows_of = λ i il. multiple_parallel S (own_of S basis) i (rows i) (rows' i) (tags_in S g) (multiples_in S (own_of S basis) rows s.multiples) il (par i il) (s.multiples.rows_of i il);
+    rows_of =
+        λ i il. multiple_parallel S (own_of S basis) i (rows i) (rows' i) (tags_in S g)
+        (multiples_in S (own_of S basis) rows s.multiples) il (par i il) (s.multiples.rows_of i il);
   };
   feasible = order_parallel S rows rows' g par s.feasible;
 }
 
 -- the same rows
-pub stands_equal_rows : (S : System) (basis : Columns) (rows rows' : Matrix) → IsTagged S → ((i k : ℕ) → i ≤ S.m → k ≤ right S → rows' i k ≡ rows i k) → StandsMultiple S basis rows → StandsMultiple S basis rows'
+pub stands_equal_rows : (S : System) (basis : Columns) (rows rows' : Matrix) → IsTagged S
+    → ((i k : ℕ) → i ≤ S.m → k ≤ right S → rows' i k ≡ rows i k) → StandsMultiple S basis rows
+    → StandsMultiple S basis rows'
 stands_equal_rows S basis rows rows' g e s =
     stands_parallel S basis rows rows' g
-    (λ i il. record { p = pos 1; q = pos 1; p_positive = omega (arith, ints); q_positive = omega (arith, ints); same = λ k kl. ap (λ z. pos 1 *ℤ z) (sym (e i k il (omega arith))) }) s
+    (λ i il. record {
+      p = pos 1;
+      q = pos 1;
+      p_positive = omega (arith, ints);
+      q_positive = omega (arith, ints);
+      same =
+          λ k kl. ap (λ z. pos 1 *ℤ z) (sym (e i k il (omega arith)));
+    }) s
 
 -- ---- the start
 module _ (P : Program) (t : Table) (h : IsStartingTable P t) where
@@ -52,8 +64,10 @@ module _ (P : Program) (t : Table) (h : IsStartingTable P t) where
   pub starts_left : HasNoLeast (shape t.columns (positions t)) (t.columns + positions t) (rows_of t) → HasLeft P t
   starts_left none' =
       let none : HasNoLeast (shape P.n P.m) (P.n + P.m) (rows_of t) =
-      subst (λ n. HasNoLeast (shape n P.m) (n + P.m) (rows_of t)) h.columns_are (subst (λ m. HasNoLeast (shape t.columns m) (t.columns + m) (rows_of t)) h.rows_are none') in
-      let s : StartsAtSlacks P (columns_of t.basis) = slacks_start P (columns_of t.basis) (rows_of t) h.slacks starting none in
+      subst (λ n. HasNoLeast (shape n P.m) (n + P.m) (rows_of t)) h.columns_are
+      (subst (λ m. HasNoLeast (shape t.columns m) (t.columns + m) (rows_of t)) h.rows_are none') in
+      let s : StartsAtSlacks P (columns_of t.basis) =
+      slacks_start P (columns_of t.basis) (rows_of t) h.slacks starting none in
       record {
         rows_are = h.rows_are;
         columns_are = h.columns_are;
@@ -67,11 +81,14 @@ module _ (P : Program) (t : Table) (h : IsStartingTable P t) where
       }
 
   -- the least row: the auxiliary column comes in there
-  pub starts_beside : (q : ℕ) → IsLeast (shape t.columns (positions t)) (t.columns + positions t) (rows_of t) q → InBeside P q t
+  pub starts_beside : (q : ℕ) → IsLeast (shape t.columns (positions t)) (t.columns + positions t) (rows_of t) q
+      → InBeside P q t
   starts_beside q least' =
       let l : IsLeast (shape P.n P.m) (P.n + P.m) (rows_of t) q =
-      subst (λ n. IsLeast (shape n P.m) (n + P.m) (rows_of t) q) h.columns_are (subst (λ m. IsLeast (shape t.columns m) (t.columns + m) (rows_of t) q) h.rows_are least') in
-      let least : IsLeast (auxiliary_of P) (P.n + P.m) (rows_of t) q = record { inside = l.inside; below = l.below; negative = l.negative; first = l.first } in
+      subst (λ n. IsLeast (shape n P.m) (n + P.m) (rows_of t) q) h.columns_are
+      (subst (λ m. IsLeast (shape t.columns m) (t.columns + m) (rows_of t) q) h.rows_are least') in
+      let least : IsLeast (auxiliary_of P) (P.n + P.m) (rows_of t) q =
+      record { inside = l.inside; below = l.below; negative = l.negative; first = l.first } in
       record {
         rows_are = h.rows_are;
         columns_are = h.columns_are;
@@ -86,7 +103,8 @@ module _ (P : Program) (t : Table) (h : HasLeft P t) where
   size_is = omega (arith, h.rows_are, h.columns_are)
 
   column_in : (i : ℕ) → i < P.m → columns_of t.basis i < P.n + P.m
-  column_in i l = subst (λ k. k < P.n + P.m) (own_low (system_of P) (columns_of t.basis) i l) (h.stands.multiples.inside i l)
+  column_in i l =
+      subst (λ k. k < P.n + P.m) (own_low (system_of P) (columns_of t.basis) i l) (h.stands.multiples.inside i l)
 
   pub auxiliary_out : IsFree t.columns t.basis (t.columns + positions t)
   auxiliary_out = record {
@@ -96,7 +114,10 @@ module _ (P : Program) (t : Table) (h : HasLeft P t) where
           let b : columns_of t.basis i < P.n + P.m = column_in i (omega (arith, h.rows_are)) in
           let x : columns_of t.basis i ≡ t.columns + positions t = sym (basic_low t.columns t.basis i l) ∙ e in
           absurd (omega (arith, size_is))
-      | inr l ↦ let x : suc (t.columns + positions t) ≡ t.columns + positions t = sym (basic_high t.columns t.basis i l) ∙ e in absurd (omega arith)
+      | inr l ↦
+          let x : suc (t.columns + positions t) ≡ t.columns + positions t =
+          sym (basic_high t.columns t.basis i l) ∙ e in
+          absurd (omega arith)
     ];
     not_right = λ e. absurd (omega arith);
   }
@@ -112,10 +133,17 @@ module _ (P : Program) (t : Table) (h : HasLeft P t) where
     column_is : column ≡ P.n + P.m
     column_is = is ∙ size_is
 
-    same : (i k : ℕ) → i ≤ P.m → k ≤ suc (P.n + P.m) → without_column P (rows_of t') i k ≡ without_column P (rows_of t) i k
+    same : (i k : ℕ) → i ≤ P.m → k ≤ suc (P.n + P.m)
+        → without_column P (rows_of t') i k ≡ without_column P (rows_of t) i k
     same i k il kl = elim (cases_lt k (P.n + P.m)) [
-      | inl l ↦ let p : auxiliary_place P k ≡ k = place_low P k l in others i (auxiliary_place P k) (omega (arith, h.rows_are)) (omega (arith, size_is)) (λ e. absurd (omega (arith, column_is)))
-      | inr l ↦ let p : auxiliary_place P k ≡ suc k = place_high P k l in others i (auxiliary_place P k) (omega (arith, h.rows_are)) (omega (arith, size_is)) (λ e. absurd (omega (arith, column_is)))
+      | inl l ↦
+          let p : auxiliary_place P k ≡ k = place_low P k l in
+          others i (auxiliary_place P k) (omega (arith, h.rows_are)) (omega (arith, size_is))
+          (λ e. absurd (omega (arith, column_is)))
+      | inr l ↦
+          let p : auxiliary_place P k ≡ suc k = place_high P k l in
+          others i (auxiliary_place P k) (omega (arith, h.rows_are)) (omega (arith, size_is))
+          (λ e. absurd (omega (arith, column_is)))
     ]
 
     pub second_begins : InSecond P t'
@@ -128,13 +156,17 @@ module _ (P : Program) (t : Table) (h : HasLeft P t) where
             rows_are = em ∙ h.rows_are;
             columns_are = en ∙ h.columns_are;
             stands =
-                subst (λ (b : List ℕ). StandsMultiple (system_of P) (columns_of b) (without_column P (rows_of t'))) (sym eb)
-                (stands_equal_rows (system_of P) (columns_of t.basis) (without_column P (rows_of t)) (without_column P (rows_of t')) (system_tagged P) same h.stands);
+                subst (λ (b : List ℕ). StandsMultiple (system_of P) (columns_of b) (without_column P (rows_of t')))
+                (sym eb)
+                (stands_equal_rows (system_of P) (columns_of t.basis) (without_column P (rows_of t))
+                (without_column P (rows_of t')) (system_tagged P) same h.stands);
             empty = λ i il. subst (λ k. rows_of t' i k ≡ pos 0) column_is (zeros i (omega (arith, h.rows_are)));
             closed = record {
-              free = λ i il x. h.closed.free i (omega (arith, em)) (ap (λ (b : List ℕ). columns_of b i) (sym eb) ∙ x ∙ e);
+              free =
+                  λ i il x. h.closed.free i (omega (arith, em)) (ap (λ (b : List ℕ). columns_of b i) (sym eb) ∙ x ∙ e);
               zero = λ i il.
-                  ap (rows_of t' i) e ∙ others i (spare_column t.columns (positions t)) (omega (arith, em)) (omega arith) (λ x. absurd (omega (arith, is)))
+                  ap (rows_of t' i) e ∙ others i (spare_column t.columns (positions t)) (omega (arith, em))
+                  (omega arith) (λ x. absurd (omega (arith, is)))
                   ∙ h.closed.zero i (omega (arith, em));
             };
           };
@@ -142,23 +174,29 @@ module _ (P : Program) (t : Table) (h : HasLeft P t) where
 
 -- in the explicit form: the kept row is written back
 module _ (P : Program) (t t' : Table) (h : HoldsExplicit P t) (out : ¬ (HasAuxiliary P (columns_of t.basis)))
-    (objective : (c : ℕ) → rows_of t' (positions t) c ≡ kept_row_of t c) (rows : (i c : ℕ) → i < positions t → rows_of t' i c ≡ rows_of t i c) (eb : t'.basis ≡ t.basis) (en : t'.columns ≡ t.columns) where
+    (objective : (c : ℕ) → rows_of t' (positions t) c ≡ kept_row_of t c)
+    (rows : (i c : ℕ) → i < positions t → rows_of t' i c ≡ rows_of t i c) (eb : t'.basis ≡ t.basis)
+    (en : t'.columns ≡ t.columns) where
   at_objective : (c : ℕ) → rows_of t' P.m c ≡ kept_row_of t c
   at_objective = subst (λ m. (c : ℕ) → rows_of t' m c ≡ kept_row_of t c) h.rows_are objective
 
-  restored : (i k : ℕ) → i ≤ P.m → k ≤ suc (P.n + P.m) → without_column P (rows_of t') i k ≡ without_auxiliary P (rows_of t) (kept_row_of t) i k
+  restored : (i k : ℕ) → i ≤ P.m → k ≤ suc (P.n + P.m)
+      → without_column P (rows_of t') i k ≡ without_auxiliary P (rows_of t) (kept_row_of t) i k
   restored i k il kl = elim (cases_lt i P.m) [
-    | inl l ↦ rows i (auxiliary_place P k) (omega (arith, h.rows_are)) ∙ sym (ap (λ (r : ℕ → ℤ). r (auxiliary_place P k)) (with_objective_low P.m (rows_of t) (kept_row_of t) i l))
+    | inl l ↦ rows i (auxiliary_place P k) (omega (arith, h.rows_are))
+        ∙ sym (ap (λ (r : ℕ → ℤ). r (auxiliary_place P k)) (with_objective_low P.m (rows_of t) (kept_row_of t) i l))
     | inr l ↦
         let e : i ≡ P.m = omega arith in
         ap (λ v. rows_of t' v (auxiliary_place P k)) e ∙ at_objective (auxiliary_place P k)
-        ∙ sym (ap (λ v. with_objective P.m (rows_of t) (kept_row_of t) v (auxiliary_place P k)) e ∙ ap (λ (r : ℕ → ℤ). r (auxiliary_place P k)) (with_objective_at P.m (rows_of t) (kept_row_of t)))
+        ∙ sym (ap (λ v. with_objective P.m (rows_of t) (kept_row_of t) v (auxiliary_place P k)) e
+        ∙ ap (λ (r : ℕ → ℤ). r (auxiliary_place P k)) (with_objective_at P.m (rows_of t) (kept_row_of t)))
   ]
 
   pub explicit_leaves : HasLeft P t'
   explicit_leaves =
       let em : positions t' ≡ positions t = ap length eb in
-      let e : spare_column t'.columns (positions t') ≡ spare_column P.n P.m = omega (arith, em, en, h.rows_are, h.columns_are) in
+      let e : spare_column t'.columns (positions t') ≡ spare_column P.n P.m =
+      omega (arith, em, en, h.rows_are, h.columns_are) in
       record {
         rows_are = em ∙ h.rows_are;
         columns_are = en ∙ h.columns_are;
@@ -166,10 +204,15 @@ module _ (P : Program) (t t' : Table) (h : HoldsExplicit P t) (out : ¬ (HasAuxi
         without = subst (λ (b : List ℕ). ¬ (HasAuxiliary P (columns_of b))) (sym eb) out;
         stands =
             subst (λ (b : List ℕ). StandsMultiple (system_of P) (columns_of b) (without_column P (rows_of t'))) (sym eb)
-            (stands_equal_rows (system_of P) (columns_of t.basis) (without_auxiliary P (rows_of t) (kept_row_of t)) (without_column P (rows_of t')) (system_tagged P) restored
+            (stands_equal_rows (system_of P) (columns_of t.basis) (without_auxiliary P (rows_of t) (kept_row_of t))
+            (without_column P (rows_of t')) (system_tagged P) restored
             (change_multiple P (columns_of t.basis) (rows_of t) (kept_row_of t) h.stands h.kept out));
         closed = record {
-          free = λ i il x. h.closed.free i (omega (arith, em)) (ap (λ (b : List ℕ). columns_of b i) (sym eb) ∙ x ∙ (let y : spare_column t'.columns (positions t') ≡ spare_column t.columns (positions t) = omega (arith, em, en) in y));
+          free =
+              λ i il x. h.closed.free i (omega (arith, em))
+              (ap (λ (b : List ℕ). columns_of b i) (sym eb) ∙ x
+              ∙ (let y : spare_column t'.columns (positions t') ≡ spare_column t.columns (positions t) =
+              omega (arith, em, en) in y));
           zero = λ i il. ap (rows_of t' i) e ∙ zero_at i (omega (arith, em, h.rows_are));
         };
       }
@@ -177,7 +220,11 @@ module _ (P : Program) (t t' : Table) (h : HoldsExplicit P t) (out : ¬ (HasAuxi
       zero_at : (i : ℕ) → i ≤ P.m → rows_of t' i (spare_column P.n P.m) ≡ pos 0
       zero_at i il = elim (cases_lt i P.m) [
         | inl l ↦
-            let e : spare_column t.columns (positions t) ≡ spare_column P.n P.m = omega (arith, h.rows_are, h.columns_are) in
-            rows i (spare_column P.n P.m) (omega (arith, h.rows_are)) ∙ subst (λ k. rows_of t i k ≡ pos 0) e (h.closed.zero i (omega (arith, h.rows_are)))
-        | inr l ↦ let e : i ≡ P.m = omega arith in ap (λ v. rows_of t' v (spare_column P.n P.m)) e ∙ at_objective (spare_column P.n P.m) ∙ h.kept_zero
+            let e : spare_column t.columns (positions t) ≡ spare_column P.n P.m =
+            omega (arith, h.rows_are, h.columns_are) in
+            rows i (spare_column P.n P.m) (omega (arith, h.rows_are))
+            ∙ subst (λ k. rows_of t i k ≡ pos 0) e (h.closed.zero i (omega (arith, h.rows_are)))
+        | inr l ↦
+            let e : i ≡ P.m = omega arith in
+            ap (λ v. rows_of t' v (spare_column P.n P.m)) e ∙ at_objective (spare_column P.n P.m) ∙ h.kept_zero
       ]

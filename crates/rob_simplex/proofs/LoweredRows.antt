@@ -31,24 +31,30 @@ step_else one place number k d e = grind (arith, nat_tests)
 -- ---- nothing is subtracted
 pub nothing : (p a r u : ℤ) → r ≡ pos 0 → u ≡ pos 0 → p *ℤ (r -ℤ (a *ℤ u)) ≡ pos 0
 nothing p a r u er eu =
-    let x : r -ℤ (a *ℤ u) ≡ pos 0 = ap (λ v. v -ℤ (a *ℤ u)) er ∙ ap (λ v. pos 0 -ℤ (a *ℤ v)) eu ∙ (let z : a *ℤ pos 0 ≡ pos 0 = mul-zero a in let y : pos 0 -ℤ (a *ℤ pos 0) ≡ pos 0 = omega (arith, ints) in y) in
+    let x : r -ℤ (a *ℤ u) ≡ pos 0 =
+    ap (λ v. v -ℤ (a *ℤ u)) er ∙ ap (λ v. pos 0 -ℤ (a *ℤ v)) eu
+    ∙ (let z : a *ℤ pos 0 ≡ pos 0 = mul-zero a in let y : pos 0 -ℤ (a *ℤ pos 0) ≡ pos 0 = omega (arith, ints) in y) in
     ap (λ v. p *ℤ v) x ∙ mul-zero p
 
 there : (p f o r : ℤ) → (p *ℤ r) -ℤ ((p *ℤ f) *ℤ o) ≡ p *ℤ (r -ℤ (f *ℤ o))
 there p f o r = simp ring
 
 factor_is : (d p q f : ℤ) → d *ℤ pos 0 ≡ (p *ℤ f) -ℤ (q *ℤ pos 1) → q ≡ p *ℤ f
-factor_is d p q f e = let z : d *ℤ pos 0 ≡ pos 0 = mul-zero d in let o : q *ℤ pos 1 ≡ q = mul-one q in omega (arith, ints)
+factor_is d p q f e =
+    let z : d *ℤ pos 0 ≡ pos 0 = mul-zero d in let o : q *ℤ pos 1 ≡ q = mul-one q in omega (arith, ints)
 
 elsewhere : (p q a r u : ℤ) → u ≡ pos 0 → (p *ℤ r) -ℤ (q *ℤ pos 0) ≡ p *ℤ (r -ℤ (a *ℤ u))
 elsewhere p q a r u e =
-    let x : r -ℤ (a *ℤ u) ≡ r = ap (λ v. r -ℤ (a *ℤ v)) e ∙ (let z : a *ℤ pos 0 ≡ pos 0 = mul-zero a in let y : r -ℤ (a *ℤ pos 0) ≡ r = omega (arith, ints) in y) in
+    let x : r -ℤ (a *ℤ u) ≡ r =
+    ap (λ v. r -ℤ (a *ℤ v)) e
+    ∙ (let z : a *ℤ pos 0 ≡ pos 0 = mul-zero a in let y : r -ℤ (a *ℤ pos 0) ≡ r = omega (arith, ints) in y) in
     let z : q *ℤ pos 0 ≡ pos 0 = mul-zero q in
     let y : (p *ℤ r) -ℤ (q *ℤ pos 0) ≡ p *ℤ r = omega (arith, ints) in
     y ∙ ap (λ v. p *ℤ v) (sym x)
 
 -- ---- the clearing of the way lowers the place
-module _ (n way place : ℕ) (factor own : ℤ) (row low top : Vector) (wl : way < n) (apart : place ≢ way) (zero : row way ≡ pos 0) (here : low way ≡ factor) (others : (k : ℕ) → k < n → k ≢ way → low k ≡ row k)
+module _ (n way place : ℕ) (factor own : ℤ) (row low top : Vector) (wl : way < n) (apart : place ≢ way)
+    (zero : row way ≡ pos 0) (here : low way ≡ factor) (others : (k : ℕ) → k < n → k ≢ way → low k ≡ row k)
     (steps : (k : ℕ) → k < n → top k ≡ step_row way place own k) where
   times : (new : Vector) (c : IsClearedBy n way low top new) → c.q ≡ c.p *ℤ factor
   times new c =
@@ -71,11 +77,13 @@ module _ (n way place : ℕ) (factor own : ℤ) (row low top : Vector) (wl : way
         | inl e ↦
             let u : unit_row place k ≡ pos 1 = ap (unit_row place) e ∙ unit_one place in
             let s : step_row way place own k ≡ own = ap (step_row way place own) e ∙ step_place way place own apart in
-            c.entries k l ∙ ap (λ v. (c.p *ℤ v) -ℤ (c.q *ℤ top k)) (others k l d) ∙ ap (λ v. (c.p *ℤ row k) -ℤ (c.q *ℤ v)) (steps k l ∙ s)
+            c.entries k l ∙ ap (λ v. (c.p *ℤ v) -ℤ (c.q *ℤ top k)) (others k l d)
+            ∙ ap (λ v. (c.p *ℤ row k) -ℤ (c.q *ℤ v)) (steps k l ∙ s)
             ∙ ap (λ v. (c.p *ℤ row k) -ℤ (v *ℤ own)) (times new c) ∙ there c.p factor own (row k)
             ∙ ap (λ v. c.p *ℤ (row k -ℤ v)) (sym (ap (λ v. (factor *ℤ own) *ℤ v) u ∙ mul-one (factor *ℤ own)))
         | inr f ↦
-            c.entries k l ∙ ap (λ v. (c.p *ℤ v) -ℤ (c.q *ℤ top k)) (others k l d) ∙ ap (λ v. (c.p *ℤ row k) -ℤ (c.q *ℤ v)) (steps k l ∙ step_else way place own k d f)
+            c.entries k l ∙ ap (λ v. (c.p *ℤ v) -ℤ (c.q *ℤ top k)) (others k l d)
+            ∙ ap (λ v. (c.p *ℤ row k) -ℤ (c.q *ℤ v)) (steps k l ∙ step_else way place own k d f)
             ∙ elsewhere c.p c.q (factor *ℤ own) (row k) (unit_row place k) (unit_zero place k f)
       ]
     ];
@@ -85,19 +93,23 @@ module _ (n way place : ℕ) (factor own : ℤ) (row low top : Vector) (wl : way
   way_wide limit w = (w.0, way_lowers w.0 w.1, w.2, w.3)
 
 -- ---- by columns
-module _ (m w n : ℕ) (places near basis : Columns) (placed : IsPlaced m w n places near basis) (i column : ℕ) (il : i ≤ m) (cl : column < n) (free : places column < w) where
+module _ (m w n : ℕ) (places near basis : Columns) (placed : IsPlaced m w n places near basis) (i column : ℕ)
+    (il : i ≤ m) (cl : column < n) (free : places column < w) where
   unit_same : (k : ℕ) → k < n → places k < w → unit_row (places column) (places k) ≡ unit_row column k
   unit_same k kl l = elim (cases_eq k column) [
-    | inl e ↦ ap (λ v. unit_row (places column) (places v)) e ∙ unit_one (places column) ∙ sym (ap (unit_row column) e ∙ unit_one column)
+    | inl e ↦ ap (λ v. unit_row (places column) (places v)) e ∙ unit_one (places column)
+        ∙ sym (ap (unit_row column) e ∙ unit_one column)
     | inr d ↦
-        unit_zero (places column) (places k) (λ e. d (sym (placed.near_column k kl l) ∙ ap near e ∙ placed.near_column column cl free))
+        unit_zero (places column) (places k)
+        (λ e. d (sym (placed.near_column k kl l) ∙ ap near e ∙ placed.near_column column cl free))
         ∙ sym (unit_zero column k d)
   ]
 
   not_there : (k : ℕ) → w ≤ places k → unit_row column k ≡ pos 0
   not_there k l = unit_zero column k (λ e. let x : places k ≡ places column = ap places e in absurd (omega arith))
 
-  pub lowered_read : (amount : ℤ) (low new : Vector) → IsLowered (suc w) (places column) amount low new → IsLowered n column amount (read_row w places i low) (read_row w places i new)
+  pub lowered_read : (amount : ℤ) (low new : Vector) → IsLowered (suc w) (places column) amount low new
+      → IsLowered n column amount (read_row w places i low) (read_row w places i new)
   lowered_read amount low new c = record {
     divisor = c.divisor;
     p = c.p;
@@ -112,30 +124,41 @@ module _ (m w n : ℕ) (places near basis : Columns) (placed : IsPlaced m w n pl
         | inl s ↦
             ap (λ t. c.divisor *ℤ t) (read_own w places i new k s) ∙ c.entries w (omega arith)
             ∙ ap (λ t. c.p *ℤ (t -ℤ (amount *ℤ unit_row (places column) w))) (sym (read_own w places i low k s))
-            ∙ ap (λ t. c.p *ℤ (read_row w places i low k -ℤ (amount *ℤ t))) (unit_zero (places column) w (λ e. absurd (omega arith)) ∙ sym (not_there k l))
+            ∙ ap (λ t. c.p *ℤ (read_row w places i low k -ℤ (amount *ℤ t)))
+            (unit_zero (places column) w (λ e. absurd (omega arith)) ∙ sym (not_there k l))
         | inr d ↦
             ap (λ t. c.divisor *ℤ t) (read_none w places i new k l d) ∙ mul-zero c.divisor
-            ∙ sym (nothing c.p amount (read_row w places i low k) (unit_row column k) (read_none w places i low k l d) (not_there k l))
+            ∙ sym (nothing c.p amount (read_row w places i low k) (unit_row column k) (read_none w places i low k l d)
+            (not_there k l))
       ]
     ];
   }
 
-  pub wide_lowered_read : (limit : ℕ) (amount : ℤ) (low : Vector) → IsWideLowered limit (suc w) (places column) amount low → IsWideLowered limit n column amount (read_row w places i low)
+  pub wide_lowered_read : (limit : ℕ) (amount : ℤ) (low : Vector)
+      → IsWideLowered limit (suc w) (places column) amount low
+      → IsWideLowered limit n column amount (read_row w places i low)
   wide_lowered_read limit amount low x =
       let kl : x.3.0 < suc w = x.3.1 in
       let over : limit < unsigned_abs (x.0 x.3.0) = x.3.2 in
       let entry : (c : ℕ) × (c < n) × (read_row w places i x.0 c ≡ x.0 x.3.0) = elim (cases_lt x.3.0 w) [
-        | inl l ↦ (near x.3.0, placed.near_in x.3.0 l, read_near w places i x.0 (near x.3.0) (subst (λ t. t < w) (sym (placed.near_at x.3.0 l)) l) ∙ ap x.0 (placed.near_at x.3.0 l))
+        | inl l ↦ (
+          near x.3.0,
+          placed.near_in x.3.0 l,
+          read_near w places i x.0 (near x.3.0)
+              (subst (λ t. t < w) (sym (placed.near_at x.3.0 l)) l) ∙ ap x.0 (placed.near_at x.3.0 l),
+        )
         | inr l ↦
-            let e : w ≡ x.3.0 = omega arith in (basis i, placed.basic_in i il, read_own w places i x.0 (basis i) (placed.basic_at i il) ∙ ap x.0 e)
+            let e : w ≡ x.3.0 = omega arith in
+            (basis i, placed.basic_in i il, read_own w places i x.0 (basis i) (placed.basic_at i il) ∙ ap x.0 e)
       ] in (
         read_row w places i x.0,
         lowered_read amount low x.0 x.1,
-        entry_primitive m w n places near basis (λ j. x.0) (λ j. x.0 w) i placed il (λ d each own. x.2 d (λ j jl. elim (cases_lt j w) [
-          | inl l ↦ each j l
-          | inr l ↦
-              let e : w ≡ j = omega arith in
-              subst (λ t. d ∣ unsigned_abs (x.0 t)) e own
-        ])),
+        entry_primitive m w n places near basis (λ j. x.0) (λ j. x.0 w) i placed il
+            (λ d each own. x.2 d (λ j jl. elim (cases_lt j w) [
+              | inl l ↦ each j l
+              | inr l ↦
+                  let e : w ≡ j = omega arith in
+                  subst (λ t. d ∣ unsigned_abs (x.0 t)) e own
+            ])),
         (entry.0, entry.1, subst (λ t. limit < unsigned_abs t) (sym entry.2) over),
       )

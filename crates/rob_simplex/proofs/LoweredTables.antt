@@ -21,10 +21,14 @@ pub record IsWayAt (width place way : ℕ) (row : Vector) : Type 0 where
   pub apart : place ≢ way
   pub zero : row way ≡ pos 0
 
-module _ {limit n : ℕ} {basis places near : List ℕ} {table : List ℤ} {bounds : List ℕ} {workspace : ℕ} (sound : IsSound limit n basis places near table bounds workspace) where
+module _ {limit n : ℕ} {basis places near : List ℕ} {table : List ℤ} {bounds : List ℕ} {workspace : ℕ}
+    (sound : IsSound limit n basis places near table bounds workspace) where
   -- the objective's own entry
-  pub own_entry : rows_of (table_with sound table) (length basis) (suc (n + length basis)) ≡ row_at table (n + 4) (length basis) (n + 3)
-  own_entry = read_own (n + 3) (columns_of places) (length basis) (row_at table (n + 4) (length basis)) (suc (n + length basis)) (objective_place sound)
+  pub own_entry : rows_of (table_with sound table) (length basis) (suc (n + length basis)) ≡ row_at table (n + 4)
+      (length basis) (n + 3)
+  own_entry =
+      read_own (n + 3) (columns_of places) (length basis) (row_at table (n + 4) (length basis)) (suc (n + length basis))
+      (objective_place sound)
 
   -- ---- two columns stand at two places
   places_apart : (c d : ℕ) → IsFree n basis c → IsFree n basis d → c ≢ d → columns_of places c ≢ columns_of places d
@@ -32,11 +36,15 @@ module _ {limit n : ℕ} {basis places near : List ℕ} {table : List ℤ} {boun
       o (sym (sound.placed.near_column c fc.inside (free_place sound c fc)) ∙ ap (columns_of near) e
       ∙ sound.placed.near_column d fd.inside (free_place sound d fd))
 
-  zero_place : (c : ℕ) → IsFree n basis c → rows_of (table_with sound table) (length basis) c ≡ pos 0 → row_at table (n + 4) (length basis) (columns_of places c) ≡ pos 0
-  zero_place c f z = sym (read_near (n + 3) (columns_of places) (length basis) (row_at table (n + 4) (length basis)) c (free_place sound c f)) ∙ z
+  zero_place : (c : ℕ) → IsFree n basis c → rows_of (table_with sound table) (length basis) c ≡ pos 0
+      → row_at table (n + 4) (length basis) (columns_of places c) ≡ pos 0
+  zero_place c f z =
+      sym (read_near (n + 3) (columns_of places) (length basis) (row_at table (n + 4) (length basis)) c
+      (free_place sound c f)) ∙ z
 
   -- the way and the column's place
-  module _ {column : ℕ} (w : HasWay (table_with sound table) column) {x y : ℕ} (ex : x ≡ columns_of places column) (ey : y ≡ columns_of places (n + length basis)) where
+  module _ {column : ℕ} (w : HasWay (table_with sound table) column) {x y : ℕ} (ex : x ≡ columns_of places column)
+      (ey : y ≡ columns_of places (n + length basis)) where
     pub way_there : IsWayAt (n + 3) x y (row_at table (n + 4) (length basis))
     way_there = record {
       way_in = subst (λ k. k < n + 3) (sym ey) (free_place sound (n + length basis) w.way);
@@ -50,29 +58,42 @@ module _ {limit n : ℕ} {basis places near : List ℕ} {table : List ℤ} {boun
     place_in : columns_of places column < n + 3
     place_in = free_place sound column free
 
-    row_is : (new : Vector) → IsLowered (n + 4) x (factor *ℤ row_at table (n + 4) (length basis) (n + 3)) (row_at table (n + 4) (length basis)) new
-        → IsLowered (suc (n + 3)) (columns_of places column) (amount_of (table_with sound table) factor) (row_at table (n + 4) (length basis)) new
+    row_is : (new : Vector) → IsLowered (n + 4) x (factor *ℤ row_at table (n + 4) (length basis) (n + 3))
+        (row_at table (n + 4) (length basis)) new
+        → IsLowered (suc (n + 3)) (columns_of places column) (amount_of (table_with sound table) factor)
+        (row_at table (n + 4) (length basis)) new
     row_is new l =
         let e : n + 4 ≡ suc (n + 3) = omega arith in
-        subst (λ k. IsLowered k (columns_of places column) (amount_of (table_with sound table) factor) (row_at table (n + 4) (length basis)) new) e
-        (subst (λ y. IsLowered (n + 4) y (amount_of (table_with sound table) factor) (row_at table (n + 4) (length basis)) new) ex
-        (subst (λ a. IsLowered (n + 4) x a (row_at table (n + 4) (length basis)) new) (ap (λ z. factor *ℤ z) (sym own_entry)) l))
+        subst (λ k. IsLowered k (columns_of places column) (amount_of (table_with sound table) factor)
+        (row_at table (n + 4) (length basis)) new) e
+        (subst (λ y. IsLowered (n + 4) y (amount_of (table_with sound table) factor)
+        (row_at table (n + 4) (length basis)) new) ex
+        (subst (λ a. IsLowered (n + 4) x a (row_at table (n + 4) (length basis)) new)
+        (ap (λ z. factor *ℤ z) (sym own_entry)) l))
 
-    pub lowered_table : (new t : List ℤ) → t ≡ new → IsLowered (n + 4) x (factor *ℤ row_at table (n + 4) (length basis) (n + 3)) (row_at table (n + 4) (length basis)) (row_at new (n + 4) (length basis))
+    pub lowered_table : (new t : List ℤ) → t ≡ new
+        → IsLowered (n + 4) x (factor *ℤ row_at table (n + 4) (length basis) (n + 3))
+        (row_at table (n + 4) (length basis)) (row_at new (n + 4) (length basis))
         → IsLowered (n + length basis + 4) column (amount_of (table_with sound table) factor)
         (rows_of (table_with sound table) (length basis)) (rows_of (table_with sound t) (length basis))
     lowered_table new t e l =
         subst
-        (λ (v : List ℤ). IsLowered (n + length basis + 4) column (amount_of (table_with sound table) factor) (rows_of (table_with sound table) (length basis))
+        (λ (v : List ℤ). IsLowered (n + length basis + 4) column (amount_of (table_with sound table) factor)
+        (rows_of (table_with sound table) (length basis))
         (rows_of (table_with sound v) (length basis))) (sym e)
-        (lowered_read (length basis) (n + 3) (n + length basis + 4) (columns_of places) (columns_of near) (basic_columns n basis) sound.placed (length basis) column (omega arith) free.inside place_in
-        (amount_of (table_with sound table) factor) (row_at table (n + 4) (length basis)) (row_at new (n + 4) (length basis)) (row_is (row_at new (n + 4) (length basis)) l))
+        (lowered_read (length basis) (n + 3) (n + length basis + 4) (columns_of places) (columns_of near)
+        (basic_columns n basis) sound.placed (length basis) column (omega arith) free.inside place_in
+        (amount_of (table_with sound table) factor) (row_at table (n + 4) (length basis))
+        (row_at new (n + 4) (length basis)) (row_is (row_at new (n + 4) (length basis)) l))
 
-    pub wide_table : IsWideLowered limit (n + 4) x (factor *ℤ row_at table (n + 4) (length basis) (n + 3)) (row_at table (n + 4) (length basis))
-        → IsWideLowered limit (n + length basis + 4) column (amount_of (table_with sound table) factor) (rows_of (table_with sound table) (length basis))
+    pub wide_table : IsWideLowered limit (n + 4) x (factor *ℤ row_at table (n + 4) (length basis) (n + 3))
+        (row_at table (n + 4) (length basis))
+        → IsWideLowered limit (n + length basis + 4) column (amount_of (table_with sound table) factor)
+        (rows_of (table_with sound table) (length basis))
     wide_table w =
         let e : n + 4 ≡ suc (n + 3) = omega arith in
-        wide_lowered_read (length basis) (n + 3) (n + length basis + 4) (columns_of places) (columns_of near) (basic_columns n basis) sound.placed (length basis) column (omega arith) free.inside place_in limit
+        wide_lowered_read (length basis) (n + 3) (n + length basis + 4) (columns_of places) (columns_of near)
+        (basic_columns n basis) sound.placed (length basis) column (omega arith) free.inside place_in limit
         (amount_of (table_with sound table) factor) (row_at table (n + 4) (length basis))
         (w.0, row_is w.0 w.1, subst (λ k. IsPrimitive k w.0) e w.2, (w.3.0, subst (λ k. w.3.0 < k) e w.3.1, w.3.2))
 
@@ -83,21 +104,27 @@ module _ {limit n : ℕ} {basis places near : List ℕ} {table : List ℤ} {boun
   step_low : (w k : ℕ) → k ≢ w → step_row w w (pos 1) k ≡ pos 0
   step_low w k d = grind (arith, nat_tests)
 
-  pub dropped_objective : (t : List ℤ) → ((k : ℕ) → k < n + 4 → row_at t (n + 4) (length basis) k ≡ step_row (n + 3) (n + 3) (pos 1) k)
-      → (c : ℕ) → c < n + length basis + 4 → rows_of (table_with sound t) (length basis) c ≡ unit_row (suc (n + length basis)) c
+  pub dropped_objective : (t : List ℤ)
+      → ((k : ℕ) → k < n + 4 → row_at t (n + 4) (length basis) k ≡ step_row (n + 3) (n + 3) (pos 1) k)
+      → (c : ℕ) → c < n + length basis + 4
+      → rows_of (table_with sound t) (length basis) c ≡ unit_row (suc (n + length basis)) c
   dropped_objective t h c cl = elim (cases_eq c (suc (n + length basis))) [
     | inl e ↦
         ap (rows_of (table_with sound t) (length basis)) e
-        ∙ read_own (n + 3) (columns_of places) (length basis) (row_at t (n + 4) (length basis)) (suc (n + length basis)) (objective_place sound) ∙ h (n + 3) (omega arith) ∙ step_own (n + 3) (n + 3) refl
+        ∙ read_own (n + 3) (columns_of places) (length basis) (row_at t (n + 4) (length basis)) (suc (n + length basis))
+        (objective_place sound) ∙ h (n + 3) (omega arith) ∙ step_own (n + 3) (n + 3) refl
         ∙ sym (ap (unit_row (suc (n + length basis))) e ∙ unit_one (suc (n + length basis)))
     | inr d ↦ elim (cases_lt (columns_of places c) (n + 3)) [
       | inl l ↦
-          read_near (n + 3) (columns_of places) (length basis) (row_at t (n + 4) (length basis)) c l ∙ h (columns_of places c) (omega arith) ∙ step_low (n + 3) (columns_of places c) (λ e. absurd (omega arith))
+          read_near (n + 3) (columns_of places) (length basis) (row_at t (n + 4) (length basis)) c l
+          ∙ h (columns_of places c) (omega arith) ∙ step_low (n + 3) (columns_of places c) (λ e. absurd (omega arith))
           ∙ sym (unit_zero (suc (n + length basis)) c d)
       | inr l ↦ elim (cases_eq (columns_of places c) (n + 3 + length basis)) [
-        | inr s ↦ read_none (n + 3) (columns_of places) (length basis) (row_at t (n + 4) (length basis)) c l s ∙ sym (unit_zero (suc (n + length basis)) c d)
+        | inr s ↦ read_none (n + 3) (columns_of places) (length basis) (row_at t (n + 4) (length basis)) c l s
+            ∙ sym (unit_zero (suc (n + length basis)) c d)
         | inl s ↦
-            let b : (i : ℕ) × (i ≤ length basis) × (columns_of places c ≡ n + 3 + i) × (basic_columns n basis i ≡ c) = sound.placed.basic_column c cl l in
+            let b : (i : ℕ) × (i ≤ length basis) × (columns_of places c ≡ n + 3 + i) × (basic_columns n basis i ≡ c) =
+            sound.placed.basic_column c cl l in
             let bp : columns_of places c ≡ n + 3 + b.0 = b.2 in
             let e : b.0 ≡ length basis = omega arith in
             absurd (d (sym b.3 ∙ ap (basic_columns n basis) e ∙ basic_high n basis (length basis) (omega arith)))

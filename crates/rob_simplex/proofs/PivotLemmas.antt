@@ -1,5 +1,5 @@
--- A pivot of a dictionary: a row in lowest terms, its position opened by the spare column, the others cleared, and the column
--- brought in.
+-- A pivot of a dictionary: a row in lowest terms, its position opened by the spare column, the others cleared, and
+-- the column brought in.
 use Rattle.std.proofs.Common.{◌≡◌, ◌≢◌, ℕ, zero, suc, ◌+◌, ◌<◌, ◌≤◌, sym, refl, ap, ◌∙◌, subst, arith, inl, inr, List, [], ◌∷◌, length, set}
 use Rattle.std.proofs.lemmas.Bool.{cases_eq, cases_lt}
 use Rattle.std.proofs.lemmas.Int.{ints}
@@ -19,7 +19,8 @@ set_twice (z ∷ xs) zero x y = refl
 set_twice (z ∷ xs) (suc k) x y = ap (λ t. z ∷ t) (set_twice xs k x y)
 
 -- a row that clears may be taken times d
-pub times_ring : (D d p q x a b b' : ℤ) → D *ℤ x ≡ (p *ℤ a) -ℤ (q *ℤ b) → d *ℤ b ≡ b' → (D *ℤ d) *ℤ x ≡ ((p *ℤ d) *ℤ a) -ℤ (q *ℤ b')
+pub times_ring : (D d p q x a b b' : ℤ) → D *ℤ x ≡ (p *ℤ a) -ℤ (q *ℤ b) → d *ℤ b ≡ b'
+    → (D *ℤ d) *ℤ x ≡ ((p *ℤ d) *ℤ a) -ℤ (q *ℤ b')
 times_ring D d p q x a b b' e f =
     ap (λ t. t *ℤ x) (*ℤ_comm D d) ∙ mul_assoc d D x ∙ ap (λ t. d *ℤ t) e ∙ mul-sub d (p *ℤ a) (q *ℤ b)
     ∙ ap (λ t. t -ℤ (d *ℤ (q *ℤ b))) (mul_left_comm d p a ∙ sym (mul_assoc p d a))
@@ -35,7 +36,8 @@ cleared_by_times n column low low' top top' new new' d dp el et en cl c = record
   divides = mul-pos_z c.divisor d c.divides dp;
   positive = mul-pos_z c.p d c.positive dp;
   entries = λ k l.
-      ap (λ t. (c.divisor *ℤ d) *ℤ t) (en k l) ∙ times_ring c.divisor d c.p c.q (new k) (low k) (top k) (top' k) (c.entries k l) (et k l)
+      ap (λ t. (c.divisor *ℤ d) *ℤ t) (en k l)
+      ∙ times_ring c.divisor d c.p c.q (new k) (low k) (top k) (top' k) (c.entries k l) (et k l)
       ∙ ap (λ t. ((c.p *ℤ d) *ℤ t) -ℤ (c.q *ℤ top' k)) (el k l);
   cleared = en column cl ∙ c.cleared;
 }
@@ -48,37 +50,50 @@ zero_stays D p q x a b h e ea eb =
     mul_cancel_zero D x h (omega (arith, ints))
 
 -- the spare column opens a position: another column that is not basic stays so
-opened_columns : (t : Table) (row column s : ℕ) → s ≡ spare_column t.columns (positions t) → row < positions t → IsFree t.columns t.basis column → column ≢ spare_column t.columns (positions t)
+opened_columns : (t : Table) (row column s : ℕ) → s ≡ spare_column t.columns (positions t) → row < positions t
+    → IsFree t.columns t.basis column → column ≢ spare_column t.columns (positions t)
     → (i : ℕ) → i ≤ positions t → basic_columns t.columns (set t.basis row s) i ≢ column
 opened_columns t row column s spare rl free structural i il =
     let len : length (set t.basis row s) ≡ length t.basis = length-set t.basis row s in
     elim (cases_lt i (positions t)) [
       | inr l ↦
           let e : basic_columns t.columns (set t.basis row s) i ≡ basic_columns t.columns t.basis i =
-          basic_high t.columns (set t.basis row s) i (omega (arith, len)) ∙ ap (λ k. suc (t.columns + k)) len ∙ sym (basic_high t.columns t.basis i l) in
+          basic_high t.columns (set t.basis row s) i (omega (arith, len)) ∙ ap (λ k. suc (t.columns + k)) len
+          ∙ sym (basic_high t.columns t.basis i l) in
           (λ x. free.not_basic i il (sym e ∙ x))
       | inl l ↦
-          let e : basic_columns t.columns (set t.basis row s) i ≡ columns_of (set t.basis row s) i = basic_low t.columns (set t.basis row s) i (omega (arith, len)) in
+          let e : basic_columns t.columns (set t.basis row s) i ≡ columns_of (set t.basis row s) i =
+          basic_low t.columns (set t.basis row s) i (omega (arith, len)) in
           elim (cases_eq i row) [
-            | inl q ↦ (λ x. structural (sym x ∙ e ∙ ap (columns_of (set t.basis row s)) q ∙ get_or-set_same t.basis row s 0 rl ∙ spare))
-            | inr q ↦ (λ x. free.not_basic i il (basic_low t.columns t.basis i l ∙ sym (get_or-set_other t.basis row i s 0 q) ∙ sym e ∙ x))
+            | inl q ↦
+                (λ x. structural (sym x ∙ e ∙ ap (columns_of (set t.basis row s)) q ∙ get_or-set_same t.basis row s 0 rl
+                ∙ spare))
+            | inr q ↦
+                (λ x. free.not_basic i il
+                (basic_low t.columns t.basis i l ∙ sym (get_or-set_other t.basis row i s 0 q) ∙ sym e ∙ x))
           ]
     ]
 
-pub free_opened : (t : Table) (row column s : ℕ) → s ≡ spare_column t.columns (positions t) → row < positions t → IsFree t.columns t.basis column → column ≢ spare_column t.columns (positions t) → IsFree t.columns (set t.basis row s) column
+pub free_opened : (t : Table) (row column s : ℕ) → s ≡ spare_column t.columns (positions t) → row < positions t
+    → IsFree t.columns t.basis column → column ≢ spare_column t.columns (positions t)
+    → IsFree t.columns (set t.basis row s) column
 free_opened t row column s spare rl free structural = record {
   inside = subst (λ k. column < t.columns + k + 4) (sym (length-set t.basis row s)) free.inside;
-  not_basic = λ i il. opened_columns t row column s spare rl free structural i (omega (arith, length-set t.basis row s));
+  not_basic =
+      λ i il. opened_columns t row column s spare rl free structural i (omega (arith, length-set t.basis row s));
   not_right = subst (λ k. column ≢ right_column t.columns k) (sym (length-set t.basis row s)) free.not_right;
 }
 
 -- the spare column is free where no position is open
-pub closed_free : (t : Table) (s : ℕ) → s ≡ spare_column t.columns (positions t) → IsClosed t → IsFree t.columns t.basis s
+pub closed_free : (t : Table) (s : ℕ) → s ≡ spare_column t.columns (positions t) → IsClosed t
+    → IsFree t.columns t.basis s
 closed_free t s e h = record {
   inside = omega arith;
   not_basic = λ i il x. elim (cases_lt i (positions t)) [
     | inl l ↦ h.free i l (sym (basic_low t.columns t.basis i l) ∙ x ∙ e)
-    | inr l ↦ let b : basic_columns t.columns t.basis i ≡ suc (t.columns + positions t) = basic_high t.columns t.basis i l in absurd (omega arith)
+    | inr l ↦
+        let b : basic_columns t.columns t.basis i ≡ suc (t.columns + positions t) = basic_high t.columns t.basis i l in
+        absurd (omega arith)
   ];
   not_right = λ x. absurd (omega arith);
 }
@@ -98,11 +113,14 @@ pub record IsOpening (t0 t1 t2 : Table) (row s : ℕ) : Type 0 where
       IsAlone t1 row s → (i c : ℕ) → i ≤ positions t1 → c < t1.columns + positions t1 + 4
       → rows_of t2 i c ≡ rows_of t1 i c
 
-pub opening : (t0 t1 t2 : Table) {count row column : ℕ} (n m : ℕ) → n ≡ t1.columns → m ≡ positions t1 → CanPivot count t0 row column
-    → t1.basis ≡ t0.basis → IsSized t0 t1 → ((d : ℤ) × (pos 0 <ℤ d) × ((c : ℕ) → d *ℤ rows_of t1 row c ≡ rows_of t0 row c))
+pub opening : (t0 t1 t2 : Table) {count row column : ℕ} (n m : ℕ) → n ≡ t1.columns → m ≡ positions t1
+    → CanPivot count t0 row column
+    → t1.basis ≡ t0.basis → IsSized t0 t1
+    → ((d : ℤ) × (pos 0 <ℤ d) × ((c : ℕ) → d *ℤ rows_of t1 row c ≡ rows_of t0 row c))
     → ((i c : ℕ) → i ≤ positions t0 → i ≢ row → rows_of t1 i c ≡ rows_of t0 i c)
     → t2.basis ≡ set t1.basis row (n + m + 3) → IsSized t1 t2
-    → (IsAlone t1 row (n + m + 3) → (i c : ℕ) → i ≤ positions t1 → c < t1.columns + positions t1 + 4 → rows_of t2 i c ≡ rows_of t1 i c)
+    → (IsAlone t1 row (n + m + 3) → (i c : ℕ) → i ≤ positions t1 → c < t1.columns + positions t1 + 4
+    → rows_of t2 i c ≡ rows_of t1 i c)
     → IsOpening t0 t1 t2 row (n + m + 3)
 opening t0 t1 t2 n m en em a b1 s1 r1 o1 b2 s2 r2 = record {
   spare = omega (arith, en, em, s1.columns, s1.positions);
@@ -177,7 +195,8 @@ module _ {t0 t1 t2 : Table} {row s : ℕ} (o : IsOpening t0 t1 t2 row s) (column
     | inr d ↦ other2 i s il d s_in ∙ ap (rows_of t0 i) spare ∙ closed.zero i il
     | inl e ↦
         subst (λ (x : ℕ). rows_of t2 x s ≡ pos 0) (sym e)
-        (mul_cancel_zero r1.0 (rows_of t2 row s) r1.1 (row2 s s_in ∙ ap (rows_of t0 row) spare ∙ closed.zero row (omega (arith, rl))))
+        (mul_cancel_zero r1.0 (rows_of t2 row s) r1.1
+        (row2 s s_in ∙ ap (rows_of t0 row) spare ∙ closed.zero row (omega (arith, rl))))
   ]
 
   spare2 : spare_column t2.columns (positions t2) ≡ s
@@ -185,14 +204,16 @@ module _ {t0 t1 t2 : Table} {row s : ℕ} (o : IsOpening t0 t1 t2 row s) (column
 
   pub opened : IsOpen t2 row
   opened = record {
-    spare = ap (λ (b : List ℕ). columns_of b row) b2 ∙ get_or-set_same t1.basis row s 0 (omega (arith, m1)) ∙ sym spare2;
+    spare =
+        ap (λ (b : List ℕ). columns_of b row) b2 ∙ get_or-set_same t1.basis row s 0 (omega (arith, m1)) ∙ sym spare2;
     zero = ap (rows_of t2 row) spare2 ∙ zero2 row (omega (arith, rl));
   }
 
   pub positive2 : column < width_of t0 → pos 0 <ℤ rows_of t0 row column → pos 0 <ℤ rows_of t2 row column
   positive2 cl h =
       mul_cancel_lt r1.0 (pos 0) (rows_of t2 row column) r1.1
-      (subst (λ x. x <ℤ (r1.0 *ℤ rows_of t2 row column)) (sym (mul-zero r1.0)) (subst (λ x. pos 0 <ℤ x) (sym (row2 column cl)) h))
+      (subst (λ x. x <ℤ (r1.0 *ℤ rows_of t2 row column)) (sym (mul-zero r1.0))
+      (subst (λ x. pos 0 <ℤ x) (sym (row2 column cl)) h))
 
   -- ---- the kept row, where it is 0 in the spare column
   module _ (column_in : column < width_of t0) (k1 : (c : ℕ) → kept_row_of t1 c ≡ kept_row_of t0 c)
@@ -205,7 +226,8 @@ module _ {t0 t1 t2 : Table} {row s : ℕ} (o : IsOpening t0 t1 t2 row s) (column
         → IsClearedBy (width_of t2) column (kept_row_of t2) (rows_of t2 row) new
         → IsClearedBy (width_of t0) column (kept_row_of t0) (rows_of t0 row) new'
     kept_cleared new new' same h =
-        cleared_by_times (width_of t0) column (kept_row_of t2) (kept_row_of t0) (rows_of t2 row) (rows_of t0 row) new new' r1.0 r1.1
+        cleared_by_times (width_of t0) column (kept_row_of t2) (kept_row_of t0) (rows_of t2 row) (rows_of t0 row) new
+        new' r1.0 r1.1
         (λ k l. kept2 k) row2 (λ k l. same k) column_in
         (subst (λ k. IsClearedBy k column (kept_row_of t2) (rows_of t2 row) new) w2 h)
 
@@ -214,13 +236,15 @@ module _ {t0 t1 t2 : Table} {row s : ℕ} (o : IsOpening t0 t1 t2 row s) (column
     kept_wide limit h =
         let w = subst (λ k. IsWideCleared limit k column (kept_row_of t2) (rows_of t2 row)) w2 h in (
           w.0,
-          cleared_by_times (width_of t0) column (kept_row_of t2) (kept_row_of t0) (rows_of t2 row) (rows_of t0 row) w.0 w.0 r1.0 r1.1
+          cleared_by_times (width_of t0) column (kept_row_of t2) (kept_row_of t0) (rows_of t2 row) (rows_of t0 row) w.0
+              w.0 r1.0 r1.1
               (λ k l. kept2 k) row2 (λ k l. refl) column_in w.1,
           w.2,
           w.3,
         )
 
-  module _ (t3 : Table) (free : IsFree t0.columns t0.basis column) (structural : column ≢ spare_column t0.columns (positions t0))
+  module _ (t3 : Table) (free : IsFree t0.columns t0.basis column)
+      (structural : column ≢ spare_column t0.columns (positions t0))
       (b3 : t3.basis ≡ t2.basis) (n3 : t3.columns ≡ t2.columns) where
     basis3 : t3.basis ≡ set t0.basis row s
     basis3 = b3 ∙ b2 ∙ ap (λ (b : List ℕ). set b row s) b1
@@ -236,7 +260,8 @@ module _ {t0 t1 t2 : Table} {row s : ℕ} (o : IsOpening t0 t1 t2 row s) (column
 
     pub free_after : IsFree t3.columns t3.basis column
     free_after =
-        subst (λ (n : ℕ). IsFree n t3.basis column) (sym columns3) (subst (λ (b : List ℕ). IsFree t0.columns b column) (sym basis3)
+        subst (λ (n : ℕ). IsFree n t3.basis column) (sym columns3)
+        (subst (λ (b : List ℕ). IsFree t0.columns b column) (sym basis3)
         (free_opened t0 row column s spare rl free structural))
 
     -- ---- a pivot that was begun
@@ -244,14 +269,21 @@ module _ {t0 t1 t2 : Table} {row s : ℕ} (o : IsOpening t0 t1 t2 row s) (column
       spare3 : spare_column t3.columns (positions t3) ≡ s
       spare3 = omega (arith, spare, columns3, m3)
 
-      cleared_begun : (j : ℕ) → j < i → j ≤ positions t0 → j ≢ row → IsClearedBy (width_of t0) column (rows_of t2 j) (rows_of t2 row) (rows_of t3 j)
-      cleared_begun j l jl d = subst (λ k. IsClearedBy k column (rows_of t2 j) (rows_of t2 row) (rows_of t3 j)) w2 (h.before.cleared j l (omega (arith, m2)) d)
+      cleared_begun : (j : ℕ) → j < i → j ≤ positions t0 → j ≢ row
+          → IsClearedBy (width_of t0) column (rows_of t2 j) (rows_of t2 row) (rows_of t3 j)
+      cleared_begun j l jl d =
+          subst (λ k. IsClearedBy k column (rows_of t2 j) (rows_of t2 row) (rows_of t3 j)) w2
+          (h.before.cleared j l (omega (arith, m2)) d)
 
       zero3 : (j : ℕ) → j ≤ positions t0 → rows_of t3 j s ≡ pos 0
       zero3 j jl = elim (cases_eq j row) [
-        | inl e ↦ subst (λ (x : ℕ). rows_of t3 x s ≡ pos 0) (sym e) (h.before.row_stays s ∙ zero2 row (omega (arith, rl)))
+        | inl e ↦
+            subst (λ (x : ℕ). rows_of t3 x s ≡ pos 0) (sym e) (h.before.row_stays s ∙ zero2 row (omega (arith, rl)))
         | inr d ↦ elim (cases_lt j i) [
-          | inl l ↦ let c = cleared_begun j l jl d in zero_stays c.divisor c.p c.q (rows_of t3 j s) (rows_of t2 j s) (rows_of t2 row s) c.divides (c.entries s s_in) (zero2 j jl) (zero2 row (omega (arith, rl)))
+          | inl l ↦
+              let c = cleared_begun j l jl d in
+              zero_stays c.divisor c.p c.q (rows_of t3 j s) (rows_of t2 j s) (rows_of t2 row s) c.divides
+              (c.entries s s_in) (zero2 j jl) (zero2 row (omega (arith, rl)))
           | inr l ↦ h.before.others j s l (omega (arith, m2)) ∙ zero2 j jl
         ]
       ]
@@ -272,28 +304,37 @@ module _ {t0 t1 t2 : Table} {row s : ℕ} (o : IsOpening t0 t1 t2 row s) (column
           same = λ k l. ap (λ t. r1.0 *ℤ t) (h.before.row_stays k) ∙ row2 k l ∙ sym (one-mul (rows_of t0 row k));
         };
         row_other = λ j jl d. elim (cases_lt j i) [
-          | inl l ↦ inr (cleared_by_times (width_of t0) column (rows_of t2 j) (rows_of t0 j) (rows_of t2 row) (rows_of t0 row) (rows_of t3 j) (rows_of t3 j) r1.0 r1.1 (λ k kl. other2 j k jl d kl) row2 (λ k kl. refl) column_in (cleared_begun j l jl d))
+          | inl l ↦
+              inr (cleared_by_times (width_of t0) column (rows_of t2 j) (rows_of t0 j) (rows_of t2 row) (rows_of t0 row)
+              (rows_of t3 j) (rows_of t3 j) r1.0 r1.1 (λ k kl. other2 j k jl d kl) row2 (λ k kl. refl) column_in
+              (cleared_begun j l jl d))
           | inr l ↦ inl (λ c cl. h.before.others j c l (omega (arith, m2)) ∙ other2 j c jl d cl)
         ];
       }
 
       pub wide_begun : i ≤ positions t0 → IsWideCleared limit (width_of t0) column (rows_of t0 i) (rows_of t0 row)
       wide_begun il =
-          let w = subst (λ k. IsWideCleared limit k column (rows_of t2 i) (rows_of t2 row)) w2 (h.wide (omega (arith, m2))) in (
+          let w =
+          subst (λ k. IsWideCleared limit k column (rows_of t2 i) (rows_of t2 row)) w2 (h.wide (omega (arith, m2))) in (
             w.0,
-            cleared_by_times (width_of t0) column (rows_of t2 i) (rows_of t0 i) (rows_of t2 row) (rows_of t0 row) w.0 w.0 r1.0 r1.1 (λ k l. other2 i k il h.other l) row2 (λ k l. refl) column_in w.1,
+            cleared_by_times (width_of t0) column (rows_of t2 i) (rows_of t0 i) (rows_of t2 row) (rows_of t0 row) w.0
+                w.0 r1.0 r1.1 (λ k l. other2 i k il h.other l) row2 (λ k l. refl) column_in w.1,
             w.2,
             w.3,
           )
 
     module _ (t4 : Table) (b4 : t4.basis ≡ set t3.basis row column) (n4 : t4.columns ≡ t3.columns)
-        (r4 : IsAlone t3 row column → (i c : ℕ) → i ≤ positions t3 → c < t3.columns + positions t3 + 4 → rows_of t4 i c ≡ rows_of t3 i c) where
+        (r4 : IsAlone t3 row column → (i c : ℕ) → i ≤ positions t3 → c < t3.columns + positions t3 + 4
+        → rows_of t4 i c ≡ rows_of t3 i c) where
       pub next_basis : t4.basis ≡ set t0.basis row column
       next_basis = b4 ∙ ap (λ (b : List ℕ). set b row column) basis3 ∙ set_twice t0.basis row s column
 
       module _ (count : ℕ) (all : positions t0 < count) (h : ClearsTable count t2 t3 row column) where
-        cleared3 : (i : ℕ) → i ≤ positions t0 → i ≢ row → IsClearedBy (width_of t0) column (rows_of t2 i) (rows_of t2 row) (rows_of t3 i)
-        cleared3 i il d = subst (λ k. IsClearedBy k column (rows_of t2 i) (rows_of t2 row) (rows_of t3 i)) w2 (h.cleared i (omega (arith, rl)) (omega (arith, m2)) d)
+        cleared3 : (i : ℕ) → i ≤ positions t0 → i ≢ row
+            → IsClearedBy (width_of t0) column (rows_of t2 i) (rows_of t2 row) (rows_of t3 i)
+        cleared3 i il d =
+            subst (λ k. IsClearedBy k column (rows_of t2 i) (rows_of t2 row) (rows_of t3 i)) w2
+            (h.cleared i (omega (arith, rl)) (omega (arith, m2)) d)
 
         alone3 : IsAlone t3 row column
         alone3 i il d = (cleared3 i (omega (arith, m3)) d).cleared
@@ -308,19 +349,25 @@ module _ {t0 t1 t2 : Table} {row s : ℕ} (o : IsOpening t0 t1 t2 row s) (column
             q = pos 1;
             p_positive = r1.1;
             q_positive = omega (arith, ints);
-            same = λ k l. ap (λ t. r1.0 *ℤ t) (same4 row k (omega (arith, rl)) l ∙ h.row_stays k) ∙ row2 k l ∙ sym (one-mul (rows_of t0 row k));
+            same =
+                λ k l. ap (λ t. r1.0 *ℤ t) (same4 row k (omega (arith, rl)) l ∙ h.row_stays k) ∙ row2 k l
+                ∙ sym (one-mul (rows_of t0 row k));
           };
           row_other = λ i il d.
-              cleared_by_times (width_of t0) column (rows_of t2 i) (rows_of t0 i) (rows_of t2 row) (rows_of t0 row) (rows_of t3 i) (rows_of t4 i) r1.0 r1.1
+              cleared_by_times (width_of t0) column (rows_of t2 i) (rows_of t0 i) (rows_of t2 row) (rows_of t0 row)
+              (rows_of t3 i) (rows_of t4 i) r1.0 r1.1
               (λ k l. other2 i k il d l) row2 (λ k l. same4 i k il l) column_in (cleared3 i il d);
         }
 
         zero4 : (i : ℕ) → i ≤ positions t0 → rows_of t4 i s ≡ pos 0
         zero4 i il = elim (cases_eq i row) [
-          | inl e ↦ subst (λ (x : ℕ). rows_of t4 x s ≡ pos 0) (sym e) (same4 row s (omega (arith, rl)) s_in ∙ h.row_stays s ∙ zero2 row (omega (arith, rl)))
+          | inl e ↦
+              subst (λ (x : ℕ). rows_of t4 x s ≡ pos 0) (sym e)
+              (same4 row s (omega (arith, rl)) s_in ∙ h.row_stays s ∙ zero2 row (omega (arith, rl)))
           | inr d ↦
               let c = cleared3 i il d in
-              same4 i s il s_in ∙ zero_stays c.divisor c.p c.q (rows_of t3 i s) (rows_of t2 i s) (rows_of t2 row s) c.divides (c.entries s s_in) (zero2 i il) (zero2 row (omega (arith, rl)))
+              same4 i s il s_in ∙ zero_stays c.divisor c.p c.q (rows_of t3 i s) (rows_of t2 i s) (rows_of t2 row s)
+              c.divides (c.entries s s_in) (zero2 i il) (zero2 row (omega (arith, rl)))
         ]
 
         pub closed4 : IsClosed t4
@@ -329,15 +376,25 @@ module _ {t0 t1 t2 : Table} {row s : ℕ} (o : IsOpening t0 t1 t2 row s) (column
             let e : spare_column t4.columns (positions t4) ≡ s = omega (arith, len, n4, columns3, spare) in
             record {
               free = λ i il x.
-                  let y : columns_of (set t0.basis row column) i ≡ s = ap (λ (b : List ℕ). columns_of b i) (sym next_basis) ∙ x ∙ e in
+                  let y : columns_of (set t0.basis row column) i ≡ s =
+                  ap (λ (b : List ℕ). columns_of b i) (sym next_basis) ∙ x ∙ e in
                   elim (cases_eq i row) [
-                    | inl q ↦ structural (sym (ap (columns_of (set t0.basis row column)) q ∙ get_or-set_same t0.basis row column 0 rl) ∙ y ∙ spare)
-                    | inr q ↦ closed.free i (omega (arith, len)) (sym (get_or-set_other t0.basis row i column 0 q) ∙ y ∙ spare)
+                    | inl q ↦
+                        structural
+                        (sym (ap (columns_of (set t0.basis row column)) q ∙ get_or-set_same t0.basis row column 0 rl)
+                        ∙ y ∙ spare)
+                    | inr q ↦
+                        closed.free i (omega (arith, len))
+                        (sym (get_or-set_other t0.basis row i column 0 q) ∙ y ∙ spare)
                   ];
               zero = λ i il. ap (rows_of t4 i) e ∙ zero4 i (omega (arith, len));
             }
 
 -- the column may come to the position that was left open
-pub free_begun : (t t' : Table) (row column : ℕ) → row < positions t → IsFree t.columns t.basis column → column ≢ spare_column t.columns (positions t) → IsBegunPivot t t' row column → t'.columns ≡ t.columns → IsFree t'.columns t'.basis column
+pub free_begun : (t t' : Table) (row column : ℕ) → row < positions t → IsFree t.columns t.basis column
+    → column ≢ spare_column t.columns (positions t) → IsBegunPivot t t' row column → t'.columns ≡ t.columns
+    → IsFree t'.columns t'.basis column
 free_begun t t' row column rl free structural h en =
-    subst (λ (n : ℕ). IsFree n t'.basis column) (sym en) (subst (λ (b : List ℕ). IsFree t.columns b column) (sym h.basis) (free_opened t row column (spare_column t.columns (positions t)) refl rl free structural))
+    subst (λ (n : ℕ). IsFree n t'.basis column) (sym en)
+    (subst (λ (b : List ℕ). IsFree t.columns b column) (sym h.basis)
+    (free_opened t row column (spare_column t.columns (positions t)) refl rl free structural))

@@ -19,7 +19,8 @@ read_at items k x l e = e ∙ get_or_default items k x 0 l
 pub set_here : (rows : List ℤ) (w i c : ℕ) (v : ℤ) → i * w + c < length rows → row_at (set rows (i * w + c) v) w i c ≡ v
 set_here rows w i c v h = get_or-set_same rows (i * w + c) v (pos 0) h
 
-pub set_elsewhere : (rows : List ℤ) (w i c j k : ℕ) (v : ℤ) → c < w → k < w → (k ≢ c) ⊎ (j ≢ i) → row_at (set rows (i * w + c) v) w j k ≡ row_at rows w j k
+pub set_elsewhere : (rows : List ℤ) (w i c j k : ℕ) (v : ℤ) → c < w → k < w → (k ≢ c) ⊎ (j ≢ i)
+    → row_at (set rows (i * w + c) v) w j k ≡ row_at rows w j k
 set_elsewhere rows w i c j k v cl kl d =
     get_or-set_other rows (i * w + c) (j * w + k) v (pos 0) (λ e. elim (cases_order j i) [
       | inl s ↦

@@ -10,8 +10,10 @@ use Rattle.rob_simplex.specs.Dictionaries.{read_row, IsSound}
 use Rattle.rob_simplex.proofs.ReadRows.{read_near, read_own, read_none}
 
 -- the table and the bounds alone have changed
-pub sound_with : (limit n : ℕ) (basis places near : List ℕ) (table table' : List ℤ) (bounds bounds' : List ℕ) (workspace : ℕ) → IsSound limit n basis places near table bounds workspace
-    → HasBounds limit (n + 4) table' bounds' → length bounds' ≡ length bounds → IsSound limit n basis places near table' bounds' workspace
+pub sound_with : (limit n : ℕ) (basis places near : List ℕ) (table table' : List ℤ) (bounds bounds' : List ℕ)
+    (workspace : ℕ) → IsSound limit n basis places near table bounds workspace
+    → HasBounds limit (n + 4) table' bounds' → length bounds' ≡ length bounds
+    → IsSound limit n basis places near table' bounds' workspace
 sound_with limit n basis places near table table' bounds bounds' workspace s h e = record {
   few = s.few;
   limit_low = s.limit_low;
@@ -25,16 +27,19 @@ sound_with limit n basis places near table table' bounds bounds' workspace s h e
 }
 
 -- ---- a row's numbers all times something
-pub read_times : (w : ℕ) (places : Columns) (i : ℕ) (d : ℤ) (r r' : Vector) → ((k : ℕ) → k ≤ w → d *ℤ r' k ≡ r k) → (c : ℕ) → d *ℤ read_row w places i r' c ≡ read_row w places i r c
+pub read_times : (w : ℕ) (places : Columns) (i : ℕ) (d : ℤ) (r r' : Vector) → ((k : ℕ) → k ≤ w → d *ℤ r' k ≡ r k)
+    → (c : ℕ) → d *ℤ read_row w places i r' c ≡ read_row w places i r c
 read_times w places i d r r' h c = elim (cases_lt (places c) w) [
-  | inl l ↦ ap (λ t. d *ℤ t) (read_near w places i r' c l) ∙ h (places c) (omega arith) ∙ sym (read_near w places i r c l)
+  | inl l ↦ ap (λ t. d *ℤ t) (read_near w places i r' c l) ∙ h (places c) (omega arith)
+      ∙ sym (read_near w places i r c l)
   | inr l ↦ elim (cases_eq (places c) (w + i)) [
     | inl s ↦ ap (λ t. d *ℤ t) (read_own w places i r' c s) ∙ h w (omega arith) ∙ sym (read_own w places i r c s)
     | inr o ↦ ap (λ t. d *ℤ t) (read_none w places i r' c l o) ∙ mul-zero d ∙ sym (read_none w places i r c l o)
   ]
 ]
 
-pub read_negated : (w : ℕ) (places : Columns) (i : ℕ) (r r' : Vector) → ((k : ℕ) → k ≤ w → r' k ≡ neg_ℤ (r k)) → (c : ℕ) → read_row w places i r' c ≡ neg_ℤ (read_row w places i r c)
+pub read_negated : (w : ℕ) (places : Columns) (i : ℕ) (r r' : Vector) → ((k : ℕ) → k ≤ w → r' k ≡ neg_ℤ (r k)) → (c : ℕ)
+    → read_row w places i r' c ≡ neg_ℤ (read_row w places i r c)
 read_negated w places i r r' h c = elim (cases_lt (places c) w) [
   | inl l ↦ read_near w places i r' c l ∙ h (places c) (omega arith) ∙ ap neg_ℤ (sym (read_near w places i r c l))
   | inr l ↦ elim (cases_eq (places c) (w + i)) [
@@ -44,14 +49,18 @@ read_negated w places i r r' h c = elim (cases_lt (places c) w) [
 ]
 
 -- ---- a row turned round, under its old bound
-pub negated_bounds : (limit width : ℕ) (rows new : List ℤ) (bounds : List ℕ) (i : ℕ) → HasBounds limit width rows bounds → length new ≡ length rows → ((k : ℕ) → k < width → row_at new width i k ≡ neg_ℤ (row_at rows width i k))
+pub negated_bounds : (limit width : ℕ) (rows new : List ℤ) (bounds : List ℕ) (i : ℕ) → HasBounds limit width rows bounds
+    → length new ≡ length rows → ((k : ℕ) → k < width → row_at new width i k ≡ neg_ℤ (row_at rows width i k))
     → ((j k : ℕ) → j ≢ i → k < width → row_at new width j k ≡ row_at rows width j k) → HasBounds limit width new bounds
 negated_bounds limit width rows new bounds i h ln here others = record {
   size = ln ∙ h.size;
   within = λ j k jl kl. elim (cases_eq j i) [
     | inl e ↦
-        let b : nat_abs (row_at rows width i k) ≤ bound_at bounds i = subst (λ (t : ℕ). nat_abs (row_at rows width t k) ≤ bound_at bounds t) e (h.within j k jl kl) in
-        subst (λ (t : ℕ). nat_abs (row_at new width t k) ≤ bound_at bounds t) (sym e) (subst (λ t. nat_abs t ≤ bound_at bounds i) (sym (here k kl)) (same_size (row_at rows width i k) (bound_at bounds i) b))
+        let b : nat_abs (row_at rows width i k) ≤ bound_at bounds i =
+        subst (λ (t : ℕ). nat_abs (row_at rows width t k) ≤ bound_at bounds t) e (h.within j k jl kl) in
+        subst (λ (t : ℕ). nat_abs (row_at new width t k) ≤ bound_at bounds t) (sym e)
+        (subst (λ t. nat_abs t ≤ bound_at bounds i) (sym (here k kl))
+        (same_size (row_at rows width i k) (bound_at bounds i) b))
     | inr d ↦ subst (λ t. nat_abs t ≤ bound_at bounds j) (sym (others j k d kl)) (h.within j k jl kl)
   ];
   low = h.low;

@@ -15,7 +15,8 @@ sized_view e = record {
 }
 
 pub sized_after : {a b c : Table} → IsSized a b → IsSized b c → IsSized a c
-sized_after h k = record { columns = k.columns ∙ h.columns; positions = k.positions ∙ h.positions; limit = k.limit ∙ h.limit }
+sized_after h k =
+    record { columns = k.columns ∙ h.columns; positions = k.positions ∙ h.positions; limit = k.limit ∙ h.limit }
 
 pub counted_same : {S : Type 0} {ops_of wides_of : S → ℕ} {a : S} → CountsRows ops_of wides_of a a
 counted_same = record { ops = omega arith; wides = refl }

@@ -27,12 +27,15 @@ resumed_stands P v s e h = subst (λ (u : Solver). StandsFor P u.dictionary) (sy
 -- ---- a new solver
 -- the limit, as it is read
 pub limit_read : (z : ℤ) (limit : ℕ) → z ≡ pos limit → limit ≤ 2 ^ 62 - 1 → nat_abs (to_z w64 (of_z w64 z)) ≡ limit
-limit_read z limit e h = ap (λ t. nat_abs (to_z w64 (of_z w64 t))) e ∙ ap nat_abs (seen_within limit (pos limit) h (omega arith))
+limit_read z limit e h =
+    ap (λ t. nat_abs (to_z w64 (of_z w64 t))) e ∙ ap nat_abs (seen_within limit (pos limit) h (omega arith))
 
-pub made_for : (P : Program) (t : Table) (w : List ℤ) → IsStartingTable P t → IsMadeFor P (record { state = New; dictionary = t; weights = w })
+pub made_for : (P : Program) (t : Table) (w : List ℤ) → IsStartingTable P t
+    → IsMadeFor P (record { state = New; dictionary = t; weights = w })
 made_for P t w h = record { state = refl; rows = sym h.rows_are; columns = sym h.columns_are; starting = h }
 
-pub sound_new : (top limit : ℕ) (P : Program) (t : Table) (w : List ℤ) → IsStartingTable P t → t.limit ≡ top → P.n + P.m < 2 ^ 31 → length w ≡ P.m → IsSound top limit (record { state = New; dictionary = t; weights = w })
+pub sound_new : (top limit : ℕ) (P : Program) (t : Table) (w : List ℤ) → IsStartingTable P t → t.limit ≡ top
+    → P.n + P.m < 2 ^ 31 → length w ≡ P.m → IsSound top limit (record { state = New; dictionary = t; weights = w })
 sound_new top limit P t w h el few size =
     record {
       limit_is = el;
@@ -55,12 +58,14 @@ untold Infeasible = ⊥
 untold (Unbounded column) = ⊥
 
 -- ---- it stays sound, with another dictionary of its size and other weights
-module _ {top limit : ℕ} {v : Solver} (sound : IsSound top limit v) (t : Table) (w : List ℤ) (el : t.limit ≡ v.limit) (en : t.columns ≡ v.columns) (em : length t.basis ≡ positions v) (size : length w ≡ positions v) where
+module _ {top limit : ℕ} {v : Solver} (sound : IsSound top limit v) (t : Table) (w : List ℤ) (el : t.limit ≡ v.limit)
+    (en : t.columns ≡ v.columns) (em : length t.basis ≡ positions v) (size : length w ≡ positions v) where
   few_columns : t.columns + length t.basis < 2 ^ 31
   few_columns = omega (arith, sound.few)
 
   -- without a point
-  pub sound_infeasible : IsWithin limit w → IsSound top limit (record { state = Infeasible; dictionary = t; weights = w })
+  pub sound_infeasible : IsWithin limit w
+      → IsSound top limit (record { state = Infeasible; dictionary = t; weights = w })
   sound_infeasible within = record {
     limit_is = el ∙ sound.limit_is;
     few = few_columns;
@@ -73,7 +78,8 @@ module _ {top limit : ℕ} {v : Solver} (sound : IsSound top limit v) (t : Table
     told = λ x. absurd x;
   }
 
-  pub sound_stopped : (cause : Cause) → IsSound top limit (record { state = Stopped cause; dictionary = t; weights = w })
+  pub sound_stopped : (cause : Cause)
+      → IsSound top limit (record { state = Stopped cause; dictionary = t; weights = w })
   sound_stopped cause = record {
     limit_is = el ∙ sound.limit_is;
     few = few_columns;
@@ -118,7 +124,8 @@ module _ {top limit : ℕ} {v : Solver} (sound : IsSound top limit v) (t : Table
       told = λ x. told;
     }
 
-    pub sound_unbounded : (column : ℕ) → column < P.n + P.m → Tells limit (Some column) t → IsSound top limit (record { state = Unbounded column; dictionary = t; weights = w })
+    pub sound_unbounded : (column : ℕ) → column < P.n + P.m → Tells limit (Some column) t
+        → IsSound top limit (record { state = Unbounded column; dictionary = t; weights = w })
     sound_unbounded column l told = record {
       limit_is = el ∙ sound.limit_is;
       few = few_columns;

@@ -45,7 +45,8 @@ pub take_whole : (w : List ℤ) (n : ℕ) → length w ≡ n → take n (drop 0 
 take_whole w n e = ap (λ k. take k w) (sym e) ∙ take_length w
 
 -- one entry more is written
-pub slack_more : (w : List ℤ) (f : Vector) (k limit : ℕ) (z : ℤ) → k < length w → ((j : ℕ) → j < k → (at w j ≡ f j) × (nat_abs (at w j) ≤ limit)) → z ≡ f k → nat_abs z ≤ limit
+pub slack_more : (w : List ℤ) (f : Vector) (k limit : ℕ) (z : ℤ) → k < length w
+    → ((j : ℕ) → j < k → (at w j ≡ f j) × (nat_abs (at w j) ≤ limit)) → z ≡ f k → nat_abs z ≤ limit
     → (j : ℕ) → j < k + 1 → (at (set w k z) j ≡ f j) × (nat_abs (at (set w k z) j) ≤ limit)
 slack_more w f k limit z kl h e small j l = elim (cases_eq j k) [
   | inl s ↦
@@ -59,16 +60,21 @@ slack_more w f k limit z kl h e small j l = elim (cases_eq j k) [
 
 -- ---- the slack entries aren't all 0
 -- a row whose slack entries are all 0 is a multiple of the objective's starting row
-spanned_slack : (S : System) (r : Vector) (k : ℕ) → IsSpanned S r → k ≤ right S → ((t : ℕ) → t < S.m → r (S.tag t) ≡ pos 0) → r k ≡ r (S.tag S.m) *ℤ S.start S.m k
+spanned_slack : (S : System) (r : Vector) (k : ℕ) → IsSpanned S r → k ≤ right S
+    → ((t : ℕ) → t < S.m → r (S.tag t) ≡ pos 0) → r k ≡ r (S.tag S.m) *ℤ S.start S.m k
 spanned_slack S r k sp l zero_at =
-    let z : sum_to S.m (λ t. r (S.tag t) *ℤ S.start t k) ≡ pos 0 = sum_zero S.m (λ t. r (S.tag t) *ℤ S.start t k) (λ t tl. ap (λ v. v *ℤ S.start t k) (zero_at t tl) ∙ zero-mul (S.start t k)) in
+    let z : sum_to S.m (λ t. r (S.tag t) *ℤ S.start t k) ≡ pos 0 =
+    sum_zero S.m (λ t. r (S.tag t) *ℤ S.start t k)
+    (λ t tl. ap (λ v. v *ℤ S.start t k) (zero_at t tl) ∙ zero-mul (S.start t k)) in
     let e : r k ≡ sum_to S.m (λ t. r (S.tag t) *ℤ S.start t k) +ℤ (r (S.tag S.m) *ℤ S.start S.m k) = sp k l in
     omega (arith, ints)
 
-slack_tag_zero : (P : Program) (r : Vector) → ((i : ℕ) → i < P.m → r (P.n + i) ≡ pos 0) → (t : ℕ) → t < P.m → r (auxiliary_tag P t) ≡ pos 0
+slack_tag_zero : (P : Program) (r : Vector) → ((i : ℕ) → i < P.m → r (P.n + i) ≡ pos 0) → (t : ℕ) → t < P.m
+    → r (auxiliary_tag P t) ≡ pos 0
 slack_tag_zero P r zero_at t l = ap r (auxiliary_tag-slack P t l) ∙ zero_at t l
 
-module _ (P : Program) (w : List ℤ) (size : length w ≡ P.m) (lowest : content w ≤ 1) (r : Vector) (d : ℤ) (e : (i : ℕ) → i < P.m → d *ℤ at w i ≡ r (P.n + i)) where
+module _ (P : Program) (w : List ℤ) (size : length w ≡ P.m) (lowest : content w ≤ 1) (r : Vector) (d : ℤ)
+    (e : (i : ℕ) → i < P.m → d *ℤ at w i ≡ r (P.n + i)) where
   all_zero : content w ≡ 0 → (i : ℕ) → i < P.m → r (P.n + i) ≡ pos 0
   all_zero z i l = sym (e i l) ∙ ap (λ v. d *ℤ v) (content_zero w i z (omega arith)) ∙ mul-zero d
 
@@ -80,9 +86,11 @@ module _ (P : Program) (w : List ℤ) (size : length w ≡ P.m) (lowest : conten
 
 -- ---- the last basis of the first phase, and its weights
 ShownAt : Program → List ℤ → Columns → Type 0
-ShownAt P w basis = Reached P basis × (ends : EndsInFirstPhase P basis) × ((i : ℕ) → i < P.m → ends.0 P.m (P.n + i) ≡ at w i)
+ShownAt P w basis =
+    Reached P basis × (ends : EndsInFirstPhase P basis) × ((i : ℕ) → i < P.m → ends.0 P.m (P.n + i) ≡ at w i)
 
-module _ (P : Program) (t : Table) (w : List ℤ) (size : length w ≡ P.m) (lowest : content w ≤ 1) (d : ℤ) (dp : pos 0 <ℤ d) where
+module _ (P : Program) (t : Table) (w : List ℤ) (size : length w ≡ P.m) (lowest : content w ≤ 1) (d : ℤ)
+    (dp : pos 0 <ℤ d) where
   -- beside the auxiliary column
   module _ (row : ℕ) (h : EndsAtRow P row t) (e : (i : ℕ) → i < P.m → d *ℤ at w i ≡ rows_of t row (P.n + i)) where
     stands : StandsBeside P (path_basis P (columns_of t.basis) row) row (columns_of t.basis row) (rows_of t)
@@ -92,26 +100,35 @@ module _ (P : Program) (t : Table) (w : List ℤ) (size : length w ≡ P.m) (low
     some_beside zero_at =
         let il : row < P.m = h.inside in
         let x : rows_of t row (P.n + P.m) ≡ rows_of t row (auxiliary_tag P P.m) *ℤ kept_row P P.m (P.n + P.m) =
-        spanned_slack (kept_of P) (rows_of t row) (P.n + P.m) (h.stands.holds.multiples.rows_of row (omega arith)).along.spanned (omega arith) (slack_tag_zero P (rows_of t row) zero_at) in
-        let z : rows_of t row (P.n + P.m) ≡ pos 0 = x ∙ ap (λ v. rows_of t row (auxiliary_tag P P.m) *ℤ v) (kept_auxiliary P) ∙ mul-zero (rows_of t row (auxiliary_tag P P.m)) in
+        spanned_slack (kept_of P) (rows_of t row) (P.n + P.m)
+        (h.stands.holds.multiples.rows_of row (omega arith)).along.spanned (omega arith)
+        (slack_tag_zero P (rows_of t row) zero_at) in
+        let z : rows_of t row (P.n + P.m) ≡ pos 0 =
+        x ∙ ap (λ v. rows_of t row (auxiliary_tag P P.m) *ℤ v) (kept_auxiliary P)
+        ∙ mul-zero (rows_of t row (auxiliary_tag P P.m)) in
         let b : rows_of t row (P.n + P.m) <ℤ pos 0 = h.stands.holds.below in
         omega (arith, ints)
 
     shown_beside : ShownAt P w (path_basis P (columns_of t.basis) row)
     unfolding ShownAt
     shown_beside =
-        let ends : EndsInFirstPhase P (path_basis P (columns_of t.basis) row) = beside_ends P (path_basis P (columns_of t.basis) row) row (columns_of t.basis row) (rows_of t) stands h.stands.reached h.none in (
+        let ends : EndsInFirstPhase P (path_basis P (columns_of t.basis) row) =
+        beside_ends P (path_basis P (columns_of t.basis) row) row (columns_of t.basis row) (rows_of t) stands
+        h.stands.reached h.none in (
           h.stands.reached,
           ends,
-          beside_weights P (path_basis P (columns_of t.basis) row) row (columns_of t.basis row) (rows_of t) ends.0 d (at w) stands ends.2 dp e (weights_primitive P w size lowest (rows_of t row) d e some_beside),
+          beside_weights P (path_basis P (columns_of t.basis) row) row (columns_of t.basis row) (rows_of t) ends.0 d
+              (at w) stands ends.2 dp e (weights_primitive P w size lowest (rows_of t row) d e some_beside),
         )
 
     pub weights_beside : (basis : List ℕ) → basis ≡ set t.basis row (P.n + P.m) → AreWeights P basis w
     unfolding ShownAt
     weights_beside basis be =
         let l : row < length t.basis = omega (arith, h.stands.rows_are, h.inside) in
-        let same : columns_of (set t.basis row (P.n + P.m)) ≡ path_basis P (columns_of t.basis) row = (λ j i. set_is t.basis row (P.n + P.m) i l j) in
-        let p : ShownAt P w (columns_of basis) = subst (λ (b : List ℕ). ShownAt P w (columns_of b)) (sym be) (subst (ShownAt P w) (sym same) shown_beside) in
+        let same : columns_of (set t.basis row (P.n + P.m)) ≡ path_basis P (columns_of t.basis) row =
+        (λ j i. set_is t.basis row (P.n + P.m) i l j) in
+        let p : ShownAt P w (columns_of basis) =
+        subst (λ (b : List ℕ). ShownAt P w (columns_of b)) (sym be) (subst (ShownAt P w) (sym same) shown_beside) in
         record { reached = p.0; ends = p.1; entries = p.2 }
 
   -- in the explicit form
@@ -120,7 +137,8 @@ module _ (P : Program) (t : Table) (w : List ℤ) (size : length w ≡ P.m) (low
     auxiliary_zero =
         let aux : HasAuxiliary P (columns_of t.basis) = h.stands.auxiliary in
         let l : aux.0 < P.m = aux.1 in
-        ap (rows_of t P.m) (aux.2 ∙ sym (own_low (auxiliary_of P) (columns_of t.basis) aux.0 aux.1)) ∙ (h.stands.stands.multiples.rows_of P.m (omega arith)).along.zeros aux.0 (omega arith) (omega arith)
+        ap (rows_of t P.m) (aux.2 ∙ sym (own_low (auxiliary_of P) (columns_of t.basis) aux.0 aux.1))
+        ∙ (h.stands.stands.multiples.rows_of P.m (omega arith)).along.zeros aux.0 (omega arith) (omega arith)
 
     none_improves : IsNonnegative (suc (P.n + P.m)) (rows_of t P.m)
     none_improves k l = elim (cases_eq k (P.n + P.m)) [
@@ -130,23 +148,29 @@ module _ (P : Program) (t : Table) (w : List ℤ) (size : length w ≡ P.m) (low
 
     some_explicit : ¬ ((i : ℕ) → i < P.m → rows_of t P.m (P.n + i) ≡ pos 0)
     some_explicit zero_at =
-        let r : IsMultipleRow (auxiliary_of P) (own_of (auxiliary_of P) (columns_of t.basis)) P.m (rows_of t P.m) = h.stands.stands.multiples.rows_of P.m (omega arith) in
+        let r : IsMultipleRow (auxiliary_of P) (own_of (auxiliary_of P) (columns_of t.basis)) P.m (rows_of t P.m) =
+        h.stands.stands.multiples.rows_of P.m (omega arith) in
         let x : rows_of t P.m (P.n + P.m) ≡ rows_of t P.m (auxiliary_tag P P.m) *ℤ auxiliary_row P P.m (P.n + P.m) =
-        spanned_slack (auxiliary_of P) (rows_of t P.m) (P.n + P.m) r.along.spanned (omega arith) (slack_tag_zero P (rows_of t P.m) zero_at) in
+        spanned_slack (auxiliary_of P) (rows_of t P.m) (P.n + P.m) r.along.spanned (omega arith)
+        (slack_tag_zero P (rows_of t P.m) zero_at) in
         let y : rows_of t P.m (P.n + P.m) ≡ rows_of t P.m (suc (P.n + P.m)) =
-        x ∙ ap (λ v. rows_of t P.m (auxiliary_tag P P.m) *ℤ v) (auxiliary_cost_entry P) ∙ mul-one (rows_of t P.m (auxiliary_tag P P.m)) ∙ ap (rows_of t P.m) (auxiliary_tag-objective P) in
-        let p : pos 0 <ℤ rows_of t P.m (suc (P.n + P.m)) = subst (λ k. pos 0 <ℤ rows_of t P.m k) h.stands.stands.multiples.last r.positive in
+        x ∙ ap (λ v. rows_of t P.m (auxiliary_tag P P.m) *ℤ v) (auxiliary_cost_entry P)
+        ∙ mul-one (rows_of t P.m (auxiliary_tag P P.m)) ∙ ap (rows_of t P.m) (auxiliary_tag-objective P) in
+        let p : pos 0 <ℤ rows_of t P.m (suc (P.n + P.m)) =
+        subst (λ k. pos 0 <ℤ rows_of t P.m k) h.stands.stands.multiples.last r.positive in
         let z : rows_of t P.m (P.n + P.m) ≡ pos 0 = auxiliary_zero in
         omega (arith, ints)
 
     pub weights_explicit : (basis : List ℕ) → basis ≡ t.basis → AreWeights P basis w
     unfolding ShownAt
     weights_explicit basis be =
-        let ends : EndsInFirstPhase P (columns_of t.basis) = ends_multiple P (columns_of t.basis) (rows_of t) h.stands.stands h.stands.auxiliary none_improves in
+        let ends : EndsInFirstPhase P (columns_of t.basis) =
+        ends_multiple P (columns_of t.basis) (rows_of t) h.stands.stands h.stands.auxiliary none_improves in
         let shown : ShownAt P w (columns_of t.basis) = (
           h.stands.reached,
           ends,
-          weights_multiple P (columns_of t.basis) (rows_of t) ends.0 d (at w) h.stands.stands.multiples h.stands.auxiliary ends.2 dp e (weights_primitive P w size lowest (rows_of t P.m) d e some_explicit),
+          weights_multiple P (columns_of t.basis) (rows_of t) ends.0 d (at w) h.stands.stands.multiples
+              h.stands.auxiliary ends.2 dp e (weights_primitive P w size lowest (rows_of t P.m) d e some_explicit),
         ) in
         let p : ShownAt P w (columns_of basis) = subst (λ (b : List ℕ). ShownAt P w (columns_of b)) (sym be) shown in
         record { reached = p.0; ends = p.1; entries = p.2 }
@@ -158,24 +182,31 @@ row_low P row t h = elim h [
   | inr b ↦ omega (arith, b.0, b.1.stands.rows_are)
 ]
 
-pub row_free : (P : Program) (row : ℕ) (t : Table) → FirstEnds P (Infeasible row) t → row < positions t → IsFree t.columns t.basis (t.columns + positions t)
+pub row_free : (P : Program) (row : ℕ) (t : Table) → FirstEnds P (Infeasible row) t → row < positions t
+    → IsFree t.columns t.basis (t.columns + positions t)
 row_free P row t h l = elim h [
-  | inl a ↦ subst (λ (k : ℕ). IsFree t.columns t.basis k) (omega (arith, a.stands.rows_are, a.stands.columns_are)) (auxiliary_free a.stands)
+  | inl a ↦
+      subst (λ (k : ℕ). IsFree t.columns t.basis k) (omega (arith, a.stands.rows_are, a.stands.columns_are))
+      (auxiliary_free a.stands)
   | inr b ↦ absurd (omega (arith, b.0, b.1.stands.rows_are))
 ]
 
-pub shown_weights : (P : Program) (row : ℕ) (t : Table) → FirstEnds P (Infeasible row) t → (w : List ℤ) (basis : List ℕ) → length w ≡ positions t → content w ≤ 1
+pub shown_weights : (P : Program) (row : ℕ) (t : Table) → FirstEnds P (Infeasible row) t → (w : List ℤ) (basis : List ℕ)
+    → length w ≡ positions t → content w ≤ 1
     → (d : ℤ) × (pos 0 <ℤ d) × ((i : ℕ) → i < positions t → d *ℤ at w i ≡ rows_of t row (t.columns + i))
-    → (row < positions t → basis ≡ set t.basis row (t.columns + positions t)) → (row ≡ positions t → basis ≡ t.basis) → AreWeights P basis w
+    → (row < positions t → basis ≡ set t.basis row (t.columns + positions t)) → (row ≡ positions t → basis ≡ t.basis)
+    → AreWeights P basis w
 shown_weights P row t h w basis size lowest e comes stays = elim h [
   | inl a ↦
       let n : t.columns ≡ P.n = a.stands.columns_are in
       let m : positions t ≡ P.m = a.stands.rows_are in
-      weights_beside P t w (size ∙ m) lowest e.0 e.1 row a (λ i l. e.2 i (omega arith) ∙ ap (λ k. rows_of t row (k + i)) n) basis
+      weights_beside P t w (size ∙ m) lowest e.0 e.1 row a
+      (λ i l. e.2 i (omega arith) ∙ ap (λ k. rows_of t row (k + i)) n) basis
       (comes (omega (arith, a.inside)) ∙ ap (λ k. set t.basis row k) (omega arith))
   | inr b ↦
       let n : t.columns ≡ P.n = b.1.stands.columns_are in
       let m : positions t ≡ P.m = b.1.stands.rows_are in
-      weights_explicit P t w (size ∙ m) lowest e.0 e.1 b.1 (λ i l. e.2 i (omega arith) ∙ ap (λ k. rows_of t row (k + i)) n ∙ ap (λ k. rows_of t k (P.n + i)) b.0) basis
+      weights_explicit P t w (size ∙ m) lowest e.0 e.1 b.1
+      (λ i l. e.2 i (omega arith) ∙ ap (λ k. rows_of t row (k + i)) n ∙ ap (λ k. rows_of t k (P.n + i)) b.0) basis
       (stays (omega (arith, b.0)))
 ]

@@ -6,7 +6,8 @@ use Rattle.rob_simplex.proofs.lowering.write_steps.Given as goal
 
 abbrev pub invariant-loop-k : goal.invariant-loop-k
 invariant-loop-k g l = record {
-  done : (j : ℕ) → j < l.k → row_at l.rows l.fn.width l.fn.i j ≡ step_row l.fn.step.one l.fn.step.place (g.E.Entry.value l.fn.step.number) j;
+  done : (j : ℕ) → j < l.k
+      → row_at l.rows l.fn.width l.fn.i j ≡ step_row l.fn.step.one l.fn.step.place (g.E.Entry.value l.fn.step.number) j;
   same : (j c : ℕ) → j ≢ l.fn.i → c < l.fn.width → row_at l.rows l.fn.width j c ≡ row_at l.fn.rows l.fn.width j c;
   size : length l.rows ≡ length l.fn.rows;
 }

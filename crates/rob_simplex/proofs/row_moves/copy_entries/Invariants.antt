@@ -5,7 +5,9 @@ use Rattle.rob_simplex.proofs.row_moves.copy_entries.Given as goal
 
 abbrev pub invariant-loop-k : goal.invariant-loop-k
 invariant-loop-k g l = record {
-  done : (j : ℕ) → j < l.k → j < l.fn.width → row_at l.rows l.fn.width l.fn.to j ≡ row_at l.fn.rows l.fn.width l.fn.from j;
-  same : (i j : ℕ) → (i ≢ l.fn.to) ⊎ (l.k ≤ j) → j < l.fn.width → row_at l.rows l.fn.width i j ≡ row_at l.fn.rows l.fn.width i j;
+  done : (j : ℕ) → j < l.k → j < l.fn.width
+      → row_at l.rows l.fn.width l.fn.to j ≡ row_at l.fn.rows l.fn.width l.fn.from j;
+  same : (i j : ℕ) → (i ≢ l.fn.to) ⊎ (l.k ≤ j) → j < l.fn.width
+      → row_at l.rows l.fn.width i j ≡ row_at l.fn.rows l.fn.width i j;
   size : length l.rows ≡ length l.fn.rows;
 }

@@ -9,7 +9,15 @@ loop-k-preserved g c =
     let al : c.args.a * c.args.width + c.args.width ≤ length c.loop-k.rows = omega (arith, c.requires.a_in) in
     let bl : c.args.b * c.args.width + c.args.width ≤ length c.loop-k.rows = omega (arith, c.requires.b_in) in
     record {
-      done = exchanged_more c.loop-k.rows c.args.rows.now c.args.width c.args.a c.args.b c.loop-k.k al bl c.loop-k-test.true c.loop-k.invariant.done c.loop-k.invariant.same c.swap.new.self c.swap.ensures.swapped;
-      same = exchanged_rest c.loop-k.rows c.args.rows.now c.args.width c.args.a c.args.b c.loop-k.k al bl c.loop-k-test.true c.loop-k.invariant.same c.swap.new.self c.swap.ensures.swapped;
-      size = swap_size c.loop-k.rows c.swap.new.self (c.args.a * c.args.width + c.loop-k.k) (c.args.b * c.args.width + c.loop-k.k) (at c.loop-k.rows (c.args.b * c.args.width + c.loop-k.k)) (at c.loop-k.rows (c.args.a * c.args.width + c.loop-k.k)) (length c.args.rows.now) c.loop-k.invariant.size c.swap.ensures.swapped;
+      done =
+          exchanged_more c.loop-k.rows c.args.rows.now c.args.width c.args.a c.args.b c.loop-k.k al bl
+          c.loop-k-test.true c.loop-k.invariant.done c.loop-k.invariant.same c.swap.new.self c.swap.ensures.swapped;
+      same =
+          exchanged_rest c.loop-k.rows c.args.rows.now c.args.width c.args.a c.args.b c.loop-k.k al bl
+          c.loop-k-test.true c.loop-k.invariant.same c.swap.new.self c.swap.ensures.swapped;
+      size =
+          swap_size c.loop-k.rows c.swap.new.self (c.args.a * c.args.width + c.loop-k.k)
+          (c.args.b * c.args.width + c.loop-k.k) (at c.loop-k.rows (c.args.b * c.args.width + c.loop-k.k))
+          (at c.loop-k.rows (c.args.a * c.args.width + c.loop-k.k)) (length c.args.rows.now) c.loop-k.invariant.size
+          c.swap.ensures.swapped;
     }

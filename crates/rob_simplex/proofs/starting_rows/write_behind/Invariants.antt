@@ -7,7 +7,10 @@ use Rattle.rob_simplex.proofs.starting_rows.write_behind.Given as goal
 
 abbrev pub invariant-loop-k : goal.invariant-loop-k
 invariant-loop-k g l = record {
-  done : (j : ℕ) → length l.fn.numbers ≤ j → j < l.k → row_at l.rows (length l.fn.numbers + 4) l.fn.i j ≡ start_entry (length l.fn.numbers) (at l.fn.numbers) (neg_ℤ (pos 1)) l.fn.right j;
-  same : (j c : ℕ) → c < length l.fn.numbers + 4 → (j ≢ l.fn.i) ⊎ (c < length l.fn.numbers) → row_at l.rows (length l.fn.numbers + 4) j c ≡ row_at l.fn.rows (length l.fn.numbers + 4) j c;
+  done : (j : ℕ) → length l.fn.numbers ≤ j → j < l.k
+      → row_at l.rows (length l.fn.numbers + 4) l.fn.i j ≡ start_entry (length l.fn.numbers) (at l.fn.numbers)
+      (neg_ℤ (pos 1)) l.fn.right j;
+  same : (j c : ℕ) → c < length l.fn.numbers + 4 → (j ≢ l.fn.i) ⊎ (c < length l.fn.numbers)
+      → row_at l.rows (length l.fn.numbers + 4) j c ≡ row_at l.fn.rows (length l.fn.numbers + 4) j c;
   size : length l.rows ≡ length l.fn.rows;
 }

@@ -13,6 +13,11 @@ returns-clause-bounded g c =
     let one : 1 ≤ g.E.Entry.top = omega (arith, g.met.E.Entry.top_low) in
     let small = (λ (k : ℕ) (l : k < length c.args.cost.now + 4).
     subst (λ (z : ℤ). nat_abs z ≤ g.E.Entry.top) (sym (c.write_objective.ensures.row k l))
-    (entry_within (length c.args.cost.now) g.E.Entry.top (λ j. neg_ℤ (at c.args.cost.now j)) (pos 0) (pos 0) (λ k l. let h : nat_abs (at c.args.cost.now k) < 2 ^ 62 = c.requires.within k l in omega (arith, ints, g.met.E.Entry.top_low)) (omega arith) (omega arith) one k)) in
-    written_bounds g.E.Entry.top w c.args.rows.now c.write_objective.new.rows c.args.bounds.now (set c.args.bounds.now c.args.i c.largest.result) c.args.i c.largest.result c.requires.bounded c.write_objective.ensures.size c.requires.inside refl
-    (largest_within g.E.Entry.top w c.largest.result (row_at c.write_objective.new.rows w c.args.i) small c.largest.ensures.reached) c.largest.ensures.bound c.write_objective.ensures.others
+    (entry_within (length c.args.cost.now) g.E.Entry.top (λ j. neg_ℤ (at c.args.cost.now j)) (pos 0) (pos 0)
+    (λ k l. let h : nat_abs (at c.args.cost.now k) < 2 ^ 62 =
+    c.requires.within k l in omega (arith, ints, g.met.E.Entry.top_low)) (omega arith) (omega arith) one k)) in
+    written_bounds g.E.Entry.top w c.args.rows.now c.write_objective.new.rows c.args.bounds.now
+    (set c.args.bounds.now c.args.i c.largest.result) c.args.i c.largest.result c.requires.bounded
+    c.write_objective.ensures.size c.requires.inside refl
+    (largest_within g.E.Entry.top w c.largest.result (row_at c.write_objective.new.rows w c.args.i) small
+    c.largest.ensures.reached) c.largest.ensures.bound c.write_objective.ensures.others

@@ -7,7 +7,10 @@ use Rattle.rob_simplex.proofs.starting_rows.write_objective.Given as goal
 
 abbrev pub invariant-loop-k : goal.invariant-loop-k
 invariant-loop-k g l = record {
-  done : (j : ℕ) → j < l.k → row_at l.rows (length l.fn.cost + 4) l.fn.i j ≡ start_entry (length l.fn.cost) (λ k. neg_ℤ (at l.fn.cost k)) (pos 0) (pos 0) j;
-  same : (j c : ℕ) → j ≢ l.fn.i → c < length l.fn.cost + 4 → row_at l.rows (length l.fn.cost + 4) j c ≡ row_at l.fn.rows (length l.fn.cost + 4) j c;
+  done : (j : ℕ) → j < l.k
+      → row_at l.rows (length l.fn.cost + 4) l.fn.i j ≡ start_entry (length l.fn.cost) (λ k. neg_ℤ (at l.fn.cost k))
+      (pos 0) (pos 0) j;
+  same : (j c : ℕ) → j ≢ l.fn.i → c < length l.fn.cost + 4
+      → row_at l.rows (length l.fn.cost + 4) j c ≡ row_at l.fn.rows (length l.fn.cost + 4) j c;
   size : length l.rows ≡ length l.fn.rows;
 }

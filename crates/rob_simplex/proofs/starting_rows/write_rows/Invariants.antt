@@ -8,6 +8,7 @@ use Rattle.rob_simplex.proofs.starting_rows.write_rows.Given as goal
 abbrev pub invariant-loop-i : goal.invariant-loop-i
 invariant-loop-i g l = record {
   rows : (j k : ℕ) → j < l.i → k < length l.fn.numbers + 4 → row_at l.rows (length l.fn.numbers + 4) j k
-      ≡ start_entry (length l.fn.numbers) (at (slice_index_or (g.R.Rows.lp l.fn.source).a j [])) (neg_ℤ (pos 1)) (at (g.R.Rows.lp l.fn.source).b j) k;
+      ≡ start_entry (length l.fn.numbers) (at (slice_index_or (g.R.Rows.lp l.fn.source).a j [])) (neg_ℤ (pos 1))
+      (at (g.R.Rows.lp l.fn.source).b j) k;
   bounded : HasBounds g.E.Entry.top (length l.fn.numbers + 4) l.rows l.bounds;
 }

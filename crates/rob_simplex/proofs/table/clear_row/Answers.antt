@@ -12,24 +12,34 @@ pub returns-in_err-bounds-clause-wide : goal.returns-in_err-bounds-clause-wide
 returns-in_err-bounds-clause-wide g c =
     let et : c.TOP.result ≡ g.E.Entry.top = c.TOP.ensures ∙ g.met.E.Entry.top_told in
     on_err c.from_residual.result
-    (subst (λ (l : ℕ). IsWideCleared l c.args.pivot.width c.args.pivot.entry (row_at c.args.rows.now c.args.pivot.width c.args.i) (at c.args.pivot_row.now.entries)) et
-    (subst (λ (n : ℕ). IsWideCleared c.TOP.result n c.args.pivot.entry (row_at c.args.rows.now c.args.pivot.width c.args.i) (at c.args.pivot_row.now.entries)) c.requires.ready.width c.in_err-bounds.ensures.wide))
+    (subst (λ (l : ℕ). IsWideCleared l c.args.pivot.width c.args.pivot.entry
+    (row_at c.args.rows.now c.args.pivot.width c.args.i) (at c.args.pivot_row.now.entries)) et
+    (subst (λ (n : ℕ). IsWideCleared c.TOP.result n c.args.pivot.entry
+    (row_at c.args.rows.now c.args.pivot.width c.args.i) (at c.args.pivot_row.now.entries)) c.requires.ready.width
+    c.in_err-bounds.ensures.wide))
 
 pub returns-clause-cleared : goal.returns-clause-cleared
 returns-clause-cleared g c =
-    subst (λ (n : ℕ). IsClearedBy n c.args.pivot.entry (row_at c.args.rows.now c.args.pivot.width c.args.i) (at c.args.pivot_row.now.entries) (row_at c.clear.new.self c.args.pivot.width c.args.i)) c.requires.ready.width
+    subst (λ (n : ℕ). IsClearedBy n c.args.pivot.entry (row_at c.args.rows.now c.args.pivot.width c.args.i)
+    (at c.args.pivot_row.now.entries) (row_at c.clear.new.self c.args.pivot.width c.args.i)) c.requires.ready.width
     c.in_ok-bounds.ensures.cleared
 
 pub returns-clause-others : goal.returns-clause-others
 returns-clause-others g c =
     rows_apart c.args.rows.now c.clear.new.self c.args.pivot.width c.args.i
-    (λ k d. c.clear.ensures.others k (subst (λ (n : ℕ). (k < c.args.i * c.args.pivot.width) ⊎ (c.args.i * c.args.pivot.width + n ≤ k)) (sym c.requires.ready.width) d))
+    (λ k d. c.clear.ensures.others k
+    (subst (λ (n : ℕ). (k < c.args.i * c.args.pivot.width) ⊎ (c.args.i * c.args.pivot.width + n ≤ k))
+    (sym c.requires.ready.width) d))
 
 pub returns-clause-bounded : goal.returns-clause-bounded
 returns-clause-bounded g c =
     let et : c.TOP.result ≡ g.E.Entry.top = c.TOP.ensures ∙ g.met.E.Entry.top_told in
     let apart = rows_apart c.args.rows.now c.clear.new.self c.args.pivot.width c.args.i
-    (λ k d. c.clear.ensures.others k (subst (λ (n : ℕ). (k < c.args.i * c.args.pivot.width) ⊎ (c.args.i * c.args.pivot.width + n ≤ k)) (sym c.requires.ready.width) d)) in
-    written_bounds g.E.Entry.top c.args.pivot.width c.args.rows.now c.clear.new.self c.args.bounds.now (set c.args.bounds.now c.args.i c.in_ok-bounds.field-0) c.args.i c.in_ok-bounds.field-0 c.requires.ready.bounded c.clear.ensures.size c.requires.ready.inside refl
+    (λ k d. c.clear.ensures.others k
+    (subst (λ (n : ℕ). (k < c.args.i * c.args.pivot.width) ⊎ (c.args.i * c.args.pivot.width + n ≤ k))
+    (sym c.requires.ready.width) d)) in
+    written_bounds g.E.Entry.top c.args.pivot.width c.args.rows.now c.clear.new.self c.args.bounds.now
+    (set c.args.bounds.now c.args.i c.in_ok-bounds.field-0) c.args.i c.in_ok-bounds.field-0 c.requires.ready.bounded
+    c.clear.ensures.size c.requires.ready.inside refl
     (subst (λ (l : ℕ). c.in_ok-bounds.field-0 ≤ l) et c.in_ok-bounds.ensures.bounded.0)
     (λ k l. c.in_ok-bounds.ensures.bounded.1 k (subst (λ (n : ℕ). k < n) (sym c.requires.ready.width) l)) apart

@@ -9,11 +9,18 @@ use Rattle.rob_simplex.proofs.table.clear_rows.Goals as goal
 
 pub returns-in-Err-clause-stopped : goal.returns-in-Err-clause-stopped
 returns-in-Err-clause-stopped g c =
-    subst (λ (rows : List ℤ). IsStopped g.E.Entry.top c.args.count c.args.pivot.width c.args.pivot.row c.args.pivot.entry (at c.args.pivot_row.now.entries) (row_at c.args.rows.now c.args.pivot.width) (row_at rows c.args.pivot.width) c.loop-i.i)
+    subst (λ (rows : List ℤ).
+    IsStopped g.E.Entry.top c.args.count c.args.pivot.width c.args.pivot.row c.args.pivot.entry
+    (at c.args.pivot_row.now.entries) (row_at c.args.rows.now c.args.pivot.width) (row_at rows c.args.pivot.width)
+    c.loop-i.i)
     (sym c.in-Err.ensures.unchanged)
-    (wide_at c.args.pivot.width c.args.pivot.row c.args.pivot.entry (at c.args.pivot_row.now.entries) c.requires.ready.entry_in (row_at c.args.rows.now c.args.pivot.width) g.E.Entry.top c.args.count c.loop-i.i
+    (wide_at c.args.pivot.width c.args.pivot.row c.args.pivot.entry (at c.args.pivot_row.now.entries)
+    c.requires.ready.entry_in (row_at c.args.rows.now c.args.pivot.width) g.E.Entry.top c.args.count c.loop-i.i
     (row_at c.loop-i.rows c.args.pivot.width) c.loop-i-test.true c.in-Err.ensures.wide.0
-    (subst (λ (v : Clearing). IsWideCleared g.E.Entry.top c.args.pivot.width c.args.pivot.entry (row_at c.loop-i.rows c.args.pivot.width c.loop-i.i) (at v.entries)) c.loop-i.invariant.same c.in-Err.ensures.wide.1)
+    (subst (λ (v : Clearing).
+    IsWideCleared g.E.Entry.top c.args.pivot.width c.args.pivot.entry
+    (row_at c.loop-i.rows c.args.pivot.width c.loop-i.i) (at v.entries)) c.loop-i.invariant.same
+    c.in-Err.ensures.wide.1)
     c.loop-i.invariant.cleared)
 
 pub clear_other-requires-clause-ready : goal.clear_other-requires-clause-ready

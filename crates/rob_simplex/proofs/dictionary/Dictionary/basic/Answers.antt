@@ -7,7 +7,8 @@ use Rattle.rob_simplex.proofs.dictionary.Dictionary.basic.Goals as goal
 pub returns-clause-column : goal.returns-clause-column
 returns-clause-column g c =
     let il = subst (λ (t : Table). c.args.i < positions t) (sym c.self.view_is) c.requires.inside in
-    read_at c.self.inside.basis.items c.args.i c.index.result.now il c.index.ensures ∙ ap (λ (t : Table). columns_of t.basis c.args.i) c.self.view_is
+    read_at c.self.inside.basis.items c.args.i c.index.result.now il c.index.ensures
+    ∙ ap (λ (t : Table). columns_of t.basis c.args.i) c.self.view_is
 
 pub returns-clause-few : goal.returns-clause-few
 returns-clause-few g c =

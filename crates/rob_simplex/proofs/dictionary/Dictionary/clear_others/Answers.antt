@@ -14,34 +14,47 @@ use Rattle.rob_simplex.proofs.dictionary.Dictionary.clear_others.Goals as goal
 
 pub load-requires : goal.load-requires
 load-requires g c =
-    let a = subst (λ (t : Table). CanClear c.args.count t c.args.row c.args.column) (sym c.self.view_is) c.requires.ready in
+    let a =
+    subst (λ (t : Table). CanClear c.args.count t c.args.row c.args.column) (sym c.self.view_is) c.requires.ready in
     let rl : c.args.row < length c.self.inside.basis.items = a.row_in in
     let bl : c.args.row < length c.self.inside.bounds.items = omega (arith, rl, c.self.invariant.count) in
-    let b : c.index.result.now ≡ bound_at c.self.inside.bounds.items c.args.row = read_at c.self.inside.bounds.items c.args.row c.index.result.now bl c.index.ensures in
+    let b : c.index.result.now ≡ bound_at c.self.inside.bounds.items c.args.row =
+    read_at c.self.inside.bounds.items c.args.row c.index.result.now bl c.index.ensures in
     let there = row_there c.self.invariant a in
     record {
       inside = omega (arith, there, c.self.invariant.workspace_is);
       within = λ k l.
           let kl : k < c.self.inside.columns + 4 = omega (arith, c.self.invariant.workspace_is) in
-          subst (λ (x : ℕ). nat_abs (row_at c.self.inside.rows (c.self.inside.columns + 4) c.args.row k) ≤ x) (sym b) (c.self.invariant.bounded.within c.args.row k bl kl);
+          subst (λ (x : ℕ). nat_abs (row_at c.self.inside.rows (c.self.inside.columns + 4) c.args.row k) ≤ x) (sym b)
+          (c.self.invariant.bounded.within c.args.row k bl kl);
       bound = subst (λ (x : ℕ). x ≤ g.E.Entry.top) (sym b) (c.self.invariant.bounded.low c.args.row bl);
     }
 
 pub clear_rows-requires : goal.clear_rows-requires
 clear_rows-requires g c =
-    let a = subst (λ (t : Table). CanClear c.args.count t c.args.row c.args.column) (sym c.self.view_is) c.requires.ready in
+    let a =
+    subst (λ (t : Table). CanClear c.args.count t c.args.row c.args.column) (sym c.self.view_is) c.requires.ready in
     let rl : c.args.row < length c.self.inside.basis.items = a.row_in in
     let bl : c.args.row < length c.self.inside.bounds.items = omega (arith, rl, c.self.invariant.count) in
-    let b : c.index.result.now ≡ bound_at c.self.inside.bounds.items c.args.row = read_at c.self.inside.bounds.items c.args.row c.index.result.now bl c.index.ensures in
-    let low : bound_at c.self.inside.bounds.items c.args.row ≤ g.E.Entry.top = c.self.invariant.bounded.low c.args.row bl in
-    let ex = read_at c.self.inside.places.items c.args.column c.index-2.result.now (omega (arith, a.free.inside, c.self.invariant.places_size)) c.index-2.ensures in
-    let m : IsMultipleOf (c.self.inside.columns + 4) (row_at c.self.inside.rows (c.self.inside.columns + 4) c.args.row) (at c.load.new.row.entries) =
-    subst (λ (w : ℕ). IsMultipleOf w (row_at c.self.inside.rows (c.self.inside.columns + 4) c.args.row) (at c.load.new.row.entries)) c.self.invariant.workspace_is c.load.ensures.entries in
+    let b : c.index.result.now ≡ bound_at c.self.inside.bounds.items c.args.row =
+    read_at c.self.inside.bounds.items c.args.row c.index.result.now bl c.index.ensures in
+    let low : bound_at c.self.inside.bounds.items c.args.row ≤ g.E.Entry.top =
+    c.self.invariant.bounded.low c.args.row bl in
+    let ex =
+    read_at c.self.inside.places.items c.args.column c.index-2.result.now
+    (omega (arith, a.free.inside, c.self.invariant.places_size)) c.index-2.ensures in
+    let m : IsMultipleOf (c.self.inside.columns + 4) (row_at c.self.inside.rows (c.self.inside.columns + 4) c.args.row)
+    (at c.load.new.row.entries) =
+    subst (λ (w : ℕ). IsMultipleOf w (row_at c.self.inside.rows (c.self.inside.columns + 4) c.args.row)
+    (at c.load.new.row.entries)) c.self.invariant.workspace_is c.load.ensures.entries in
     let fp = free_place c.self.invariant a in
     let lent = ap length c.as_mut_slice.ensures.value in
     record {
       ready = record {
-        bounded = bounds_carry g.E.Entry.top (c.self.inside.columns + 4) c.self.inside.rows c.self.inside.rows c.self.inside.bounds.items c.as_mut_slice.result.now refl c.as_mut_slice.ensures.value c.self.invariant.bounded;
+        bounded =
+            bounds_carry g.E.Entry.top (c.self.inside.columns + 4) c.self.inside.rows c.self.inside.rows
+            c.self.inside.bounds.items c.as_mut_slice.result.now refl c.as_mut_slice.ensures.value
+            c.self.invariant.bounded;
         inside = omega (arith, a.below, lent, c.self.invariant.count);
         width = c.load.ensures.size ∙ c.self.invariant.workspace_is;
         entry_in = omega (arith, ex, fp);
@@ -53,25 +66,45 @@ clear_rows-requires g c =
 
 pub returns-clause-cleared : goal.returns-clause-cleared
 returns-clause-cleared g c =
-    let a = subst (λ (t : Table). CanClear c.args.count t c.args.row c.args.column) (sym c.self.view_is) c.requires.ready in
-    let ex = read_at c.self.inside.places.items c.args.column c.index-2.result.now (omega (arith, a.free.inside, c.self.invariant.places_size)) c.index-2.ensures in
-    let m : IsMultipleOf (c.self.inside.columns + 4) (row_at c.self.inside.rows (c.self.inside.columns + 4) c.args.row) (at c.load.new.row.entries) =
-    subst (λ (w : ℕ). IsMultipleOf w (row_at c.self.inside.rows (c.self.inside.columns + 4) c.args.row) (at c.load.new.row.entries)) c.self.invariant.workspace_is c.load.ensures.entries in
-    subst (λ (v : Table). OnOk c.clear_rows.result (ClearsTable c.args.count v (after c.self.invariant a c.clear_rows.new.rows) c.args.row c.args.column)) c.self.view_is
-    (on_ok_weaker c.clear_rows.result (table_cleared c.self.invariant a c.load.new.row.entries m c.index-2.result.now ex c.clear_rows.new.rows) c.clear_rows.ensures.cleared)
+    let a =
+    subst (λ (t : Table). CanClear c.args.count t c.args.row c.args.column) (sym c.self.view_is) c.requires.ready in
+    let ex =
+    read_at c.self.inside.places.items c.args.column c.index-2.result.now
+    (omega (arith, a.free.inside, c.self.invariant.places_size)) c.index-2.ensures in
+    let m : IsMultipleOf (c.self.inside.columns + 4) (row_at c.self.inside.rows (c.self.inside.columns + 4) c.args.row)
+    (at c.load.new.row.entries) =
+    subst (λ (w : ℕ). IsMultipleOf w (row_at c.self.inside.rows (c.self.inside.columns + 4) c.args.row)
+    (at c.load.new.row.entries)) c.self.invariant.workspace_is c.load.ensures.entries in
+    subst (λ (v : Table). OnOk c.clear_rows.result
+    (ClearsTable c.args.count v (after c.self.invariant a c.clear_rows.new.rows) c.args.row c.args.column))
+    c.self.view_is
+    (on_ok_weaker c.clear_rows.result
+    (table_cleared c.self.invariant a c.load.new.row.entries m c.index-2.result.now ex c.clear_rows.new.rows)
+    c.clear_rows.ensures.cleared)
 
 pub returns-clause-stopped : goal.returns-clause-stopped
 returns-clause-stopped g c =
     let w = c.self.inside.columns + 4 in
-    let a = subst (λ (t : Table). CanClear c.args.count t c.args.row c.args.column) (sym c.self.view_is) c.requires.ready in
-    let ex = read_at c.self.inside.places.items c.args.column c.index-2.result.now (omega (arith, a.free.inside, c.self.invariant.places_size)) c.index-2.ensures in
-    let m : IsMultipleOf (c.self.inside.columns + 4) (row_at c.self.inside.rows (c.self.inside.columns + 4) c.args.row) (at c.load.new.row.entries) =
-    subst (λ (w : ℕ). IsMultipleOf w (row_at c.self.inside.rows (c.self.inside.columns + 4) c.args.row) (at c.load.new.row.entries)) c.self.invariant.workspace_is c.load.ensures.entries in
+    let a =
+    subst (λ (t : Table). CanClear c.args.count t c.args.row c.args.column) (sym c.self.view_is) c.requires.ready in
+    let ex =
+    read_at c.self.inside.places.items c.args.column c.index-2.result.now
+    (omega (arith, a.free.inside, c.self.invariant.places_size)) c.index-2.ensures in
+    let m : IsMultipleOf (c.self.inside.columns + 4) (row_at c.self.inside.rows (c.self.inside.columns + 4) c.args.row)
+    (at c.load.new.row.entries) =
+    subst (λ (w : ℕ). IsMultipleOf w (row_at c.self.inside.rows (c.self.inside.columns + 4) c.args.row)
+    (at c.load.new.row.entries)) c.self.invariant.workspace_is c.load.ensures.entries in
     let new = c.clear_rows.new.rows in
-    subst (λ (v : Table). IfErr c.clear_rows.result (λ (i : ℕ). StopsTable v.limit c.args.count v (after c.self.invariant a new) c.args.row c.args.column i)) c.self.view_is
-    (err_weaker (λ (i : ℕ). IsStopped g.E.Entry.top c.args.count w c.args.row c.index-2.result.now (at c.load.new.row.entries) (row_at c.self.inside.rows w) (row_at new w) i)
-    (λ (i : ℕ). StopsTable g.E.Entry.top c.args.count (before c.self.invariant a) (after c.self.invariant a new) c.args.row c.args.column i)
-    (λ i. table_stopped c.self.invariant a c.load.new.row.entries m c.index-2.result.now ex new i) c.clear_rows.result c.clear_rows.ensures.stopped)
+    subst (λ (v : Table). IfErr c.clear_rows.result
+    (λ (i : ℕ). StopsTable v.limit c.args.count v (after c.self.invariant a new) c.args.row c.args.column i))
+    c.self.view_is
+    (err_weaker (λ (i : ℕ). IsStopped g.E.Entry.top c.args.count w c.args.row c.index-2.result.now
+    (at c.load.new.row.entries) (row_at c.self.inside.rows w) (row_at new w) i)
+    (λ (i : ℕ). StopsTable g.E.Entry.top c.args.count (before c.self.invariant a) (after c.self.invariant a new)
+    c.args.row c.args.column i)
+    (λ i. table_stopped c.self.invariant a c.load.new.row.entries m c.index-2.result.now ex new i) c.clear_rows.result
+    c.clear_rows.ensures.stopped)
 
 pub returns-clause-sized : goal.returns-clause-sized
-returns-clause-sized g c = let s = sized_view c.self.view_is in record { columns = s.columns; positions = s.positions; limit = s.limit }
+returns-clause-sized g c =
+    let s = sized_view c.self.view_is in record { columns = s.columns; positions = s.positions; limit = s.limit }

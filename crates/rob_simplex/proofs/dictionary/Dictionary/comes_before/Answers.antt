@@ -7,9 +7,13 @@ pub returns-in-Some : goal.returns-in-Some
 returns-in-Some g c =
     let t = c.args.self.now in
     let en : c.self.inside.columns ≡ c.args.self.now.columns = ap (λ (t : Table). t.columns) c.self.view_is in
-    let em : c.len-m.result ≡ positions c.args.self.now = c.len-m.ensures ∙ c.self.inside.basis.ok.0 ∙ ap (λ (t : Table). positions t) c.self.view_is in
+    let em : c.len-m.result ≡ positions c.args.self.now =
+    c.len-m.ensures ∙ c.self.inside.basis.ok.0 ∙ ap (λ (t : Table). positions t) c.self.view_is in
     record {
-      decides = first_found (rows_of t c.args.i) (rows_of t c.args.e) t.columns (positions t) (c.self.inside.columns + c.len-m.result + 2) (g.E.Entry.value c.args.p) (g.E.Entry.value c.args.q) (g.E.Entry.value c.args.p) (g.E.Entry.value c.args.q) c.in-Some.less refl refl
+      decides =
+          first_found (rows_of t c.args.i) (rows_of t c.args.e) t.columns (positions t)
+          (c.self.inside.columns + c.len-m.result + 2) (g.E.Entry.value c.args.p) (g.E.Entry.value c.args.q)
+          (g.E.Entry.value c.args.p) (g.E.Entry.value c.args.q) c.in-Some.less refl refl
           (omega arith) c.in-Some.ensures.order;
     }
 
@@ -17,10 +21,15 @@ pub returns-in-Some-is_less_at : goal.returns-in-Some-is_less_at
 returns-in-Some-is_less_at g c =
     let t = c.args.self.now in
     let en : c.self.inside.columns ≡ c.args.self.now.columns = ap (λ (t : Table). t.columns) c.self.view_is in
-    let em : c.len-m.result ≡ positions c.args.self.now = c.len-m.ensures ∙ c.self.inside.basis.ok.0 ∙ ap (λ (t : Table). positions t) c.self.view_is in
+    let em : c.len-m.result ≡ positions c.args.self.now =
+    c.len-m.ensures ∙ c.self.inside.basis.ok.0 ∙ ap (λ (t : Table). positions t) c.self.view_is in
     record {
-      decides = later_found (rows_of t c.args.i) (rows_of t c.args.e) t.columns (positions t) c.self.inside.columns (c.self.inside.columns + c.len-m.result + 2) c.loop-k.k (g.E.Entry.value c.args.p) (g.E.Entry.value c.args.q) (g.E.Entry.value c.args.p) (g.E.Entry.value c.args.q)
-          c.in-Some-is_less_at.less refl refl en (omega arith) (omega arith) c.in-None.ensures.order c.loop-k.invariant c.in-Some-is_less_at.ensures.order;
+      decides =
+          later_found (rows_of t c.args.i) (rows_of t c.args.e) t.columns (positions t) c.self.inside.columns
+          (c.self.inside.columns + c.len-m.result + 2) c.loop-k.k (g.E.Entry.value c.args.p) (g.E.Entry.value c.args.q)
+          (g.E.Entry.value c.args.p) (g.E.Entry.value c.args.q)
+          c.in-Some-is_less_at.less refl refl en (omega arith) (omega arith) c.in-None.ensures.order c.loop-k.invariant
+          c.in-Some-is_less_at.ensures.order;
     }
 
 pub loop-k-preserved : goal.loop-k-preserved
@@ -29,15 +38,21 @@ loop-k-preserved g c =
     let p = g.E.Entry.value c.args.p in
     let q = g.E.Entry.value c.args.q in
     let en : c.self.inside.columns ≡ c.args.self.now.columns = ap (λ (t : Table). t.columns) c.self.view_is in
-    zeros_more (λ j. (p *ℤ rows_of t c.args.e (t.columns + j)) -ℤ (q *ℤ rows_of t c.args.i (t.columns + j))) c.loop-k.k c.loop-k.invariant
-    (subst (λ n. (p *ℤ rows_of t c.args.e (n + c.loop-k.k)) -ℤ (q *ℤ rows_of t c.args.i (n + c.loop-k.k)) ≡ pos 0) en c.in-None-is_less_at.ensures.order)
+    zeros_more (λ j. (p *ℤ rows_of t c.args.e (t.columns + j)) -ℤ (q *ℤ rows_of t c.args.i (t.columns + j))) c.loop-k.k
+    c.loop-k.invariant
+    (subst (λ n. (p *ℤ rows_of t c.args.e (n + c.loop-k.k)) -ℤ (q *ℤ rows_of t c.args.i (n + c.loop-k.k)) ≡ pos 0) en
+    c.in-None-is_less_at.ensures.order)
 
 pub returns : goal.returns
 returns g c =
     let t = c.args.self.now in
     let en : c.self.inside.columns ≡ c.args.self.now.columns = ap (λ (t : Table). t.columns) c.self.view_is in
-    let em : c.len-m.result ≡ positions c.args.self.now = c.len-m.ensures ∙ c.self.inside.basis.ok.0 ∙ ap (λ (t : Table). positions t) c.self.view_is in
+    let em : c.len-m.result ≡ positions c.args.self.now =
+    c.len-m.ensures ∙ c.self.inside.basis.ok.0 ∙ ap (λ (t : Table). positions t) c.self.view_is in
     record {
-      decides = none_found (rows_of t c.args.i) (rows_of t c.args.e) t.columns (positions t) c.loop-k.k (c.self.inside.columns + c.len-m.result + 2) (g.E.Entry.value c.args.p) (g.E.Entry.value c.args.q) (g.E.Entry.value c.args.p) (g.E.Entry.value c.args.q) refl refl (omega arith) (omega arith)
+      decides =
+          none_found (rows_of t c.args.i) (rows_of t c.args.e) t.columns (positions t) c.loop-k.k
+          (c.self.inside.columns + c.len-m.result + 2) (g.E.Entry.value c.args.p) (g.E.Entry.value c.args.q)
+          (g.E.Entry.value c.args.p) (g.E.Entry.value c.args.q) refl refl (omega arith) (omega arith)
           c.in-None.ensures.order c.loop-k.invariant;
     }

@@ -20,10 +20,15 @@ invariant_of-self g c =
     let bounds = c.self.inside.bounds.items in
     let workspace = length c.self.inside.pivot_row.entries in
     let t = c.write_step.new.rows in
-    let bt = take c.self.inside.bounds.len (c.write_step.new.bounds ++ drop (length c.write_step.new.bounds) c.self.inside.bounds.items) in
-    let cb = written_back c.write_step.new.bounds c.self.inside.bounds.items c.self.inside.bounds.len (c.write_step.auto.bounds ∙ ap length c.as_mut_slice.ensures.value ∙ sym c.self.inside.bounds.ok.0) in
+    let bt =
+    take c.self.inside.bounds.len
+    (c.write_step.new.bounds ++ drop (length c.write_step.new.bounds) c.self.inside.bounds.items) in
+    let cb =
+    written_back c.write_step.new.bounds c.self.inside.bounds.items c.self.inside.bounds.len
+    (c.write_step.auto.bounds ∙ ap length c.as_mut_slice.ensures.value ∙ sym c.self.inside.bounds.ok.0) in
     sound_with g.E.Entry.top n basis places near table t bounds bt workspace c.self.invariant
-    (bounds_carry g.E.Entry.top (n + 4) c.write_step.new.rows t c.write_step.new.bounds bt refl cb c.write_step.ensures.bounded) (ap length cb ∙ c.write_step.auto.bounds ∙ ap length c.as_mut_slice.ensures.value)
+    (bounds_carry g.E.Entry.top (n + 4) c.write_step.new.rows t c.write_step.new.bounds bt refl cb
+    c.write_step.ensures.bounded) (ap length cb ∙ c.write_step.auto.bounds ∙ ap length c.as_mut_slice.ensures.value)
 
 pub returns-clause-objective : goal.returns-clause-objective
 returns-clause-objective g c =
@@ -31,8 +36,13 @@ returns-clause-objective g c =
     let new = c.write_step.new.rows in
     let t = c.write_step.new.rows in
     let em : c.len-m.result ≡ length c.self.inside.basis.items = c.len-m.ensures ∙ c.self.inside.basis.ok.0 in
-    let here = subst (λ (m : ℕ). (k : ℕ) → k < n + 4 → row_at t (n + 4) m k ≡ step_row (n + 3) (n + 3) (pos 1) k) em (λ k l. carry_value new t (n + 4) c.len-m.result k (step_row (n + 3) (n + 3) (pos 1) k) refl (c.write_step.ensures.row k l ∙ ap (λ z. step_row (n + 3) (n + 3) z k) c.of.ensures.value)) in
-    subst (λ (v : Table). (k : ℕ) → k < width_of v → rows_of (table_with c.self.invariant t) (positions v) k ≡ unit_row (suc (v.columns + positions v)) k) c.self.view_is
+    let here =
+    subst (λ (m : ℕ). (k : ℕ) → k < n + 4 → row_at t (n + 4) m k ≡ step_row (n + 3) (n + 3) (pos 1) k) em
+    (λ k l. carry_value new t (n + 4) c.len-m.result k (step_row (n + 3) (n + 3) (pos 1) k) refl
+    (c.write_step.ensures.row k l ∙ ap (λ z. step_row (n + 3) (n + 3) z k) c.of.ensures.value)) in
+    subst (λ (v : Table). (k : ℕ) → k < width_of v
+    → rows_of (table_with c.self.invariant t) (positions v) k ≡ unit_row (suc (v.columns + positions v)) k)
+    c.self.view_is
     (dropped_objective c.self.invariant t here)
 
 pub returns-clause-rows : goal.returns-clause-rows
@@ -43,9 +53,13 @@ returns-clause-rows g c =
     let new = c.write_step.new.rows in
     let t = c.write_step.new.rows in
     let em : c.len-m.result ≡ length c.self.inside.basis.items = c.len-m.ensures ∙ c.self.inside.basis.ok.0 in
-    let others = subst (λ (m : ℕ). (i k : ℕ) → i ≢ m → k < n + 4 → row_at t (n + 4) i k ≡ row_at table (n + 4) i k) em (λ i k d l. carry table old new t (n + 4) i i k refl refl (c.write_step.ensures.others i k d l)) in
-    subst (λ (v : Table). (i k : ℕ) → i < positions v → rows_of (table_with c.self.invariant t) i k ≡ rows_of v i k) c.self.view_is
+    let others =
+    subst (λ (m : ℕ). (i k : ℕ) → i ≢ m → k < n + 4 → row_at t (n + 4) i k ≡ row_at table (n + 4) i k) em
+    (λ i k d l. carry table old new t (n + 4) i i k refl refl (c.write_step.ensures.others i k d l)) in
+    subst (λ (v : Table). (i k : ℕ) → i < positions v → rows_of (table_with c.self.invariant t) i k ≡ rows_of v i k)
+    c.self.view_is
     (λ i k l. other_read c.self.invariant (length c.self.inside.basis.items) t others i i k (λ e. absurd (omega arith)))
 
 pub returns-clause-sized : goal.returns-clause-sized
-returns-clause-sized g c = let s = sized_view c.self.view_is in record { columns = s.columns; positions = s.positions; limit = s.limit }
+returns-clause-sized g c =
+    let s = sized_view c.self.view_is in record { columns = s.columns; positions = s.positions; limit = s.limit }

@@ -9,7 +9,8 @@ use Rattle.rob_simplex.proofs.dictionary.Dictionary.end_turn.Goals as goal
 pub replace-requires-clause-free : goal.replace-requires-clause-free
 replace-requires-clause-free g c =
     let t = c.args.self.now in
-    let ez : c.columns-n.result + c.positions-m.result + 3 ≡ spare_column t.columns (positions t) = omega (arith, c.columns-n.ensures.columns, c.positions-m.ensures.positions) in
+    let ez : c.columns-n.result + c.positions-m.result + 3 ≡ spare_column t.columns (positions t) =
+    omega (arith, c.columns-n.ensures.columns, c.positions-m.ensures.positions) in
     let h = c.requires.begun.1 in
     spare_free (pivotable_turn c.requires.begun.0 h) h.broken (c.columns-n.result + c.positions-m.result + 3) ez
 
@@ -18,7 +19,8 @@ pub clear_others-cleared-requires : goal.clear_others-cleared-requires
 clear_others-cleared-requires g c =
     let t = c.args.self.now in
     let em = c.positions-m.ensures.positions in
-    let ez : c.columns-n.result + c.positions-m.result + 3 ≡ spare_column t.columns (positions t) = omega (arith, c.columns-n.ensures.columns, em) in
+    let ez : c.columns-n.result + c.positions-m.result + 3 ≡ spare_column t.columns (positions t) =
+    omega (arith, c.columns-n.ensures.columns, em) in
     let h = c.requires.begun.1 in
     let a = pivotable_turn c.requires.begun.0 h in
     let ek = c.basic-column.ensures.column in
@@ -38,20 +40,30 @@ clear_others-cleared-requires g c =
 pub replace-requires-2 : goal.replace-requires-2
 replace-requires-2 g c =
     let t = c.args.self.now in
-    let ez : c.columns-n.result + c.positions-m.result + 3 ≡ spare_column t.columns (positions t) = omega (arith, c.columns-n.ensures.columns, c.positions-m.ensures.positions) in
+    let ez : c.columns-n.result + c.positions-m.result + 3 ≡ spare_column t.columns (positions t) =
+    omega (arith, c.columns-n.ensures.columns, c.positions-m.ensures.positions) in
     let h = c.requires.begun.1 in
     let a = pivotable_turn c.requires.begun.0 h in
     let r2 = c.clear_others-cleared in
     record {
-      row_in = omega (arith, c.clear_others-cleared.ensures.sized.positions, c.replace.ensures.sized.positions, c.requires.row_in);
-      free = cleared_free a h.broken c.basic-column.ensures.column ez c.replace.ensures.exchanged r2.new.self r2.ensures.basis r2.ensures.sized.columns;
+      row_in =
+          omega (
+            arith,
+            c.clear_others-cleared.ensures.sized.positions,
+            c.replace.ensures.sized.positions,
+            c.requires.row_in,
+          );
+      free =
+          cleared_free a h.broken c.basic-column.ensures.column ez c.replace.ensures.exchanged r2.new.self
+          r2.ensures.basis r2.ensures.sized.columns;
     }
 
 pub returns-in-Ok-clause-turned : goal.returns-in-Ok-clause-turned
 returns-in-Ok-clause-turned g c P h =
     let t = c.args.self.now in
     let em = c.positions-m.ensures.positions in
-    let ez : c.columns-n.result + c.positions-m.result + 3 ≡ spare_column t.columns (positions t) = omega (arith, c.columns-n.ensures.columns, em) in
+    let ez : c.columns-n.result + c.positions-m.result + 3 ≡ spare_column t.columns (positions t) =
+    omega (arith, c.columns-n.ensures.columns, em) in
     let a = pivotable_turn P h in
     let ek = c.basic-column.ensures.column in
     let x = c.replace.ensures.exchanged in
@@ -72,7 +84,8 @@ pub returns-in-Err-clause-wide : goal.returns-in-Err-clause-wide
 returns-in-Err-clause-wide g c P h =
     let t = c.args.self.now in
     let em = c.positions-m.ensures.positions in
-    let ez : c.columns-n.result + c.positions-m.result + 3 ≡ spare_column t.columns (positions t) = omega (arith, c.columns-n.ensures.columns, em) in
+    let ez : c.columns-n.result + c.positions-m.result + 3 ≡ spare_column t.columns (positions t) =
+    omega (arith, c.columns-n.ensures.columns, em) in
     let a = pivotable_turn P h in
     let ek = c.basic-column.ensures.column in
     let x = c.replace.ensures.exchanged in
@@ -88,7 +101,8 @@ returns-in-Err-clause-wide g c P h =
     let ib : c.in-Err.i ≤ positions h.before = omega (arith, begun_size a h.broken) in
     subst (λ l. HasWideRow l P (columns_of t4.basis) c.in-Err.i) c.replace.ensures.sized.limit
     (turn_wide P h t4 (basis4 a h.broken ek ez x r2 b2 n2 t4 b4 n4) c.replace.new.self.limit c.in-Err.i ib sp.other
-    (wide_again a h.broken ek ez x r2 b2 n2 t4 b4 n4 c.replace.new.self.limit (c.positions-m.result + 1) c.in-Err.i sp il))
+    (wide_again a h.broken ek ez x r2 b2 n2 t4 b4 n4 c.replace.new.self.limit (c.positions-m.result + 1) c.in-Err.i sp
+    il))
 
 pub returns-in-Err-clause-position : goal.returns-in-Err-clause-position
 returns-in-Err-clause-position g c =
@@ -96,7 +110,9 @@ returns-in-Err-clause-position g c =
     omega (arith, c.positions-m.ensures.positions)
 
 pub returns-in-Ok-clause-sized : goal.returns-in-Ok-clause-sized
-returns-in-Ok-clause-sized g c = sized_after c.replace.ensures.sized (sized_after c.clear_others-cleared.ensures.sized c.replace-2.ensures.sized)
+returns-in-Ok-clause-sized g c =
+    sized_after c.replace.ensures.sized (sized_after c.clear_others-cleared.ensures.sized c.replace-2.ensures.sized)
 
 pub returns-in-Err-clause-sized : goal.returns-in-Err-clause-sized
-returns-in-Err-clause-sized g c = sized_after c.replace.ensures.sized (sized_after c.clear_others-cleared.ensures.sized c.replace-2.ensures.sized)
+returns-in-Err-clause-sized g c =
+    sized_after c.replace.ensures.sized (sized_after c.clear_others-cleared.ensures.sized c.replace-2.ensures.sized)

@@ -11,7 +11,11 @@ returns-in_default-clause-ended g c P h = starts_left P c.args.self.now h c.in_d
 
 pub go_beside-requires : goal.go_beside-requires
 go_beside-requires g c = record {
-  stands = (c.requires.starts.0, starts_beside c.requires.starts.0 c.args.self.now c.requires.starts.1 c.in-Some.q c.in-Some.ensures.least);
+  stands = (
+    c.requires.starts.0,
+    starts_beside c.requires.starts.0 c.args.self.now c.requires.starts.1 c.in-Some.q
+        c.in-Some.ensures.least,
+  );
 }
 
 pub returns-in-Infeasible-clause-ended : goal.returns-in-Infeasible-clause-ended
@@ -20,23 +24,29 @@ returns-in-Infeasible-clause-ended g c P h =
     inl (record { inside = x.0.holds.inside; stands = x.0; none = x.1 })
 
 pub returns-in-Feasible-clause-ended : goal.returns-in-Feasible-clause-ended
-returns-in-Feasible-clause-ended g c P h = c.in-Feasible.ensures.ended P (starts_beside P c.args.self.now h c.in-Some.q c.in-Some.ensures.least)
+returns-in-Feasible-clause-ended g c P h =
+    c.in-Feasible.ensures.ended P (starts_beside P c.args.self.now h c.in-Some.q c.in-Some.ensures.least)
 
 pub explicit_turns-requires : goal.explicit_turns-requires
 explicit_turns-requires g c = record {
   opened = (
     c.requires.starts.0,
-    c.in-Open.ensures.ended c.requires.starts.0 (starts_beside c.requires.starts.0 c.args.self.now c.requires.starts.1 c.in-Some.q c.in-Some.ensures.least),
+    c.in-Open.ensures.ended c.requires.starts.0
+        (starts_beside c.requires.starts.0 c.args.self.now c.requires.starts.1 c.in-Some.q c.in-Some.ensures.least),
   );
 }
 
 pub returns-in-Open-clause-ended : goal.returns-in-Open-clause-ended
 returns-in-Open-clause-ended g c P h =
-    subst (λ (l : ℕ). MatchResult c.explicit_turns.result (λ ending. FirstTurns P ending c.explicit_turns.new.self) (λ i. HasWideRow l P (columns_of c.explicit_turns.new.self.basis) i)) c.go_beside.ensures.sized.limit
-    (c.explicit_turns.ensures.ended P (c.in-Open.ensures.ended P (starts_beside P c.args.self.now h c.in-Some.q c.in-Some.ensures.least)))
+    subst (λ (l : ℕ). MatchResult c.explicit_turns.result (λ ending. FirstTurns P ending c.explicit_turns.new.self)
+    (λ i. HasWideRow l P (columns_of c.explicit_turns.new.self.basis) i)) c.go_beside.ensures.sized.limit
+    (c.explicit_turns.ensures.ended P
+    (c.in-Open.ensures.ended P (starts_beside P c.args.self.now h c.in-Some.q c.in-Some.ensures.least)))
 
 pub returns-in-Open-clause-position : goal.returns-in-Open-clause-position
-returns-in-Open-clause-position g c = subst (λ (m : ℕ). IfErr c.explicit_turns.result (λ i. i ≤ m)) c.go_beside.ensures.sized.positions c.explicit_turns.ensures.position
+returns-in-Open-clause-position g c =
+    subst (λ (m : ℕ). IfErr c.explicit_turns.result (λ i. i ≤ m)) c.go_beside.ensures.sized.positions
+    c.explicit_turns.ensures.position
 
 pub returns-in-Open-clause-counted : goal.returns-in-Open-clause-counted
 returns-in-Open-clause-counted g c = counted_after c.go_beside.ensures.counted c.explicit_turns.ensures.counted

@@ -12,16 +12,22 @@ follow_second-requires g c =
     record { row_in = turn_row P c.args.self.now c.in-Turn.row h; begun = (P, h); limit = c.requires.limit }
 
 pub returns-in-Turn-clause-told : goal.returns-in-Turn-clause-told
-returns-in-Turn-clause-told g c P h = c.follow_second.ensures.told P (subst (λ (x : Cause). HasBegunAt (InSecond P) x c.args.self.now) c.in-Turn.is h)
+returns-in-Turn-clause-told g c P h =
+    c.follow_second.ensures.told P (subst (λ (x : Cause). HasBegunAt (InSecond P) x c.args.self.now) c.in-Turn.is h)
 
 pub returns-in-Turn-clause-caused : goal.returns-in-Turn-clause-caused
-returns-in-Turn-clause-caused g c P h = c.follow_second.ensures.caused P (subst (λ (x : Cause). HasBegunAt (InSecond P) x c.args.self.now) c.in-Turn.is h)
+returns-in-Turn-clause-caused g c P h =
+    c.follow_second.ensures.caused P (subst (λ (x : Cause). HasBegunAt (InSecond P) x c.args.self.now) c.in-Turn.is h)
 
 pub unreachable-requires : goal.unreachable-requires
-unreachable-requires g c = subst (λ (x : Cause). HasBegunAt (InSecond c.requires.begun.0) x c.args.self.now) c.in-Told.is c.requires.begun.1
+unreachable-requires g c =
+    subst (λ (x : Cause). HasBegunAt (InSecond c.requires.begun.0) x c.args.self.now) c.in-Told.is c.requires.begun.1
 
 pub unreachable-requires-in-First : goal.unreachable-requires-in-First
-unreachable-requires-in-First g c = subst (λ (x : Cause). HasBegunAt (InSecond c.requires.begun.0) x c.args.self.now) c.in-First.is c.requires.begun.1
+unreachable-requires-in-First g c =
+    subst (λ (x : Cause). HasBegunAt (InSecond c.requires.begun.0) x c.args.self.now) c.in-First.is c.requires.begun.1
 
 pub unreachable-requires-in-Elsewhere : goal.unreachable-requires-in-Elsewhere
-unreachable-requires-in-Elsewhere g c = subst (λ (x : Cause). HasBegunAt (InSecond c.requires.begun.0) x c.args.self.now) c.in-Elsewhere.is c.requires.begun.1
+unreachable-requires-in-Elsewhere g c =
+    subst (λ (x : Cause). HasBegunAt (InSecond c.requires.begun.0) x c.args.self.now) c.in-Elsewhere.is
+    c.requires.begun.1

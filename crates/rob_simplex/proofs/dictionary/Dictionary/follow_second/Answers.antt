@@ -17,8 +17,11 @@ pub returns-in-Ok-clause-caused : goal.returns-in-Ok-clause-caused
 returns-in-Ok-clause-caused g c P h = c.improve_to_end.ensures.caused P (c.in-Ok.ensures.turned P h)
 
 pub returns-in-Err-clause-told : goal.returns-in-Err-clause-told
-returns-in-Err-clause-told g c P h = wide_below g.N.Exact.limit c.args.self.now.limit c.requires.limit P (columns_of c.end_turn.new.self.basis) c.in-Err.i (c.in-Err.ensures.wide P h)
+returns-in-Err-clause-told g c P h =
+    wide_below g.N.Exact.limit c.args.self.now.limit c.requires.limit P (columns_of c.end_turn.new.self.basis)
+    c.in-Err.i (c.in-Err.ensures.wide P h)
 
 pub returns-in-Err-clause-caused : goal.returns-in-Err-clause-caused
 returns-in-Err-clause-caused g c P h =
-    inl (subst (λ l. HasWideRow l P (columns_of c.end_turn.new.self.basis) c.in-Err.i) (sym c.end_turn.ensures.sized.limit) (c.in-Err.ensures.wide P h))
+    inl (subst (λ l. HasWideRow l P (columns_of c.end_turn.new.self.basis) c.in-Err.i)
+    (sym c.end_turn.ensures.sized.limit) (c.in-Err.ensures.wide P h))

@@ -8,7 +8,8 @@ use Rattle.rob_simplex.proofs.dictionary.Dictionary.improve.Given as goal
 
 abbrev pub invariant-turns : goal.invariant-turns
 invariant-turns g l = record {
-  stands : (P : Program) → StandsFor P l.fn.self → StandsFor P l.self × ReachedFrom P (columns_of l.fn.self.basis) (columns_of l.self.basis);
+  stands : (P : Program) → StandsFor P l.fn.self → StandsFor P l.self
+      × ReachedFrom P (columns_of l.fn.self.basis) (columns_of l.self.basis);
   sized : IsSized l.fn.self l.self;
   counted : CountsRows g.L.Ledger.ops g.L.Ledger.wides l.fn.ledger l.ledger;
 }

@@ -17,12 +17,20 @@ invariant_of-self g c =
     let workspace = length c.self.inside.pivot_row.entries in
     let old = c.self.inside.rows in
     let t = c.copy_row.new.rows in
-    let bt = take c.self.inside.bounds.len (c.copy_row.new.bounds ++ drop (length c.copy_row.new.bounds) c.self.inside.bounds.items) in
-    let cb = written_back c.copy_row.new.bounds c.self.inside.bounds.items c.self.inside.bounds.len (c.copy_row.auto.bounds ∙ ap length c.as_mut_slice.ensures.value ∙ sym c.self.inside.bounds.ok.0) in
-    let before = bounds_carry g.E.Entry.top (n + 4) table old bounds c.as_mut_slice.result.now refl c.as_mut_slice.ensures.value c.self.invariant.bounded in
+    let bt =
+    take c.self.inside.bounds.len
+    (c.copy_row.new.bounds ++ drop (length c.copy_row.new.bounds) c.self.inside.bounds.items) in
+    let cb =
+    written_back c.copy_row.new.bounds c.self.inside.bounds.items c.self.inside.bounds.len
+    (c.copy_row.auto.bounds ∙ ap length c.as_mut_slice.ensures.value ∙ sym c.self.inside.bounds.ok.0) in
+    let before =
+    bounds_carry g.E.Entry.top (n + 4) table old bounds c.as_mut_slice.result.now refl c.as_mut_slice.ensures.value
+    c.self.invariant.bounded in
     let em : c.len-m.result ≡ length c.self.inside.basis.items = c.len-m.ensures ∙ c.self.inside.basis.ok.0 in
     let h = c.copy_row.ensures.bounded g.E.Entry.top before in
-    sound_with g.E.Entry.top n basis places near table t bounds bt workspace c.self.invariant (bounds_carry g.E.Entry.top (n + 4) c.copy_row.new.rows t c.copy_row.new.bounds bt refl cb h) (ap length cb ∙ c.copy_row.auto.bounds ∙ ap length c.as_mut_slice.ensures.value)
+    sound_with g.E.Entry.top n basis places near table t bounds bt workspace c.self.invariant
+    (bounds_carry g.E.Entry.top (n + 4) c.copy_row.new.rows t c.copy_row.new.bounds bt refl cb h)
+    (ap length cb ∙ c.copy_row.auto.bounds ∙ ap length c.as_mut_slice.ensures.value)
 
 pub returns-clause-kept : goal.returns-clause-kept
 returns-clause-kept g c =
@@ -34,9 +42,13 @@ returns-clause-kept g c =
     let em : c.len-m.result ≡ length c.self.inside.basis.items = c.len-m.ensures ∙ c.self.inside.basis.ok.0 in
     let ef : c.len-m.result ≡ length c.self.inside.basis.items = omega (arith, em) in
     let et : (c.len-m.result + 1) ≡ suc (length c.self.inside.basis.items) = omega (arith, em) in
-    subst (λ (v : Table). (k : ℕ) → kept_row_of (table_with c.self.invariant t) k ≡ rows_of v (positions v) k) c.self.view_is
-    (copied_between c.self.invariant c.len-m.result (c.len-m.result + 1) (length c.self.inside.basis.items) (suc (length c.self.inside.basis.items)) ef et t
-    (λ k l. carry table old new t (n + 4) (c.len-m.result + 1) c.len-m.result k refl refl (c.copy_row.ensures.row k l)) (length c.self.inside.basis.items))
+    subst (λ (v : Table). (k : ℕ) → kept_row_of (table_with c.self.invariant t) k ≡ rows_of v (positions v) k)
+    c.self.view_is
+    (copied_between c.self.invariant c.len-m.result (c.len-m.result + 1) (length c.self.inside.basis.items)
+    (suc (length c.self.inside.basis.items)) ef et t
+    (λ k l. carry table old new t (n + 4) (c.len-m.result + 1) c.len-m.result k refl refl (c.copy_row.ensures.row k l))
+    (length c.self.inside.basis.items))
 
 pub returns-clause-sized : goal.returns-clause-sized
-returns-clause-sized g c = let s = sized_view c.self.view_is in record { columns = s.columns; positions = s.positions; limit = s.limit }
+returns-clause-sized g c =
+    let s = sized_view c.self.view_is in record { columns = s.columns; positions = s.positions; limit = s.limit }

@@ -11,35 +11,55 @@ loop-seen-preserved g c =
     let n = c.args.self.now.columns in
     let m = positions c.args.self.now in
     let en : c.self.inside.columns ≡ c.args.self.now.columns = ap (λ (t : Table). t.columns) c.self.view_is in
-    let em : c.len-m.result ≡ positions c.args.self.now = c.len-m.ensures ∙ c.self.inside.basis.ok.0 ∙ ap (λ (t : Table). positions t) c.self.view_is in
-    let il : (c.len-m.result - 1 - c.loop-seen.seen) + (c.loop-seen.seen + 1) ≡ positions c.args.self.now = omega arith in
-    let ec : c.self.inside.columns + c.len-m.result ≡ c.args.self.now.columns + positions c.args.self.now = omega arith in
-    let d : IsTrue c.is_lower.result ↔ IsLower c.args.self.now.columns (positions c.args.self.now) (rows_of c.args.self.now) (c.args.self.now.columns + positions c.args.self.now) (c.len-m.result - 1 - c.loop-seen.seen) c.loop-seen.best =
-    subst (λ k. IsTrue c.is_lower.result ↔ IsLower c.args.self.now.columns (positions c.args.self.now) (rows_of c.args.self.now) k (c.len-m.result - 1 - c.loop-seen.seen) c.loop-seen.best) ec c.is_lower.ensures.decides in
+    let em : c.len-m.result ≡ positions c.args.self.now =
+    c.len-m.ensures ∙ c.self.inside.basis.ok.0 ∙ ap (λ (t : Table). positions t) c.self.view_is in
+    let il : (c.len-m.result - 1 - c.loop-seen.seen) + (c.loop-seen.seen + 1) ≡ positions c.args.self.now =
+    omega arith in
+    let ec : c.self.inside.columns + c.len-m.result ≡ c.args.self.now.columns + positions c.args.self.now =
+    omega arith in
+    let d : IsTrue c.is_lower.result ↔ IsLower c.args.self.now.columns (positions c.args.self.now)
+    (rows_of c.args.self.now) (c.args.self.now.columns + positions c.args.self.now)
+    (c.len-m.result - 1 - c.loop-seen.seen) c.loop-seen.best =
+    subst (λ k. IsTrue c.is_lower.result ↔ IsLower c.args.self.now.columns (positions c.args.self.now)
+    (rows_of c.args.self.now) k (c.len-m.result - 1 - c.loop-seen.seen) c.loop-seen.best) ec
+    c.is_lower.ensures.decides in
     elim c.if-is_lower.branch [
       | then-is_lower w ↦
-          subst (λ b. IsLeastSoFar c.args.self.now.columns (positions c.args.self.now) (rows_of c.args.self.now) (c.args.self.now.columns + positions c.args.self.now) (c.loop-seen.seen + 1) b) (sym w.best-is)
-          (least_takes n m (rows_of t) (n + m) c.loop-seen.seen (c.len-m.result - 1 - c.loop-seen.seen) c.loop-seen.best il c.loop-seen.invariant (d.0 w.if-is_lower.true))
+          subst (λ b. IsLeastSoFar c.args.self.now.columns (positions c.args.self.now) (rows_of c.args.self.now)
+          (c.args.self.now.columns + positions c.args.self.now) (c.loop-seen.seen + 1) b) (sym w.best-is)
+          (least_takes n m (rows_of t) (n + m) c.loop-seen.seen (c.len-m.result - 1 - c.loop-seen.seen) c.loop-seen.best
+          il c.loop-seen.invariant (d.0 w.if-is_lower.true))
       | else-is_lower w ↦
-          subst (λ b. IsLeastSoFar c.args.self.now.columns (positions c.args.self.now) (rows_of c.args.self.now) (c.args.self.now.columns + positions c.args.self.now) (c.loop-seen.seen + 1) b) (sym w.best-is)
-          (least_keeps n m (rows_of t) (n + m) c.loop-seen.seen (c.len-m.result - 1 - c.loop-seen.seen) c.loop-seen.best il c.loop-seen.invariant
-          (λ x. let y : c.is_lower.result ≡ true = d.1 x in let f : c.is_lower.result ≡ false = w.if-is_lower.false in cc))
+          subst (λ b. IsLeastSoFar c.args.self.now.columns (positions c.args.self.now) (rows_of c.args.self.now)
+          (c.args.self.now.columns + positions c.args.self.now) (c.loop-seen.seen + 1) b) (sym w.best-is)
+          (least_keeps n m (rows_of t) (n + m) c.loop-seen.seen (c.len-m.result - 1 - c.loop-seen.seen) c.loop-seen.best
+          il c.loop-seen.invariant
+          (λ x. let y : c.is_lower.result ≡ true = d.1 x in let f : c.is_lower.result ≡ false =
+          w.if-is_lower.false in cc))
     ]
 
 pub loop-seen-init : goal.loop-seen-init
 loop-seen-init g c =
     let t = c.args.self.now in
     let en : c.self.inside.columns ≡ c.args.self.now.columns = ap (λ (t : Table). t.columns) c.self.view_is in
-    let em : c.len-m.result ≡ positions c.args.self.now = c.len-m.ensures ∙ c.self.inside.basis.ok.0 ∙ ap (λ (t : Table). positions t) c.self.view_is in
-    let ec : c.self.inside.columns + c.len-m.result ≡ c.args.self.now.columns + positions c.args.self.now = omega arith in
+    let em : c.len-m.result ≡ positions c.args.self.now =
+    c.len-m.ensures ∙ c.self.inside.basis.ok.0 ∙ ap (λ (t : Table). positions t) c.self.view_is in
+    let ec : c.self.inside.columns + c.len-m.result ≡ c.args.self.now.columns + positions c.args.self.now =
+    omega arith in
     least_begins t.columns (positions t) (rows_of t) (t.columns + positions t) c.first_below_zero-best.result
-    (subst (λ k. IfSome c.first_below_zero-best.result (λ e. (e < positions t) × MayBeLeast t.columns (positions t) (rows_of t) k e)) ec c.first_below_zero-best.ensures.below)
+    (subst (λ k. IfSome c.first_below_zero-best.result
+    (λ e. (e < positions t) × MayBeLeast t.columns (positions t) (rows_of t) k e)) ec
+    c.first_below_zero-best.ensures.below)
 
 pub returns : goal.returns
 returns g c =
-    let em : c.len-m.result ≡ positions c.args.self.now = c.len-m.ensures ∙ c.self.inside.basis.ok.0 ∙ ap (λ (t : Table). positions t) c.self.view_is in
+    let em : c.len-m.result ≡ positions c.args.self.now =
+    c.len-m.ensures ∙ c.self.inside.basis.ok.0 ∙ ap (λ (t : Table). positions t) c.self.view_is in
     let e : c.loop-seen.seen ≡ positions c.args.self.now = omega arith in
     record {
-      least = least_of_all c.args.self.now.columns (positions c.args.self.now) (rows_of c.args.self.now) (c.args.self.now.columns + positions c.args.self.now) c.loop-seen.best
-          (subst (λ (k : ℕ). IsLeastSoFar c.args.self.now.columns (positions c.args.self.now) (rows_of c.args.self.now) (c.args.self.now.columns + positions c.args.self.now) k c.loop-seen.best) e c.loop-seen.invariant);
+      least =
+          least_of_all c.args.self.now.columns (positions c.args.self.now) (rows_of c.args.self.now)
+          (c.args.self.now.columns + positions c.args.self.now) c.loop-seen.best
+          (subst (λ (k : ℕ). IsLeastSoFar c.args.self.now.columns (positions c.args.self.now) (rows_of c.args.self.now)
+          (c.args.self.now.columns + positions c.args.self.now) k c.loop-seen.best) e c.loop-seen.invariant);
     }

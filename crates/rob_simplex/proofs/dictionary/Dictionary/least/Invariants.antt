@@ -5,4 +5,6 @@ use Rattle.rob_simplex.proofs.LeastRows.{IsLeastSoFar}
 use Rattle.rob_simplex.proofs.dictionary.Dictionary.least.Given as goal
 
 abbrev pub invariant-loop-seen : goal.invariant-loop-seen
-invariant-loop-seen g l = IsLeastSoFar l.fn.self.columns (positions l.fn.self) (rows_of l.fn.self) (l.fn.self.columns + positions l.fn.self) l.seen l.best
+invariant-loop-seen g l =
+    IsLeastSoFar l.fn.self.columns (positions l.fn.self) (rows_of l.fn.self) (l.fn.self.columns + positions l.fn.self)
+    l.seen l.best

@@ -9,24 +9,37 @@ loop-seen-preserved g c =
     let t = c.args.self.now in
     let n = c.args.self.now.columns in
     let m = positions c.args.self.now in
-    let em : c.len-m.result ≡ positions c.args.self.now = c.len-m.ensures ∙ c.self.inside.basis.ok.0 ∙ ap (λ (t : Table). positions t) c.self.view_is in
-    let il : (c.len-m.result - 1 - c.loop-seen.seen) + (c.loop-seen.seen + 1) ≡ positions c.args.self.now = omega arith in
+    let em : c.len-m.result ≡ positions c.args.self.now =
+    c.len-m.ensures ∙ c.self.inside.basis.ok.0 ∙ ap (λ (t : Table). positions t) c.self.view_is in
+    let il : (c.len-m.result - 1 - c.loop-seen.seen) + (c.loop-seen.seen + 1) ≡ positions c.args.self.now =
+    omega arith in
     elim c.if-goes_first.branch [
       | then-goes_first w ↦
-          let h : GoesFirst c.args.self.now.columns (positions c.args.self.now) (rows_of c.args.self.now) c.args.column (c.len-m.result - 1 - c.loop-seen.seen) c.loop-seen.best = c.goes_first.ensures.decides.0 w.if-goes_first.true in
-          subst (λ t. IsFirstSoFar c.args.self.now.columns (positions c.args.self.now) (rows_of c.args.self.now) c.args.column (c.loop-seen.seen + 1) t) (sym w.best-is)
-          (first_takes n m (rows_of c.args.self.now) c.args.column c.loop-seen.seen (c.len-m.result - 1 - c.loop-seen.seen) c.loop-seen.best il c.loop-seen.invariant h)
+          let h : GoesFirst c.args.self.now.columns (positions c.args.self.now) (rows_of c.args.self.now) c.args.column
+          (c.len-m.result - 1 - c.loop-seen.seen) c.loop-seen.best =
+          c.goes_first.ensures.decides.0 w.if-goes_first.true in
+          subst (λ t. IsFirstSoFar c.args.self.now.columns (positions c.args.self.now) (rows_of c.args.self.now)
+          c.args.column (c.loop-seen.seen + 1) t) (sym w.best-is)
+          (first_takes n m (rows_of c.args.self.now) c.args.column c.loop-seen.seen
+          (c.len-m.result - 1 - c.loop-seen.seen) c.loop-seen.best il c.loop-seen.invariant h)
       | else-goes_first w ↦
-          subst (λ t. IsFirstSoFar c.args.self.now.columns (positions c.args.self.now) (rows_of c.args.self.now) c.args.column (c.loop-seen.seen + 1) t) (sym w.best-is)
-          (first_keeps n m (rows_of c.args.self.now) c.args.column c.loop-seen.seen (c.len-m.result - 1 - c.loop-seen.seen) c.loop-seen.best il c.loop-seen.invariant
-          (λ x. let t : c.goes_first.result ≡ true = c.goes_first.ensures.decides.1 x in let f : c.goes_first.result ≡ false = w.if-goes_first.false in cc))
+          subst (λ t. IsFirstSoFar c.args.self.now.columns (positions c.args.self.now) (rows_of c.args.self.now)
+          c.args.column (c.loop-seen.seen + 1) t) (sym w.best-is)
+          (first_keeps n m (rows_of c.args.self.now) c.args.column c.loop-seen.seen
+          (c.len-m.result - 1 - c.loop-seen.seen) c.loop-seen.best il c.loop-seen.invariant
+          (λ x. let t : c.goes_first.result ≡ true =
+          c.goes_first.ensures.decides.1 x in let f : c.goes_first.result ≡ false = w.if-goes_first.false in cc))
     ]
 
 pub returns : goal.returns
 returns g c =
-    let em : c.len-m.result ≡ positions c.args.self.now = c.len-m.ensures ∙ c.self.inside.basis.ok.0 ∙ ap (λ (t : Table). positions t) c.self.view_is in
+    let em : c.len-m.result ≡ positions c.args.self.now =
+    c.len-m.ensures ∙ c.self.inside.basis.ok.0 ∙ ap (λ (t : Table). positions t) c.self.view_is in
     let e : c.loop-seen.seen ≡ positions c.args.self.now = omega arith in
     record {
-      first = first_of_all c.args.self.now.columns (positions c.args.self.now) (rows_of c.args.self.now) c.args.column c.loop-seen.best
-          (subst (λ (k : ℕ). IsFirstSoFar c.args.self.now.columns (positions c.args.self.now) (rows_of c.args.self.now) c.args.column k c.loop-seen.best) e c.loop-seen.invariant);
+      first =
+          first_of_all c.args.self.now.columns (positions c.args.self.now) (rows_of c.args.self.now) c.args.column
+          c.loop-seen.best
+          (subst (λ (k : ℕ). IsFirstSoFar c.args.self.now.columns (positions c.args.self.now) (rows_of c.args.self.now)
+          c.args.column k c.loop-seen.best) e c.loop-seen.invariant);
     }

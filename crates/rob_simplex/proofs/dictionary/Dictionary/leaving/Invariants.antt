@@ -4,4 +4,5 @@ use Rattle.rob_simplex.proofs.RatioTests.{IsFirstSoFar}
 use Rattle.rob_simplex.proofs.dictionary.Dictionary.leaving.Given as goal
 
 abbrev pub invariant-loop-seen : goal.invariant-loop-seen
-invariant-loop-seen g l = IsFirstSoFar l.fn.self.columns (positions l.fn.self) (rows_of l.fn.self) l.fn.column l.seen l.best
+invariant-loop-seen g l =
+    IsFirstSoFar l.fn.self.columns (positions l.fn.self) (rows_of l.fn.self) l.fn.column l.seen l.best

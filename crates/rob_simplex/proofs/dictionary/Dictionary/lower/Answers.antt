@@ -20,15 +20,23 @@ lower_row-requires-clause-ready g c =
     let table = c.self.inside.rows in
     let em : c.len-m.result ≡ length c.self.inside.basis.items = c.len-m.ensures ∙ c.self.inside.basis.ok.0 in
     let w = subst (λ (v : Table). HasWay v c.args.column) (sym c.self.view_is) c.requires.way in
-    let ex = read_at c.self.inside.places.items c.args.column c.index-place.result.now (column_in c.self.invariant c.args.column w.free) c.index-place.ensures in
+    let ex =
+    read_at c.self.inside.places.items c.args.column c.index-place.result.now
+    (column_in c.self.invariant c.args.column w.free) c.index-place.ensures in
     let wi = column_in c.self.invariant (n + length basis) w.way in
-    let ew = read_at c.self.inside.places.items (n + c.len-m.result) c.index-way.result.now (omega (arith, em, wi)) c.index-way.ensures ∙ ap (λ (m : ℕ). columns_of c.self.inside.places.items (n + m)) em in
+    let ew =
+    read_at c.self.inside.places.items (n + c.len-m.result) c.index-way.result.now (omega (arith, em, wi))
+    c.index-way.ensures ∙ ap (λ (m : ℕ). columns_of c.self.inside.places.items (n + m)) em in
     let there = way_there c.self.invariant w ex ew in
     let lent = ap length c.as_mut_slice.ensures.value in
-    let some = subst (λ (v : Table). rows_of v (positions v) (suc (v.columns + positions v)) ≢ pos 0) (sym c.self.view_is) c.requires.own in
+    let some =
+    subst (λ (v : Table). rows_of v (positions v) (suc (v.columns + positions v)) ≢ pos 0) (sym c.self.view_is)
+    c.requires.own in
     record {
       few = omega (arith, c.self.invariant.few);
-      bounded = bounds_carry g.E.Entry.top (n + 4) table table c.self.inside.bounds.items c.as_mut_slice.result.now refl c.as_mut_slice.ensures.value c.self.invariant.bounded;
+      bounded =
+          bounds_carry g.E.Entry.top (n + 4) table table c.self.inside.bounds.items c.as_mut_slice.result.now refl
+          c.as_mut_slice.ensures.value c.self.invariant.bounded;
       inside = omega (arith, em, lent, c.self.invariant.count);
       workspace_is = c.self.invariant.workspace_is;
       way_in = there.way_in;
@@ -48,12 +56,18 @@ invariant_of-self g c =
     let bounds = c.self.inside.bounds.items in
     let workspace = length c.self.inside.pivot_row.entries in
     let t = c.lower_row.new.rows in
-    let bt = take c.self.inside.bounds.len (c.lower_row.new.bounds ++ drop (length c.lower_row.new.bounds) c.self.inside.bounds.items) in
-    let cb = written_back c.lower_row.new.bounds c.self.inside.bounds.items c.self.inside.bounds.len (c.lower_row.auto.bounds ∙ ap length c.as_mut_slice.ensures.value ∙ sym c.self.inside.bounds.ok.0) in
-    let sl : length c.lower_row.new.pivot_row.entries ≡ length c.self.inside.pivot_row.entries = c.lower_row.ensures.size ∙ sym c.self.invariant.workspace_is in
+    let bt =
+    take c.self.inside.bounds.len
+    (c.lower_row.new.bounds ++ drop (length c.lower_row.new.bounds) c.self.inside.bounds.items) in
+    let cb =
+    written_back c.lower_row.new.bounds c.self.inside.bounds.items c.self.inside.bounds.len
+    (c.lower_row.auto.bounds ∙ ap length c.as_mut_slice.ensures.value ∙ sym c.self.inside.bounds.ok.0) in
+    let sl : length c.lower_row.new.pivot_row.entries ≡ length c.self.inside.pivot_row.entries =
+    c.lower_row.ensures.size ∙ sym c.self.invariant.workspace_is in
     subst (λ (r : ℕ). IsSound g.E.Entry.top n basis places near t bt r) (sym sl)
     (sound_with g.E.Entry.top n basis places near table t bounds bt workspace c.self.invariant
-    (bounds_carry g.E.Entry.top (n + 4) c.lower_row.new.rows t c.lower_row.new.bounds bt refl cb c.lower_row.ensures.bounded) (ap length cb ∙ c.lower_row.auto.bounds ∙ ap length c.as_mut_slice.ensures.value))
+    (bounds_carry g.E.Entry.top (n + 4) c.lower_row.new.rows t c.lower_row.new.bounds bt refl cb
+    c.lower_row.ensures.bounded) (ap length cb ∙ c.lower_row.auto.bounds ∙ ap length c.as_mut_slice.ensures.value))
 
 -- what it has lowered
 pub returns : goal.returns
@@ -64,23 +78,43 @@ returns g c =
     let x = c.index-place.result.now in
     let em : c.len-m.result ≡ length c.self.inside.basis.items = c.len-m.ensures ∙ c.self.inside.basis.ok.0 in
     let w = subst (λ (v : Table). HasWay v c.args.column) (sym c.self.view_is) c.requires.way in
-    let ex = read_at c.self.inside.places.items c.args.column c.index-place.result.now (column_in c.self.invariant c.args.column w.free) c.index-place.ensures in
+    let ex =
+    read_at c.self.inside.places.items c.args.column c.index-place.result.now
+    (column_in c.self.invariant c.args.column w.free) c.index-place.ensures in
     let seen : to_z w64 (of_z w64 c.args.factor) ≡ c.args.factor = to_z-of_z w64 c.args.factor c.ranges.factor in
-    let lowered = subst (λ (m : ℕ). OnOk c.lower_row.result (IsLowered (n + 4) x (c.args.factor *ℤ row_at table (n + 4) m (n + 3)) (row_at table (n + 4) m) (row_at new (n + 4) m))) em
-    (subst (λ (z : ℤ). OnOk c.lower_row.result (IsLowered (n + 4) x (z *ℤ row_at table (n + 4) c.len-m.result (n + 3)) (row_at table (n + 4) c.len-m.result) (row_at new (n + 4) c.len-m.result))) seen c.lower_row.ensures.lowered) in
-    let wide = subst (λ (m : ℕ). OnErr c.lower_row.result (IsWideLowered g.E.Entry.top (n + 4) x (c.args.factor *ℤ row_at table (n + 4) m (n + 3)) (row_at table (n + 4) m))) em
-    (subst (λ (z : ℤ). OnErr c.lower_row.result (IsWideLowered g.E.Entry.top (n + 4) x (z *ℤ row_at table (n + 4) c.len-m.result (n + 3)) (row_at table (n + 4) c.len-m.result))) seen c.lower_row.ensures.wide) in
+    let lowered =
+    subst (λ (m : ℕ). OnOk c.lower_row.result
+    (IsLowered (n + 4) x (c.args.factor *ℤ row_at table (n + 4) m (n + 3)) (row_at table (n + 4) m)
+    (row_at new (n + 4) m))) em
+    (subst (λ (z : ℤ). OnOk c.lower_row.result
+    (IsLowered (n + 4) x (z *ℤ row_at table (n + 4) c.len-m.result (n + 3)) (row_at table (n + 4) c.len-m.result)
+    (row_at new (n + 4) c.len-m.result))) seen c.lower_row.ensures.lowered) in
+    let wide =
+    subst (λ (m : ℕ). OnErr c.lower_row.result
+    (IsWideLowered g.E.Entry.top (n + 4) x (c.args.factor *ℤ row_at table (n + 4) m (n + 3)) (row_at table (n + 4) m)))
+    em
+    (subst (λ (z : ℤ). OnErr c.lower_row.result
+    (IsWideLowered g.E.Entry.top (n + 4) x (z *ℤ row_at table (n + 4) c.len-m.result (n + 3))
+    (row_at table (n + 4) c.len-m.result))) seen c.lower_row.ensures.wide) in
     record {
       lowered =
-          subst (λ (v : Table). OnOk c.lower_row.result (IsLowered (width_of v) c.args.column (amount_of v c.args.factor) (rows_of v (positions v)) (rows_of (table_with c.self.invariant new) (positions v)))) c.self.view_is
-          (on_ok_weaker c.lower_row.result (lowered_table c.self.invariant c.args.column w.free c.args.factor x ex new new refl) lowered);
+          subst (λ (v : Table). OnOk c.lower_row.result
+          (IsLowered (width_of v) c.args.column (amount_of v c.args.factor) (rows_of v (positions v))
+          (rows_of (table_with c.self.invariant new) (positions v)))) c.self.view_is
+          (on_ok_weaker c.lower_row.result
+          (lowered_table c.self.invariant c.args.column w.free c.args.factor x ex new new refl) lowered);
       wide =
-          subst (λ (v : Table). OnErr c.lower_row.result (IsWideLowered v.limit (width_of v) c.args.column (amount_of v c.args.factor) (rows_of v (positions v)))) c.self.view_is
+          subst (λ (v : Table). OnErr c.lower_row.result
+          (IsWideLowered v.limit (width_of v) c.args.column (amount_of v c.args.factor) (rows_of v (positions v))))
+          c.self.view_is
           (on_err_weaker c.lower_row.result (wide_table c.self.invariant c.args.column w.free c.args.factor x ex) wide);
       rows =
-          subst (λ (v : Table). (i k : ℕ) → i < positions v → rows_of (table_with c.self.invariant new) i k ≡ rows_of v i k) c.self.view_is
-          (λ i k l. read_same (n + 3) (columns_of c.self.inside.places.items) i (row_at table (n + 4) i) (row_at new (n + 4) i)
-          (λ q ql. c.lower_row.ensures.others i q (λ e. absurd (omega (arith, em))) (λ e. absurd (omega (arith, em))) (omega arith)) k);
+          subst (λ (v : Table). (i k : ℕ) → i < positions v
+          → rows_of (table_with c.self.invariant new) i k ≡ rows_of v i k) c.self.view_is
+          (λ i k l. read_same (n + 3) (columns_of c.self.inside.places.items) i (row_at table (n + 4) i)
+          (row_at new (n + 4) i)
+          (λ q ql. c.lower_row.ensures.others i q (λ e. absurd (omega (arith, em))) (λ e. absurd (omega (arith, em)))
+          (omega arith)) k);
       basis = ap (λ (v : Table). v.basis) c.self.view_is;
       sized = record {
         columns = ap (λ (v : Table). v.columns) c.self.view_is;

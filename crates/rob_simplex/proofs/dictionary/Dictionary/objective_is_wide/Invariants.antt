@@ -6,4 +6,6 @@ use Rattle.rob_simplex.specs.Judging.{ratio_of, objective_column}
 use Rattle.rob_simplex.proofs.dictionary.Dictionary.objective_is_wide.Given as goal
 
 abbrev pub invariant-loop-k : goal.invariant-loop-k
-invariant-loop-k g l = (j : ℕ) → j < l.k → Fits g.N.Exact.limit (ratio_of l.fn.self (positions l.fn.self) (l.fn.self.columns + j) (objective_column l.fn.self))
+invariant-loop-k g l =
+    (j : ℕ) → j < l.k → Fits g.N.Exact.limit
+    (ratio_of l.fn.self (positions l.fn.self) (l.fn.self.columns + j) (objective_column l.fn.self))

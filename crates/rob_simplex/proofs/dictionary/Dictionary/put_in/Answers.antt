@@ -17,7 +17,9 @@ pub lower-requires-clause-way : goal.lower-requires-clause-way
 lower-requires-clause-way g c =
     let h = c.requires.stands.1 in
     record {
-      free = column_free h c.args.column c.requires.column_in (position_not c.args.self.now.basis c.args.column c.in-None.ensures.position);
+      free =
+          column_free h c.args.column c.requires.column_in
+          (position_not c.args.self.now.basis c.args.column c.in-None.ensures.position);
       way = way_free h;
       other = λ e. absurd (omega (arith, e, c.requires.column_in));
       zero = way_zero h;
@@ -25,31 +27,42 @@ lower-requires-clause-way g c =
 
 pub lower-requires-clause-own : goal.lower-requires-clause-own
 lower-requires-clause-own g c z =
-    let o : pos 0 <ℤ rows_of c.args.self.now (positions c.args.self.now) (suc (c.args.self.now.columns + positions c.args.self.now)) = (stands_own (truncated c.requires.stands.0 c.args.column) c.args.self.now c.requires.stands.1).objective in
+    let o : pos 0 <ℤ rows_of c.args.self.now (positions c.args.self.now)
+    (suc (c.args.self.now.columns + positions c.args.self.now)) =
+    (stands_own (truncated c.requires.stands.0 c.args.column) c.args.self.now c.requires.stands.1).objective in
     absurd (omega (arith, ints))
 
 pub put_in_basic-requires-clause-basic : goal.put_in_basic-requires-clause-basic
-put_in_basic-requires-clause-basic g c = position_is c.args.self.now.basis c.args.column c.in-Some.i c.in-Some.ensures.position
+put_in_basic-requires-clause-basic g c =
+    position_is c.args.self.now.basis c.args.column c.in-Some.i c.in-Some.ensures.position
 
 pub returns-then-factor-eq0-clause-put : goal.returns-then-factor-eq0-clause-put
 returns-then-factor-eq0-clause-put g c P ef h =
-    let zero : c.args.factor ≡ pos 0 = sym (to_z-of_z w64 c.args.factor c.ranges.factor) ∙ ap (to_z w64) c.if-factor-eq0.true in
+    let zero : c.args.factor ≡ pos 0 =
+    sym (to_z-of_z w64 c.args.factor c.ranges.factor) ∙ ap (to_z w64) c.if-factor-eq0.true in
     nothing_put P c.args.column (omega (arith, c.requires.column_in, h.columns_are)) c.args.self.now h (ef ∙ zero)
 
 pub returns-in-None-clause-put : goal.returns-in-None-clause-put
 returns-in-None-clause-put g c P ef h =
     let seen : to_z w64 (of_z w64 c.args.factor) ≡ c.args.factor = to_z-of_z w64 c.args.factor c.ranges.factor in
     on_ok_weaker c.lower.result
-    (next_lowered P c.args.column (omega (arith, c.requires.column_in, h.columns_are)) c.args.self.now h c.args.factor ef c.lower.new.self c.lower.ensures.basis c.lower.ensures.sized.columns
+    (next_lowered P c.args.column (omega (arith, c.requires.column_in, h.columns_are)) c.args.self.now h c.args.factor
+    ef c.lower.new.self c.lower.ensures.basis c.lower.ensures.sized.columns
     (position_not c.args.self.now.basis c.args.column c.in-None.ensures.position) c.lower.ensures.rows)
-    (subst (λ (z : ℤ). OnOk c.lower.result (IsLowered (width_of c.args.self.now) c.args.column (amount_of c.args.self.now z) (rows_of c.args.self.now (positions c.args.self.now)) (rows_of c.lower.new.self (positions c.args.self.now)))) seen
+    (subst (λ (z : ℤ). OnOk c.lower.result
+    (IsLowered (width_of c.args.self.now) c.args.column (amount_of c.args.self.now z)
+    (rows_of c.args.self.now (positions c.args.self.now)) (rows_of c.lower.new.self (positions c.args.self.now)))) seen
     c.lower.ensures.lowered)
 
 pub returns-in-None-clause-wide : goal.returns-in-None-clause-wide
 returns-in-None-clause-wide g c P ef h =
     let seen : to_z w64 (of_z w64 c.args.factor) ≡ c.args.factor = to_z-of_z w64 c.args.factor c.ranges.factor in
-    on_err_weaker c.lower.result (half_wide P c.args.column (omega (arith, c.requires.column_in, h.columns_are)) c.args.self.now h c.args.self.now.limit c.args.factor ef)
-    (subst (λ (z : ℤ). OnErr c.lower.result (IsWideLowered c.args.self.now.limit (width_of c.args.self.now) c.args.column (amount_of c.args.self.now z) (rows_of c.args.self.now (positions c.args.self.now)))) seen c.lower.ensures.wide)
+    on_err_weaker c.lower.result
+    (half_wide P c.args.column (omega (arith, c.requires.column_in, h.columns_are)) c.args.self.now h
+    c.args.self.now.limit c.args.factor ef)
+    (subst (λ (z : ℤ). OnErr c.lower.result
+    (IsWideLowered c.args.self.now.limit (width_of c.args.self.now) c.args.column (amount_of c.args.self.now z)
+    (rows_of c.args.self.now (positions c.args.self.now)))) seen c.lower.ensures.wide)
 
 pub returns-in-Some-clause-put : goal.returns-in-Some-clause-put
 returns-in-Some-clause-put g c P ef h =

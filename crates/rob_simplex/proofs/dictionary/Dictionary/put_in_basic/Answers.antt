@@ -17,7 +17,8 @@ pub replace-requires-clause-free : goal.replace-requires-clause-free
 replace-requires-clause-free g c =
     let t = c.args.self.now in
     let s = c.columns-n.result + c.positions-m.result + 3 in
-    let es : c.columns-n.result + c.positions-m.result + 3 ≡ spare_column t.columns (positions t) = omega (arith, c.columns-n.ensures.columns, c.positions-m.ensures.positions) in
+    let es : c.columns-n.result + c.positions-m.result + 3 ≡ spare_column t.columns (positions t) =
+    omega (arith, c.columns-n.ensures.columns, c.positions-m.ensures.positions) in
     spare_free c.requires.stands.1 s es
 
 -- its position is open
@@ -30,15 +31,18 @@ lower_and_clear-cleared-requires g c =
     let r = c.replace.ensures in
     let jl : c.args.column < P.n = omega (arith, c.requires.column_in, h.columns_are) in
     let s = c.columns-n.result + c.positions-m.result + 3 in
-    let es : c.columns-n.result + c.positions-m.result + 3 ≡ spare_column t.columns (positions t) = omega (arith, c.columns-n.ensures.columns, c.positions-m.ensures.positions) in
+    let es : c.columns-n.result + c.positions-m.result + 3 ≡ spare_column t.columns (positions t) =
+    omega (arith, c.columns-n.ensures.columns, c.positions-m.ensures.positions) in
     let i = c.args.i in
     let il = c.requires.basic.0 in
     let oi = c.requires.basic.1 in
     let alone = (λ (k : ℕ) (kl : k ≤ positions t) (d : k ≢ c.args.i). ap (rows_of t k) es ∙ h.closed.zero k kl) in
     record {
       ready = clears1 P c.args.column jl h i il oi es t1 r.basis r.sized.columns r.rows
-          (keeps_set (positions t1 + 1) i s t t1 r.basis r.sized.columns (r.rows alone) (basics_inside h) (λ z. r.kept (ap (kept_row_of t) es ∙ z))
-          (keeps_positive (positions t1 + 1) i t (omega (arith, r.sized.positions)) (own_positive t (stands_own (truncated P c.args.column) t h))));
+          (keeps_set (positions t1 + 1) i s t t1 r.basis r.sized.columns (r.rows alone) (basics_inside h)
+          (λ z. r.kept (ap (kept_row_of t) es ∙ z))
+          (keeps_positive (positions t1 + 1) i t (omega (arith, r.sized.positions))
+          (own_positive t (stands_own (truncated P c.args.column) t h))));
       way = has_way P c.args.column jl h i il oi es t1 r.basis r.sized.columns r.rows;
       alone = alone1 P c.args.column jl h i il oi es t1 r.basis r.sized.columns r.rows;
       small = r.small;
@@ -50,17 +54,22 @@ replace-requires-2-clause-free g c =
     let h = c.requires.stands.1 in
     let t = c.args.self.now in
     let jl : c.args.column < c.requires.stands.0.n = omega (arith, c.requires.column_in, h.columns_are) in
-    let es : c.columns-n.result + c.positions-m.result + 3 ≡ spare_column t.columns (positions t) = omega (arith, c.columns-n.ensures.columns, c.positions-m.ensures.positions) in
+    let es : c.columns-n.result + c.positions-m.result + 3 ≡ spare_column t.columns (positions t) =
+    omega (arith, c.columns-n.ensures.columns, c.positions-m.ensures.positions) in
     let r = c.replace.ensures in
-    subst (λ (n : ℕ). IsFree n c.lower_and_clear-cleared.new.self.basis c.args.column) (sym c.lower_and_clear-cleared.ensures.sized.columns)
-    (subst (λ (b : List ℕ). IsFree c.replace.new.self.columns b c.args.column) (sym c.lower_and_clear-cleared.ensures.basis)
-    (free1 c.requires.stands.0 c.args.column jl h c.args.i c.requires.basic.0 c.requires.basic.1 es c.replace.new.self r.basis r.sized.columns r.rows))
+    subst (λ (n : ℕ). IsFree n c.lower_and_clear-cleared.new.self.basis c.args.column)
+    (sym c.lower_and_clear-cleared.ensures.sized.columns)
+    (subst (λ (b : List ℕ). IsFree c.replace.new.self.columns b c.args.column)
+    (sym c.lower_and_clear-cleared.ensures.basis)
+    (free1 c.requires.stands.0 c.args.column jl h c.args.i c.requires.basic.0 c.requires.basic.1 es c.replace.new.self
+    r.basis r.sized.columns r.rows))
 
 pub returns-clause-put : goal.returns-clause-put
 returns-clause-put g c P ef h =
     let t = c.args.self.now in
     let jl : c.args.column < P.n = omega (arith, c.requires.column_in, h.columns_are) in
-    let es : c.columns-n.result + c.positions-m.result + 3 ≡ spare_column t.columns (positions t) = omega (arith, c.columns-n.ensures.columns, c.positions-m.ensures.positions) in
+    let es : c.columns-n.result + c.positions-m.result + 3 ≡ spare_column t.columns (positions t) =
+    omega (arith, c.columns-n.ensures.columns, c.positions-m.ensures.positions) in
     let i = c.args.i in
     let il = c.requires.basic.0 in
     let oi = c.requires.basic.1 in
@@ -73,15 +82,18 @@ returns-clause-put g c P ef h =
     let back = basis_back P c.args.column jl h i il oi es t1 r.basis r.sized.columns r.rows t3 t4 e3.basis e4.basis in
     let seen : to_z w64 (of_z w64 c.args.factor) ≡ c.args.factor = to_z-of_z w64 c.args.factor c.ranges.factor in
     on_ok_weaker c.lower_and_clear-cleared.result
-    (λ x. next_cleared P c.args.column jl h i il oi c.args.factor ef t4 back (e4.sized.columns ∙ e3.sized.columns ∙ r.sized.columns)
-    (cleared_in_place P c.args.column jl h i il oi es t1 r.basis r.sized.columns r.rows c.args.factor t3 t4 e3.basis e3.sized.columns x e4.rows))
+    (λ x. next_cleared P c.args.column jl h i il oi c.args.factor ef t4 back
+    (e4.sized.columns ∙ e3.sized.columns ∙ r.sized.columns)
+    (cleared_in_place P c.args.column jl h i il oi es t1 r.basis r.sized.columns r.rows c.args.factor t3 t4 e3.basis
+    e3.sized.columns x e4.rows))
     (subst (λ (z : ℤ). OnOk c.lower_and_clear-cleared.result (HasCleared t1 t3 i c.args.column z)) seen e3.cleared)
 
 pub returns-clause-wide : goal.returns-clause-wide
 returns-clause-wide g c P ef h =
     let t = c.args.self.now in
     let jl : c.args.column < P.n = omega (arith, c.requires.column_in, h.columns_are) in
-    let es : c.columns-n.result + c.positions-m.result + 3 ≡ spare_column t.columns (positions t) = omega (arith, c.columns-n.ensures.columns, c.positions-m.ensures.positions) in
+    let es : c.columns-n.result + c.positions-m.result + 3 ≡ spare_column t.columns (positions t) =
+    omega (arith, c.columns-n.ensures.columns, c.positions-m.ensures.positions) in
     let i = c.args.i in
     let il = c.requires.basic.0 in
     let oi = c.requires.basic.1 in
@@ -90,18 +102,23 @@ returns-clause-wide g c P ef h =
     let seen : to_z w64 (of_z w64 c.args.factor) ≡ c.args.factor = to_z-of_z w64 c.args.factor c.ranges.factor in
     on_err_weaker c.lower_and_clear-cleared.result
     (λ x. refused_wide P c.args.column jl h i il oi c.args.factor ef t.limit
-    (refused_back P c.args.column jl h i il oi es t1 r.basis r.sized.columns r.rows c.args.factor t.limit (subst (λ (l : ℕ). HasRefusedCost l t1 i c.args.column c.args.factor) r.sized.limit x)))
-    (subst (λ (z : ℤ). OnErr c.lower_and_clear-cleared.result (HasRefusedCost t1.limit t1 i c.args.column z)) seen c.lower_and_clear-cleared.ensures.wide)
+    (refused_back P c.args.column jl h i il oi es t1 r.basis r.sized.columns r.rows c.args.factor t.limit
+    (subst (λ (l : ℕ). HasRefusedCost l t1 i c.args.column c.args.factor) r.sized.limit x)))
+    (subst (λ (z : ℤ). OnErr c.lower_and_clear-cleared.result (HasRefusedCost t1.limit t1 i c.args.column z)) seen
+    c.lower_and_clear-cleared.ensures.wide)
 
 pub returns-clause-basis : goal.returns-clause-basis
 returns-clause-basis g c =
     let h = c.requires.stands.1 in
     let t = c.args.self.now in
     let jl : c.args.column < c.requires.stands.0.n = omega (arith, c.requires.column_in, h.columns_are) in
-    let es : c.columns-n.result + c.positions-m.result + 3 ≡ spare_column t.columns (positions t) = omega (arith, c.columns-n.ensures.columns, c.positions-m.ensures.positions) in
+    let es : c.columns-n.result + c.positions-m.result + 3 ≡ spare_column t.columns (positions t) =
+    omega (arith, c.columns-n.ensures.columns, c.positions-m.ensures.positions) in
     let r = c.replace.ensures in
-    basis_back c.requires.stands.0 c.args.column jl h c.args.i c.requires.basic.0 c.requires.basic.1 es c.replace.new.self r.basis r.sized.columns r.rows c.lower_and_clear-cleared.new.self
+    basis_back c.requires.stands.0 c.args.column jl h c.args.i c.requires.basic.0 c.requires.basic.1 es
+    c.replace.new.self r.basis r.sized.columns r.rows c.lower_and_clear-cleared.new.self
     c.replace-2.new.self c.lower_and_clear-cleared.ensures.basis c.replace-2.ensures.basis
 
 pub returns-clause-sized : goal.returns-clause-sized
-returns-clause-sized g c = sized_after c.replace.ensures.sized (sized_after c.lower_and_clear-cleared.ensures.sized c.replace-2.ensures.sized)
+returns-clause-sized g c =
+    sized_after c.replace.ensures.sized (sized_after c.lower_and_clear-cleared.ensures.sized c.replace-2.ensures.sized)

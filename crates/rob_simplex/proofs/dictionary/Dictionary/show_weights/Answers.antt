@@ -13,4 +13,6 @@ tell_auxiliary-requires-clause-free g c = row_free c.requires.ends.0 c.args.row 
 
 pub returns-clause-shown : goal.returns-clause-shown
 returns-clause-shown g c P h =
-    shown_weights P c.args.row c.args.self.now h c.lowest_slacks.new.weights c.tell_auxiliary.new.self.basis (c.lowest_slacks.ensures.size ∙ c.requires.size) c.lowest_slacks.ensures.lowest c.lowest_slacks.ensures.weights c.tell_auxiliary.ensures.comes c.tell_auxiliary.ensures.stays
+    shown_weights P c.args.row c.args.self.now h c.lowest_slacks.new.weights c.tell_auxiliary.new.self.basis
+    (c.lowest_slacks.ensures.size ∙ c.requires.size) c.lowest_slacks.ensures.lowest c.lowest_slacks.ensures.weights
+    c.tell_auxiliary.ensures.comes c.tell_auxiliary.ensures.stays

@@ -14,7 +14,8 @@ pivot_or_open-requires g c =
     let first = c.requires.first in
     let t1 = c.turn_round.new.self in
     let r = c.turn_round.ensures in
-    let em : c.len-m.result ≡ positions t = c.len-m.ensures ∙ c.self.inside.basis.ok.0 ∙ ap (λ (t : Table). positions t) c.self.view_is in
+    let em : c.len-m.result ≡ positions t =
+    c.len-m.ensures ∙ c.self.inside.basis.ok.0 ∙ ap (λ (t : Table). positions t) c.self.view_is in
     let e = r.sized.positions in
     record {
       ready = record {
@@ -26,7 +27,8 @@ pivot_or_open-requires g c =
         below = omega (arith, em, e);
         positive = round_positive h first t1 r.basis r.sized.columns r.row r.others;
         own = keeps_rows (c.len-m.result + 1) c.args.q t t1 r.basis r.sized.columns r.others r.kept
-            (keeps_positive (c.len-m.result + 1) c.args.q t (omega (arith, em)) (beside_positive c.requires.stands.0 c.args.q t h));
+            (keeps_positive (c.len-m.result + 1) c.args.q t (omega (arith, em))
+            (beside_positive c.requires.stands.0 c.args.q t h));
       };
     }
 
@@ -34,7 +36,8 @@ pub returns-in-None-clause-turned : goal.returns-in-None-clause-turned
 returns-in-None-clause-turned g c P h =
     let r = c.turn_round.ensures in
     let p = c.in-Ok.ensures.pivoted in
-    leaves_beside h c.requires.first c.turn_round.new.self r.basis r.sized.columns r.row r.others c.pivot_or_open.new.self p.pivoted p.closed p.basis c.pivot_or_open.ensures.sized.columns
+    leaves_beside h c.requires.first c.turn_round.new.self r.basis r.sized.columns r.row r.others
+    c.pivot_or_open.new.self p.pivoted p.closed p.basis c.pivot_or_open.ensures.sized.columns
     c.in-None.ensures.least
 
 pub returns-in-Some-clause-turned : goal.returns-in-Some-clause-turned
@@ -45,22 +48,27 @@ returns-in-Some-clause-turned g c P h =
     let s = c.pivot_or_open.ensures.sized in
     let x = c.exchange.ensures in
     let small : IsSmall c.args.self.now = subst IsSmall c.self.view_is (small_entries c.self.invariant) in (
-      stays_beside h c.requires.first t1 r.basis r.sized.columns r.row r.others c.pivot_or_open.new.self p.pivoted p.closed p.basis s.columns c.in-Some.p c.in-Some.ensures.least
+      stays_beside h c.requires.first t1 r.basis r.sized.columns r.row r.others c.pivot_or_open.new.self p.pivoted
+          p.closed p.basis s.columns c.in-Some.p c.in-Some.ensures.least
           c.exchange.new.self x.rows x.basis x.sized.positions x.sized.columns,
-      falls_beside h c.requires.first t1 r.basis r.sized.columns r.row r.others c.pivot_or_open.new.self p.pivoted p.closed p.basis s.columns c.in-Some.p c.in-Some.ensures.least
-          c.exchange.new.self x.rows x.basis x.sized.positions x.sized.columns (s.limit ∙ r.sized.limit) x.sized.limit small p.small,
+      falls_beside h c.requires.first t1 r.basis r.sized.columns r.row r.others c.pivot_or_open.new.self p.pivoted
+          p.closed p.basis s.columns c.in-Some.p c.in-Some.ensures.least
+          c.exchange.new.self x.rows x.basis x.sized.positions x.sized.columns (s.limit ∙ r.sized.limit) x.sized.limit
+          small p.small,
     )
 
 pub returns-in-Err-clause-opened : goal.returns-in-Err-clause-opened
 returns-in-Err-clause-opened g c P h =
     let r = c.turn_round.ensures in
-    open_beside h c.requires.first c.turn_round.new.self r.basis r.sized.columns r.row r.others c.pivot_or_open.new.self c.in-Err.ensures.begun c.pivot_or_open.ensures.sized.columns
+    open_beside h c.requires.first c.turn_round.new.self r.basis r.sized.columns r.row r.others c.pivot_or_open.new.self
+    c.in-Err.ensures.begun c.pivot_or_open.ensures.sized.columns
 
 pub returns-in-None-clause-sized : goal.returns-in-None-clause-sized
 returns-in-None-clause-sized g c = sized_after c.turn_round.ensures.sized c.pivot_or_open.ensures.sized
 
 pub returns-in-Some-clause-sized : goal.returns-in-Some-clause-sized
-returns-in-Some-clause-sized g c = sized_after c.turn_round.ensures.sized (sized_after c.pivot_or_open.ensures.sized c.exchange.ensures.sized)
+returns-in-Some-clause-sized g c =
+    sized_after c.turn_round.ensures.sized (sized_after c.pivot_or_open.ensures.sized c.exchange.ensures.sized)
 
 pub returns-in-Err-clause-sized : goal.returns-in-Err-clause-sized
 returns-in-Err-clause-sized g c = sized_after c.turn_round.ensures.sized c.pivot_or_open.ensures.sized

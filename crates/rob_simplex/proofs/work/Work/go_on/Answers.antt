@@ -13,39 +13,67 @@ pub follow_on-ended-requires : goal.follow_on-ended-requires
 follow_on-ended-requires g c =
     let P = c.requires.begun.0 in
     let h = c.requires.begun.1 in
-    let v : Solver = record { state = c.self.inside.state; dictionary = c.self.inside.dictionary; weights = c.self.inside.weights } in
+    let v : Solver =
+    record { state = c.self.inside.state; dictionary = c.self.inside.dictionary; weights = c.self.inside.weights } in
     let b = begun_here P v c.args.self.now c.self.view_is h c.cause-cause.result c.cause-cause.ensures.cause in
-    record { begun = (P, b); limit = subst (λ l. g.N.Exact.limit ≤ l) (sym c.self.invariant.limit_is) (limit_below g.N.Exact.limit g.E.Entry.top g.met.N.Exact.limit_high g.met.E.Entry.top_low) }
+    record {
+      begun = (P, b);
+      limit =
+          subst (λ l. g.N.Exact.limit ≤ l) (sym c.self.invariant.limit_is)
+          (limit_below g.N.Exact.limit g.E.Entry.top g.met.N.Exact.limit_high g.met.E.Entry.top_low);
+    }
 
 -- the solver is as it stopped, but for its dictionary
 pub invariant_of-self : goal.invariant_of-self
 invariant_of-self g c =
-    let v : Solver = record { state = c.self.inside.state; dictionary = c.self.inside.dictionary; weights = c.self.inside.weights } in
-    sound_untold c.self.invariant c.follow_on-ended.new.self c.self.inside.weights c.follow_on-ended.ensures.sized.limit c.follow_on-ended.ensures.sized.columns c.follow_on-ended.ensures.sized.positions c.self.invariant.weights_size
-    c.self.inside.state (subst untold (sym (ap (λ (u : Solver). u.state) c.self.view_is ∙ c.cause-cause.ensures.cause)) tt)
+    let v : Solver =
+    record { state = c.self.inside.state; dictionary = c.self.inside.dictionary; weights = c.self.inside.weights } in
+    sound_untold c.self.invariant c.follow_on-ended.new.self c.self.inside.weights c.follow_on-ended.ensures.sized.limit
+    c.follow_on-ended.ensures.sized.columns c.follow_on-ended.ensures.sized.positions c.self.invariant.weights_size
+    c.self.inside.state (subst untold (sym (ap (λ (u : Solver). u.state) c.self.view_is ∙ c.cause-cause.ensures.cause))
+    tt)
 
 pub tell-requires : goal.tell-requires
 tell-requires g c =
     let P = c.requires.begun.0 in
     let h = c.requires.begun.1 in
-    let v : Solver = record { state = c.self.inside.state; dictionary = c.self.inside.dictionary; weights = c.self.inside.weights } in
+    let v : Solver =
+    record { state = c.self.inside.state; dictionary = c.self.inside.dictionary; weights = c.self.inside.weights } in
     let b = begun_here P v c.args.self.now c.self.view_is h c.cause-cause.result c.cause-cause.ensures.cause in
-    record { told = (P, (is_told g.N.Exact.limit P v c.follow_on-ended.new.self c.follow_on-ended.result (begun_rows P v c.cause-cause.result b) c.follow_on-ended.ensures.sized.positions (c.follow_on-ended.ensures.told P b) (c.follow_on-ended.ensures.caused P b) c.follow_on-ended.ensures.position)) }
+    record {
+      told = (
+        P,
+        (is_told g.N.Exact.limit P v c.follow_on-ended.new.self c.follow_on-ended.result
+            (begun_rows P v c.cause-cause.result b) c.follow_on-ended.ensures.sized.positions
+            (c.follow_on-ended.ensures.told P b) (c.follow_on-ended.ensures.caused P b)
+            c.follow_on-ended.ensures.position),
+      );
+    }
 
 pub returns-clause-solved : goal.returns-clause-solved
 returns-clause-solved g c P h =
-    let v : Solver = record { state = c.self.inside.state; dictionary = c.self.inside.dictionary; weights = c.self.inside.weights } in
+    let v : Solver =
+    record { state = c.self.inside.state; dictionary = c.self.inside.dictionary; weights = c.self.inside.weights } in
     let b = begun_here P v c.args.self.now c.self.view_is h c.cause-cause.result c.cause-cause.ensures.cause in
-    c.tell.ensures.solved P (is_told g.N.Exact.limit P v c.follow_on-ended.new.self c.follow_on-ended.result (begun_rows P v c.cause-cause.result b) c.follow_on-ended.ensures.sized.positions (c.follow_on-ended.ensures.told P b) (c.follow_on-ended.ensures.caused P b) c.follow_on-ended.ensures.position)
+    c.tell.ensures.solved P (is_told g.N.Exact.limit P v c.follow_on-ended.new.self c.follow_on-ended.result
+    (begun_rows P v c.cause-cause.result b) c.follow_on-ended.ensures.sized.positions
+    (c.follow_on-ended.ensures.told P b) (c.follow_on-ended.ensures.caused P b) c.follow_on-ended.ensures.position)
 
 pub returns-clause-caused : goal.returns-clause-caused
 returns-clause-caused g c P h =
-    let v : Solver = record { state = c.self.inside.state; dictionary = c.self.inside.dictionary; weights = c.self.inside.weights } in
+    let v : Solver =
+    record { state = c.self.inside.state; dictionary = c.self.inside.dictionary; weights = c.self.inside.weights } in
     let b = begun_here P v c.args.self.now c.self.view_is h c.cause-cause.result c.cause-cause.ensures.cause in
-    c.tell.ensures.caused P (is_told g.N.Exact.limit P v c.follow_on-ended.new.self c.follow_on-ended.result (begun_rows P v c.cause-cause.result b) c.follow_on-ended.ensures.sized.positions (c.follow_on-ended.ensures.told P b) (c.follow_on-ended.ensures.caused P b) c.follow_on-ended.ensures.position)
+    c.tell.ensures.caused P (is_told g.N.Exact.limit P v c.follow_on-ended.new.self c.follow_on-ended.result
+    (begun_rows P v c.cause-cause.result b) c.follow_on-ended.ensures.sized.positions
+    (c.follow_on-ended.ensures.told P b) (c.follow_on-ended.ensures.caused P b) c.follow_on-ended.ensures.position)
 
 pub returns-clause-resumable : goal.returns-clause-resumable
 returns-clause-resumable g c P h =
-    let v : Solver = record { state = c.self.inside.state; dictionary = c.self.inside.dictionary; weights = c.self.inside.weights } in
+    let v : Solver =
+    record { state = c.self.inside.state; dictionary = c.self.inside.dictionary; weights = c.self.inside.weights } in
     let b = begun_here P v c.args.self.now c.self.view_is h c.cause-cause.result c.cause-cause.ensures.cause in
-    c.tell.ensures.resumable P (is_told g.N.Exact.limit P v c.follow_on-ended.new.self c.follow_on-ended.result (begun_rows P v c.cause-cause.result b) c.follow_on-ended.ensures.sized.positions (c.follow_on-ended.ensures.told P b) (c.follow_on-ended.ensures.caused P b) c.follow_on-ended.ensures.position)
+    c.tell.ensures.resumable P
+    (is_told g.N.Exact.limit P v c.follow_on-ended.new.self c.follow_on-ended.result
+    (begun_rows P v c.cause-cause.result b) c.follow_on-ended.ensures.sized.positions
+    (c.follow_on-ended.ensures.told P b) (c.follow_on-ended.ensures.caused P b) c.follow_on-ended.ensures.position)
