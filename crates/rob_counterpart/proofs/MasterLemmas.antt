@@ -12,7 +12,7 @@ use Rattle.rob_counterpart.specs.RobustProgram.{RobustProgram}
 use Rattle.rob_counterpart.specs.Reform.{pairs}
 use Rattle.rob_counterpart.specs.Master.{Cuts, cut_entry, IsMaster, master_of}
 use Rattle.rob_counterpart.proofs.Blocks.{sum_pairs}
-use Rattle.rob_counterpart.proofs.ReformPlaces.{turned_even, turned_odd, half_even, half_odd, tau_cost_is}
+use Rattle.rob_counterpart.proofs.ReformPlaces.{signed_even, signed_odd, half_even, half_odd, tau_cost_is}
 use Rattle.rob_counterpart.specs.Splitting.{plus, minus}
 use Rattle.rob_counterpart.proofs.ScaledEndings.{plan_of, OptimalPoint}
 use Rattle.rob_counterpart.specs.Endings.{slack_entries, InfeasibleEnding}
@@ -124,9 +124,9 @@ pub master_is : (d : RobustProgram) (cuts : Cuts) → IsMaster d cuts (master_of
 master_is d cuts = record {
   height = refl;
   width = refl;
-  at_plus = λ q j ql jl. turned_even j (cut_entry d cuts q (suc (plus j / 2)))
+  at_plus = λ q j ql jl. signed_even j (cut_entry d cuts q (suc (plus j / 2)))
       ∙ ap (λ v. cut_entry d cuts q (suc v)) (half_even j);
-  at_minus = λ q j ql jl. turned_odd j (cut_entry d cuts q (suc (minus j / 2)))
+  at_minus = λ q j ql jl. signed_odd j (cut_entry d cuts q (suc (minus j / 2)))
       ∙ ap (λ v. neg_ℤ (cut_entry d cuts q (suc v))) (half_odd j);
   at_right = λ q ql. refl;
   cost = tau_cost_is d (master_of d cuts) (λ k. refl);

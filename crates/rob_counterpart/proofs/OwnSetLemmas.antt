@@ -19,11 +19,11 @@ use Rattle.rob_meaning.proofs.OwnRowLemmas.{own_number, sets_in}
 use Rattle.rob_counterpart.specs.Counterpart.{set_program}
 use Rattle.rob_counterpart.specs.Endings.{slack_entries, InfeasibleEnding}
 use Rattle.rob_counterpart.specs.ReadCertificates.{weight_of, weights_read}
-use Rattle.rob_counterpart.specs.Splitting.{turned}
+use Rattle.rob_counterpart.specs.Splitting.{signed_entry}
 use Rattle.rob_counterpart.proofs.ScenarioLemmas.{set_weights}
 
-pub turned_zero : (k : ℕ) → turned k (pos 0) ≡ pos 0
-turned_zero k = same (nat_eq (k % 2) 0)
+pub signed_zero : (k : ℕ) → signed_entry k (pos 0) ≡ pos 0
+signed_zero k = same (nat_eq (k % 2) 0)
   where
     same : (b : Bool) → cond b (pos 0) (neg_ℤ (pos 0)) ≡ pos 0
     same true = refl
@@ -38,10 +38,10 @@ module _ (m : RobustModel) (model : IsModel m) where
   -- a set column and its opposite stand in the block of its set
   set_blocks : FallsIntoBlocks (set_program m) (set_of_set_row m) (λ k. set_of_set_column m (k / 2))
   set_blocks i k il kl other =
-      ap (turned k)
+      ap (signed_entry k)
       (own_number m model i (k / 2) il
       ((div-lt_iff_lt-mul {k = 2} {x = k} {y = set_column_count m} (omega arith)).1 (omega arith)) other)
-      ∙ turned_zero k
+      ∙ signed_zero k
 
   module _ (own : Columns) (rows : Matrix) (en : InfeasibleEnding (set_program m) own rows)
       (block : LieInOneBlock (set_program m) (set_of_set_row m) (slack_entries (set_program m) rows)) where

@@ -10,7 +10,7 @@ use Rattle.rob_counterpart.proofs.Blocks.{halves}
 use Rattle.rob_counterpart.proofs.ReformSums.{by_rows, by_columns}
 use Rattle.rob_counterpart.specs.RobustProgram.{RobustProgram, entry}
 use Rattle.rob_counterpart.specs.Reform.{pairs, multiplier, block, positive_row, negative_row, constant_row, RowIs, HasTauCost, IsReform, plan_entry, multiplier_entry, right_entry, row_entry, tau_cost, reform}
-use Rattle.rob_counterpart.specs.Splitting.{plus, minus, turned}
+use Rattle.rob_counterpart.specs.Splitting.{plus, minus, signed_entry}
 
 pub half_even : (c : ℕ) → (c + c) / 2 ≡ c
 half_even c = let e : c + c ≡ (c * 2) + 0 = grind arith in ap (λ v. v / 2) e ∙ div-mul-add c 2 0 (omega arith)
@@ -24,11 +24,11 @@ rest_even c = let e : c + c ≡ (c * 2) + 0 = grind arith in ap (λ v. v % 2) e 
 rest_odd : (c : ℕ) → suc (c + c) % 2 ≡ 1
 rest_odd c = let e : suc (c + c) ≡ (c * 2) + 1 = grind arith in ap (λ v. v % 2) e ∙ mod-mul-add c 2 1 (omega arith)
 
-pub turned_even : (c : ℕ) (v : ℤ) → turned (c + c) v ≡ v
-turned_even c v = ap (λ q. cond (eqb q 0) v (neg_ℤ v)) (rest_even c)
+pub signed_even : (c : ℕ) (v : ℤ) → signed_entry (c + c) v ≡ v
+signed_even c v = ap (λ q. cond (eqb q 0) v (neg_ℤ v)) (rest_even c)
 
-pub turned_odd : (c : ℕ) (v : ℤ) → turned (suc (c + c)) v ≡ neg_ℤ v
-turned_odd c v = ap (λ q. cond (eqb q 0) v (neg_ℤ v)) (rest_odd c)
+pub signed_odd : (c : ℕ) (v : ℤ) → signed_entry (suc (c + c)) v ≡ neg_ℤ v
+signed_odd c v = ap (λ q. cond (eqb q 0) v (neg_ℤ v)) (rest_odd c)
 
 pub where_less : (a b : ℕ) (x y : ℤ) → a < b → cond (ltb a b) x y ≡ x
 where_less a b x y l = grind (arith, nat_tests)
@@ -51,23 +51,24 @@ at_place d i p f l =
 
 entry_plus : (d : RobustProgram) (i p j : ℕ) → j ≤ d.decisions → row_entry d i p (plus j) ≡ plan_entry d i p j
 entry_plus d i p j l =
-    where_less (plus j) (pairs d) (turned (plus j) (plan_entry d i p (plus j / 2)))
+    where_less (plus j) (pairs d) (signed_entry (plus j) (plan_entry d i p (plus j / 2)))
     (cond (eqb ((plus j - pairs d) / d.set_rows) i)
     (multiplier_entry d p ((plus j - pairs d) % d.set_rows)) (pos 0)) (omega arith)
-    ∙ turned_even j (plan_entry d i p (plus j / 2)) ∙ ap (plan_entry d i p) (half_even j)
+    ∙ signed_even j (plan_entry d i p (plus j / 2)) ∙ ap (plan_entry d i p) (half_even j)
 
 entry_minus : (d : RobustProgram) (i p j : ℕ) → j ≤ d.decisions → row_entry d i p (minus j) ≡ neg_ℤ (plan_entry d i p j)
 entry_minus d i p j l =
-    where_less (minus j) (pairs d) (turned (minus j) (plan_entry d i p (minus j / 2)))
+    where_less (minus j) (pairs d) (signed_entry (minus j) (plan_entry d i p (minus j / 2)))
     (cond (eqb ((minus j - pairs d) / d.set_rows) i)
     (multiplier_entry d p ((minus j - pairs d) % d.set_rows)) (pos 0)) (omega arith)
-    ∙ turned_odd j (plan_entry d i p (minus j / 2)) ∙ ap (λ v. neg_ℤ (plan_entry d i p v)) (half_odd j)
+    ∙ signed_odd j (plan_entry d i p (minus j / 2)) ∙ ap (λ v. neg_ℤ (plan_entry d i p v)) (half_odd j)
 
 entry_multiplier : (d : RobustProgram) (i p h r : ℕ) → r < d.set_rows
     → row_entry d i p (multiplier d h r) ≡ cond (eqb h i) (multiplier_entry d p r) (pos 0)
 entry_multiplier d i p h r l =
     let k : multiplier d h r - pairs d ≡ (h * d.set_rows) + r = omega arith in
-    where_not_less (multiplier d h r) (pairs d) (turned (multiplier d h r) (plan_entry d i p (multiplier d h r / 2)))
+    where_not_less (multiplier d h r) (pairs d)
+    (signed_entry (multiplier d h r) (plan_entry d i p (multiplier d h r / 2)))
     (cond (eqb ((multiplier d h r - pairs d) / d.set_rows) i)
     (multiplier_entry d p ((multiplier d h r - pairs d) % d.set_rows)) (pos 0)) (omega arith)
     ∙ ap (λ v. cond (eqb (v / d.set_rows) i) (multiplier_entry d p (v % d.set_rows)) (pos 0)) k
@@ -92,13 +93,13 @@ row_at d i p plan own right l pl ow ri = record {
 
 cost_plus : (d : RobustProgram) (j : ℕ) → tau_cost d (plus j) ≡ cond (eqb j d.decisions) d.sense (pos 0)
 cost_plus d j =
-    ap (λ v. cond (eqb v d.decisions) (turned (plus j) d.sense) (pos 0)) (half_even j)
-    ∙ ap (λ v. cond (eqb j d.decisions) v (pos 0)) (turned_even j d.sense)
+    ap (λ v. cond (eqb v d.decisions) (signed_entry (plus j) d.sense) (pos 0)) (half_even j)
+    ∙ ap (λ v. cond (eqb j d.decisions) v (pos 0)) (signed_even j d.sense)
 
 cost_minus : (d : RobustProgram) (j : ℕ) → tau_cost d (minus j) ≡ cond (eqb j d.decisions) (neg_ℤ d.sense) (pos 0)
 cost_minus d j =
-    ap (λ v. cond (eqb v d.decisions) (turned (minus j) d.sense) (pos 0)) (half_odd j)
-    ∙ ap (λ v. cond (eqb j d.decisions) v (pos 0)) (turned_odd j d.sense)
+    ap (λ v. cond (eqb v d.decisions) (signed_entry (minus j) d.sense) (pos 0)) (half_odd j)
+    ∙ ap (λ v. cond (eqb j d.decisions) v (pos 0)) (signed_odd j d.sense)
 
 cost_multiplier : (d : RobustProgram) (k : ℕ) → pairs d ≤ k → tau_cost d k ≡ pos 0
 cost_multiplier d k l =
@@ -110,17 +111,17 @@ cost_multiplier d k l =
     ]
 
 positive_place : (d : RobustProgram) (c : ℕ) (f : ℕ → ℤ) (y : ℤ) → c < d.set_columns
-    → cond (ltb (c + c) (d.set_columns + d.set_columns)) (turned (c + c) (f ((c + c) / 2))) y ≡ f c
+    → cond (ltb (c + c) (d.set_columns + d.set_columns)) (signed_entry (c + c) (f ((c + c) / 2))) y ≡ f c
 positive_place d c f y l =
-    where_less (c + c) (d.set_columns + d.set_columns) (turned (c + c) (f ((c + c) / 2))) y (omega arith)
-    ∙ turned_even c (f ((c + c) / 2)) ∙ ap f (half_even c)
+    where_less (c + c) (d.set_columns + d.set_columns) (signed_entry (c + c) (f ((c + c) / 2))) y (omega arith)
+    ∙ signed_even c (f ((c + c) / 2)) ∙ ap f (half_even c)
 
 negative_place : (d : RobustProgram) (c : ℕ) (f : ℕ → ℤ) (y : ℤ) → c < d.set_columns
-    → cond (ltb (suc (c + c)) (d.set_columns + d.set_columns)) (turned (suc (c + c)) (f (suc (c + c) / 2))) y
+    → cond (ltb (suc (c + c)) (d.set_columns + d.set_columns)) (signed_entry (suc (c + c)) (f (suc (c + c) / 2))) y
     ≡ neg_ℤ (f c)
 negative_place d c f y l =
-    where_less (suc (c + c)) (d.set_columns + d.set_columns) (turned (suc (c + c)) (f (suc (c + c) / 2))) y
-    (omega arith) ∙ turned_odd c (f (suc (c + c) / 2)) ∙ ap (λ v. neg_ℤ (f v)) (half_odd c)
+    where_less (suc (c + c)) (d.set_columns + d.set_columns) (signed_entry (suc (c + c)) (f (suc (c + c) / 2))) y
+    (omega arith) ∙ signed_odd c (f (suc (c + c) / 2)) ∙ ap (λ v. neg_ℤ (f v)) (half_odd c)
 
 constant_place : (d : RobustProgram) (x y : ℤ)
     → cond (ltb (d.set_columns + d.set_columns) (d.set_columns + d.set_columns)) x y ≡ y
@@ -156,11 +157,13 @@ reform_is d = record {
   constant = λ i il. row_at d i (d.set_columns + d.set_columns) (λ j. d.form i 0 (suc j)) d.right
       (neg_ℤ (d.form i 0 0)) (omega arith)
       (λ j. constant_place d
-      (turned (d.set_columns + d.set_columns) (neg_ℤ (entry d i ((d.set_columns + d.set_columns) / 2) (suc j))))
+      (signed_entry (d.set_columns + d.set_columns) (neg_ℤ (entry d i ((d.set_columns + d.set_columns) / 2) (suc j))))
       (d.form i 0 (suc j)))
-      (λ r. constant_place d (turned (d.set_columns + d.set_columns) (d.left r ((d.set_columns + d.set_columns) / 2)))
+      (λ r.
+      constant_place d (signed_entry (d.set_columns + d.set_columns) (d.left r ((d.set_columns + d.set_columns) / 2)))
       (d.right r))
-      (constant_place d (turned (d.set_columns + d.set_columns) (entry d i ((d.set_columns + d.set_columns) / 2) 0))
+      (constant_place d
+      (signed_entry (d.set_columns + d.set_columns) (entry d i ((d.set_columns + d.set_columns) / 2) 0))
       (neg_ℤ (d.form i 0 0)));
   cost = tau_cost_is d (reform d) (λ k. refl);
   cost_multipliers = λ i r il rl. cost_multiplier d (multiplier d i r) (omega arith);

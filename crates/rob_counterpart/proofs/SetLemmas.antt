@@ -13,7 +13,7 @@ use Rattle.rob_linear.proofs.Programs.{admits_from_solution}
 use Rattle.rob_linear.proofs.Truths.{infeasible}
 use Rattle.rob_counterpart.specs.RobustProgram.{RobustProgram, number_at}
 use Rattle.rob_counterpart.specs.SetPrograms.{IsOverSet, HasCost, IsSearch, over_set, search_of}
-use Rattle.rob_counterpart.proofs.ReformPlaces.{turned_even, turned_odd, half_even, half_odd}
+use Rattle.rob_counterpart.proofs.ReformPlaces.{signed_even, signed_odd, half_even, half_odd}
 use Rattle.rob_counterpart.proofs.Blocks.{sum_pairs}
 use Rattle.rob_counterpart.specs.Splitting.{plus, minus}
 use Rattle.rob_counterpart.proofs.ScaledEndings.{pair}
@@ -150,15 +150,15 @@ pub over_set_is : (d : RobustProgram) (f : ℕ → ℤ) → IsOverSet d (over_se
 over_set_is d f = record {
   height = refl;
   width = refl;
-  at_plus = λ r c rl cl. turned_even c (d.left r (plus c / 2)) ∙ ap (d.left r) (half_even c);
-  at_minus = λ r c rl cl. turned_odd c (d.left r (minus c / 2)) ∙ ap (λ v. neg_ℤ (d.left r v)) (half_odd c);
+  at_plus = λ r c rl cl. signed_even c (d.left r (plus c / 2)) ∙ ap (d.left r) (half_even c);
+  at_minus = λ r c rl cl. signed_odd c (d.left r (minus c / 2)) ∙ ap (λ v. neg_ℤ (d.left r v)) (half_odd c);
   at_right = λ r rl. refl;
 }
 
 pub cost_is : (d : RobustProgram) (f : ℕ → ℤ) → HasCost d f (over_set d f)
 cost_is d f = record {
-  cost_plus = λ c cl. turned_even c (f (plus c / 2)) ∙ ap f (half_even c);
-  cost_minus = λ c cl. turned_odd c (f (minus c / 2)) ∙ ap (λ v. neg_ℤ (f v)) (half_odd c);
+  cost_plus = λ c cl. signed_even c (f (plus c / 2)) ∙ ap f (half_even c);
+  cost_minus = λ c cl. signed_odd c (f (minus c / 2)) ∙ ap (λ v. neg_ℤ (f v)) (half_odd c);
 }
 
 pub search_is : (d : RobustProgram) (i : ℕ) (z : ℕ → ℤ) → IsSearch d i z (search_of d i z)

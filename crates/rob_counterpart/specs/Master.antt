@@ -3,7 +3,7 @@
 use Rattle.std.specs.Prelude.{◌≡◌, ℕ, suc, ◌/◌, ◌<◌, ◌≤◌, ℤ, neg_ℤ}
 use Rattle.rob_linear.specs.Programs.{Program}
 use Rattle.rob_counterpart.specs.RobustProgram.{RobustProgram, item_entry}
-use Rattle.rob_counterpart.specs.Splitting.{plus, minus, turned}
+use Rattle.rob_counterpart.specs.Splitting.{plus, minus, signed_entry}
 use Rattle.rob_counterpart.specs.Reform.{pairs, HasTauCost, tau_cost}
 
 -- cuts by number: a form, a base and a vector each
@@ -32,7 +32,7 @@ abbrev pub master_of : RobustProgram → Cuts → Program
 master_of d cuts = record {
   m = cuts.count;
   n = pairs d;
-  a = λ q k. turned k (cut_entry d cuts q (suc (k / 2)));
+  a = λ q k. signed_entry k (cut_entry d cuts q (suc (k / 2)));
   b = λ q. neg_ℤ (cut_entry d cuts q 0);
   c = tau_cost d;
 }

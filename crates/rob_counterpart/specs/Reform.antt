@@ -8,7 +8,7 @@ use Rattle.rob_linear.specs.Vectors.{Vector}
 use Rattle.std.specs.Prelude.{◌≡◌, ◌≢◌, ℕ, suc, ◌<◌, ◌≤◌, ◌+◌, ◌*◌, ◌-◌, ◌/◌, ◌%◌, nat_lt, nat_eq, cond, ℤ, pos, neg_ℤ}
 use Rattle.rob_linear.specs.Programs.{Program}
 use Rattle.rob_counterpart.specs.RobustProgram.{RobustProgram, entry}
-use Rattle.rob_counterpart.specs.Splitting.{plus, minus, turned}
+use Rattle.rob_counterpart.specs.Splitting.{plus, minus, signed_entry}
 
 -- ---- places
 
@@ -70,26 +70,27 @@ pub record IsReform (d : RobustProgram) (P : Program) : Type 0 where
 -- form i's row p: its number at column j of the plan
 abbrev pub plan_entry : RobustProgram → ℕ → ℕ → ℕ → ℤ
 plan_entry d i p j =
-    cond (nat_lt p (d.set_columns + d.set_columns)) (turned p (neg_ℤ (entry d i (p / 2) (suc j)))) (d.form i 0 (suc j))
+    cond (nat_lt p (d.set_columns + d.set_columns)) (signed_entry p (neg_ℤ (entry d i (p / 2) (suc j))))
+    (d.form i 0 (suc j))
 
 -- its number at the form's multiplier of set row r
 abbrev pub multiplier_entry : RobustProgram → ℕ → ℕ → ℤ
-multiplier_entry d p r = cond (nat_lt p (d.set_columns + d.set_columns)) (turned p (d.left r (p / 2))) (d.right r)
+multiplier_entry d p r = cond (nat_lt p (d.set_columns + d.set_columns)) (signed_entry p (d.left r (p / 2))) (d.right r)
 
 -- its right side
 abbrev pub right_entry : RobustProgram → ℕ → ℕ → ℤ
 right_entry d i p =
-    cond (nat_lt p (d.set_columns + d.set_columns)) (turned p (entry d i (p / 2) 0)) (neg_ℤ (d.form i 0 0))
+    cond (nat_lt p (d.set_columns + d.set_columns)) (signed_entry p (entry d i (p / 2) 0)) (neg_ℤ (d.form i 0 0))
 
 -- its number at column k of the program
 abbrev pub row_entry : RobustProgram → ℕ → ℕ → ℕ → ℤ
 row_entry d i p k =
-    cond (nat_lt k (pairs d)) (turned k (plan_entry d i p (k / 2)))
+    cond (nat_lt k (pairs d)) (signed_entry k (plan_entry d i p (k / 2)))
     (cond (nat_eq ((k - pairs d) / d.set_rows) i) (multiplier_entry d p ((k - pairs d) % d.set_rows)) (pos 0))
 
 -- the sense at tau's pair, and 0 elsewhere
 abbrev pub tau_cost : RobustProgram → ℕ → ℤ
-tau_cost d k = cond (nat_eq (k / 2) d.decisions) (turned k d.sense) (pos 0)
+tau_cost d k = cond (nat_eq (k / 2) d.decisions) (signed_entry k d.sense) (pos 0)
 
 -- the counterpart of d
 abbrev pub reform : RobustProgram → Program

@@ -4,7 +4,7 @@ use Rattle.rob_linear.specs.Vectors.{Vector}
 use Rattle.std.specs.Prelude.{◌≡◌, ℕ, ◌+◌, ◌/◌, ◌<◌, pos, neg_ℤ}
 use Rattle.rob_linear.specs.Programs.{Program}
 use Rattle.rob_counterpart.specs.RobustProgram.{RobustProgram, number_at}
-use Rattle.rob_counterpart.specs.Splitting.{plus, minus, turned}
+use Rattle.rob_counterpart.specs.Splitting.{plus, minus, signed_entry}
 
 -- P's rows are the set rows
 pub record IsOverSet (d : RobustProgram) (P : Program) : Type 0 where
@@ -31,9 +31,9 @@ abbrev pub over_set : RobustProgram → Vector → Program
 over_set d f = record {
   m = d.set_rows;
   n = d.set_columns + d.set_columns;
-  a = λ r k. turned k (d.left r (k / 2));
+  a = λ r k. signed_entry k (d.left r (k / 2));
   b = d.right;
-  c = λ k. turned k (f (k / 2));
+  c = λ k. signed_entry k (f (k / 2));
 }
 
 -- the set's rows, with no cost

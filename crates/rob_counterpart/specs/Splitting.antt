@@ -13,8 +13,8 @@ abbrev pub minus : ℕ → ℕ
 minus j = suc (j + j)
 
 -- v in the first column of a pair, and its negation in the second
-abbrev pub turned : ℕ → ℤ → ℤ
-turned k v = cond (nat_eq (k % 2) 0) v (neg_ℤ v)
+abbrev pub signed_entry : ℕ → ℤ → ℤ
+signed_entry k v = cond (nat_eq (k % 2) 0) v (neg_ℤ v)
 
 -- the number that pair j stands for
 abbrev pub difference : (ℕ → Fraction) → ℕ → Fraction

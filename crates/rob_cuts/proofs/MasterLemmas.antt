@@ -19,7 +19,7 @@ use Rattle.rob_counterpart.specs.Counterpart.{cell, sign_of, robust_of}
 use Rattle.rob_counterpart.specs.Master.{cut_entry as entry_of_cut}
 use Rattle.rob_counterpart.specs.Reform.{pairs, tau_cost}
 use Rattle.rob_counterpart.specs.SamePrograms.{AreSame}
-use Rattle.rob_counterpart.specs.Splitting.{turned}
+use Rattle.rob_counterpart.specs.Splitting.{signed_entry}
 use Rattle.rob_counterpart.proofs.TabulateLemmas.{length-tabulate}
 use Rattle.rob_dualize.proofs.TabulateLemmas.{item-tabulate}
 use Rattle.rob_runs.specs.Cuts.{Cut, cut_of_number, cuts_of, master_over}
@@ -85,7 +85,8 @@ module _ (forms : Forms) (cuts : List Cut) (lp : Lp) (h : IsMasterList forms cut
     pairs_same = ap (λ (n : ℕ). suc n + suc n) f.columns
 
     cost_same : (k : ℕ) → cost_of forms k ≡ tau_cost (robust_of m) k
-    cost_same k = ap₂ (λ (n : ℕ) (s : Sense). cond (nat_eq (k / 2) n) (turned k (sign_of s)) (pos 0)) f.columns f.sense
+    cost_same k =
+        ap₂ (λ (n : ℕ) (s : Sense). cond (nat_eq (k / 2) n) (signed_entry k (sign_of s)) (pos 0)) f.columns f.sense
 
     pub master_same : AreSame (program_of lp) (master_over m cuts)
     master_same =
@@ -97,7 +98,7 @@ module _ (forms : Forms) (cuts : List Cut) (lp : Lp) (h : IsMasterList forms cut
           rows = λ q k ql kl.
               ap (λ (row : List ℤ). at row k) (row_is q [] (omega arith))
               ∙ item-tabulate (plan_pairs forms) (cut_entry forms (cut_of_number cuts q)) k (pos 0) (omega arith)
-              ∙ ap (turned k) (number_is_entry q (suc (k / 2)));
+              ∙ ap (signed_entry k) (number_is_entry q (suc (k / 2)));
           rights = λ q ql.
               ap (λ (xs : List ℤ). at xs q) h.b
               ∙ item-map (cut_right forms) cuts q (pos 0) (record { form = 0; base = pos 0; vector = [] }) (omega arith)

@@ -12,11 +12,11 @@ use Rattle.rob_elab.specs.declared.forms.Forms.{Forms}
 use Rattle.rob_rows.specs.LinearPrograms.{HasNumbersWithin}
 use Rattle.rob_rows.specs.PrimitiveParts.{IsWithin}
 use Rattle.rob_counterpart.specs.Counterpart.{sign_of}
-use Rattle.rob_counterpart.specs.Splitting.{turned}
+use Rattle.rob_counterpart.specs.Splitting.{signed_entry}
 use Rattle.rob_counterpart.proofs.TabulateLemmas.{length-tabulate}
-use Rattle.rob_dualize.proofs.CounterpartLists.{turned_small}
+use Rattle.rob_dualize.proofs.CounterpartLists.{signed_small}
 use Rattle.rob_dualize.proofs.TabulateLemmas.{item-tabulate}
-use Rattle.rob_counterpart.proofs.ReformPlaces.{turned_even, turned_odd, half_even, half_odd}
+use Rattle.rob_counterpart.proofs.ReformPlaces.{signed_even, signed_odd, half_even, half_odd}
 use Rattle.rob_runs.specs.Cuts.{Cut}
 use Rattle.rob_runs.specs.Spots.{HasWidePrefix}
 use Rattle.rob_sets.proofs.RowLemmas.{tabulate-more}
@@ -47,10 +47,10 @@ pair_more forms c j row now number h e is =
     let s : (j + j) + 1 ≡ suc (j + j) = omega arith in
     let t : j + 1 ≡ suc j = omega arith in
     let even : cut_entry forms c (j + j) ≡ number =
-    turned_even j (cut_number forms c (suc ((j + j) / 2))) ∙ ap (λ v. cut_number forms c (suc v)) (half_even j)
+    signed_even j (cut_number forms c (suc ((j + j) / 2))) ∙ ap (λ v. cut_number forms c (suc v)) (half_even j)
     ∙ ap (cut_number forms c) (sym t) ∙ sym e in
     let odd : cut_entry forms c ((j + j) + 1) ≡ neg_ℤ number =
-    ap (cut_entry forms c) s ∙ turned_odd j (cut_number forms c (suc (suc (j + j) / 2)))
+    ap (cut_entry forms c) s ∙ signed_odd j (cut_number forms c (suc (suc (j + j) / 2)))
     ∙ ap (λ v. neg_ℤ (cut_number forms c (suc v))) (half_odd j) ∙ ap (λ v. neg_ℤ (cut_number forms c v)) (sym t)
     ∙ ap neg_ℤ (sym e) in
     is
@@ -87,11 +87,11 @@ sense_small maximise = omega arith
 cost_small : (limit : ℕ) → 1 ≤ limit → (forms : Forms) (k : ℕ) → nat_abs (cost_of forms k) ≤ limit
 cost_small limit one forms k =
     by (nat_eq (k / 2) forms.columns)
-    (turned_small limit k (sign_of (sense_of forms.sense)) (let h : nat_abs (sign_of (sense_of forms.sense)) ≤ 1 =
+    (signed_small limit k (sign_of (sense_of forms.sense)) (let h : nat_abs (sign_of (sense_of forms.sense)) ≤ 1 =
     sense_small (sense_of forms.sense) in omega arith))
   where
-    by : (t : Bool) → nat_abs (turned k (sign_of (sense_of forms.sense))) ≤ limit
-        → nat_abs (cond t (turned k (sign_of (sense_of forms.sense))) (pos 0)) ≤ limit
+    by : (t : Bool) → nat_abs (signed_entry k (sign_of (sense_of forms.sense))) ≤ limit
+        → nat_abs (cond t (signed_entry k (sign_of (sense_of forms.sense))) (pos 0)) ≤ limit
     by true h = h
     by false h = omega arith
 

@@ -7,7 +7,7 @@ use Rattle.rob_meaning.specs.Places.{tabulate}
 use Rattle.rob_elab.specs.declared.forms.Forms.{Forms}
 use Rattle.rob_rows.specs.declared.program.Lp.{Lp}
 use Rattle.rob_counterpart.specs.Counterpart.{cell}
-use Rattle.rob_counterpart.specs.Splitting.{turned}
+use Rattle.rob_counterpart.specs.Splitting.{signed_entry}
 use Rattle.rob_dualize.specs.Wholes.{cost_of}
 use Rattle.rob_runs.specs.Cuts.{Cut}
 
@@ -25,7 +25,7 @@ plan_pairs forms = suc forms.columns + suc forms.columns
 
 -- the cut's number at column k of the master
 abbrev pub cut_entry : Forms → Cut → ℕ → ℤ
-cut_entry forms c k = turned k (cut_number forms c (suc (k / 2)))
+cut_entry forms c k = signed_entry k (cut_number forms c (suc (k / 2)))
 
 -- the row of a cut, which is to be at most its right side
 abbrev pub cut_row : Forms → Cut → List ℤ

@@ -9,7 +9,7 @@ use Rattle.rob_meaning.specs.Places.{tabulate}
 use Rattle.rob_rows.specs.declared.program.Lp.{Lp}
 use Rattle.rob_rows.specs.LinearPrograms.{program_of, HasNumbersWithin}
 use Rattle.rob_counterpart.specs.RobustProgram.{RobustProgram, entry}
-use Rattle.rob_counterpart.specs.Splitting.{turned}
+use Rattle.rob_counterpart.specs.Splitting.{signed_entry}
 use Rattle.rob_counterpart.specs.Reform.{pairs, block, plan_entry, multiplier_entry, right_entry, row_entry, tau_cost, reform}
 use Rattle.rob_counterpart.specs.SamePrograms.{AreSame}
 use Rattle.rob_counterpart.proofs.Blocks.{at_block}
@@ -70,8 +70,8 @@ cond_small : (limit : ℕ) (t : Bool) (v w : ℤ) → nat_abs v ≤ limit → na
 cond_small limit true v w hv hw = hv
 cond_small limit false v w hv hw = hw
 
-pub turned_small : (limit k : ℕ) (v : ℤ) → nat_abs v ≤ limit → nat_abs (turned k v) ≤ limit
-turned_small limit k v h = cond_small limit (eqb (k % 2) 0) v (neg_ℤ v) h (negated_within limit v h)
+pub signed_small : (limit k : ℕ) (v : ℤ) → nat_abs v ≤ limit → nat_abs (signed_entry k v) ≤ limit
+signed_small limit k v h = cond_small limit (eqb (k % 2) 0) v (neg_ℤ v) h (negated_within limit v h)
 
 module _ (d : RobustProgram) (limit : ℕ) (forms : (i k j : ℕ) → nat_abs (d.form i k j) ≤ limit)
     (left : (r c : ℕ) → nat_abs (d.left r c) ≤ limit)
@@ -82,33 +82,34 @@ module _ (d : RobustProgram) (limit : ℕ) (forms : (i k j : ℕ) → nat_abs (d
 
   plan_small : (i p j : ℕ) → nat_abs (plan_entry d i p j) ≤ limit
   plan_small i p j =
-      cond_small limit (ltb p (d.set_columns + d.set_columns)) (turned p (neg_ℤ (entry d i (p / 2) (suc j))))
+      cond_small limit (ltb p (d.set_columns + d.set_columns)) (signed_entry p (neg_ℤ (entry d i (p / 2) (suc j))))
       (d.form i 0 (suc j))
-      (turned_small limit p (neg_ℤ (entry d i (p / 2) (suc j)))
+      (signed_small limit p (neg_ℤ (entry d i (p / 2) (suc j)))
       (negated_within limit (entry d i (p / 2) (suc j)) (entry_small i (p / 2) (suc j)))) (forms i 0 (suc j))
 
   multiplier_small : (p r : ℕ) → nat_abs (multiplier_entry d p r) ≤ limit
   multiplier_small p r =
-      cond_small limit (ltb p (d.set_columns + d.set_columns)) (turned p (d.left r (p / 2))) (d.right r)
-      (turned_small limit p (d.left r (p / 2)) (left r (p / 2))) (right r)
+      cond_small limit (ltb p (d.set_columns + d.set_columns)) (signed_entry p (d.left r (p / 2))) (d.right r)
+      (signed_small limit p (d.left r (p / 2)) (left r (p / 2))) (right r)
 
   row_small : (i p k : ℕ) → nat_abs (row_entry d i p k) ≤ limit
   row_small i p k =
-      cond_small limit (ltb k (pairs d)) (turned k (plan_entry d i p (k / 2)))
+      cond_small limit (ltb k (pairs d)) (signed_entry k (plan_entry d i p (k / 2)))
       (cond (eqb ((k - pairs d) / d.set_rows) i) (multiplier_entry d p ((k - pairs d) % d.set_rows)) (pos 0))
-      (turned_small limit k (plan_entry d i p (k / 2)) (plan_small i p (k / 2)))
+      (signed_small limit k (plan_entry d i p (k / 2)) (plan_small i p (k / 2)))
       (cond_small limit (eqb ((k - pairs d) / d.set_rows) i) (multiplier_entry d p ((k - pairs d) % d.set_rows))
       (pos 0) (multiplier_small p ((k - pairs d) % d.set_rows)) (omega arith))
 
   right_small : (i p : ℕ) → nat_abs (right_entry d i p) ≤ limit
   right_small i p =
-      cond_small limit (ltb p (d.set_columns + d.set_columns)) (turned p (entry d i (p / 2) 0)) (neg_ℤ (d.form i 0 0))
-      (turned_small limit p (entry d i (p / 2) 0) (entry_small i (p / 2) 0))
+      cond_small limit (ltb p (d.set_columns + d.set_columns)) (signed_entry p (entry d i (p / 2) 0))
+      (neg_ℤ (d.form i 0 0))
+      (signed_small limit p (entry d i (p / 2) 0) (entry_small i (p / 2) 0))
       (negated_within limit (d.form i 0 0) (forms i 0 0))
 
   cost_small : (k : ℕ) → nat_abs (tau_cost d k) ≤ limit
-  cost_small k = cond_small limit (eqb (k / 2) d.decisions) (turned k d.sense) (pos 0)
-      (turned_small limit k d.sense sense) (omega arith)
+  cost_small k = cond_small limit (eqb (k / 2) d.decisions) (signed_entry k d.sense) (pos 0)
+      (signed_small limit k d.sense sense) (omega arith)
 
   pub reform_within : (lp : Lp) → IsListed (reform d) lp → HasNumbersWithin limit lp
   reform_within lp h = listed_within (reform d) lp h limit (λ t k. row_small (t / block d) (t % block d) k)
@@ -118,7 +119,7 @@ module _ (d : RobustProgram) (limit : ℕ) (forms : (i k j : ℕ) → nat_abs (d
 behind_plan : (d : RobustProgram) (i p k : ℕ) → pairs d ≤ k
     → row_entry d i p k ≡ cond (eqb ((k - pairs d) / d.set_rows) i)
     (multiplier_entry d p ((k - pairs d) % d.set_rows)) (pos 0)
-behind_plan d i p k l = where_not_less k (pairs d) (turned k (plan_entry d i p (k / 2)))
+behind_plan d i p k l = where_not_less k (pairs d) (signed_entry k (plan_entry d i p (k / 2)))
     (cond (eqb ((k - pairs d) / d.set_rows) i) (multiplier_entry d p ((k - pairs d) % d.set_rows)) (pos 0)) l
 
 pub in_multipliers : (d : RobustProgram) (i p k : ℕ) → pairs d + (i * d.set_rows) ≤ k

@@ -8,7 +8,7 @@ use Rattle.rob_meaning.specs.Forms.{matrix_at}
 use Rattle.rob_number.proofs.CastLemmas.{seen}
 use Rattle.rob_counterpart.specs.Counterpart.{cell}
 use Rattle.rob_counterpart.specs.RobustProgram.{RobustProgram, entry}
-use Rattle.rob_counterpart.specs.Splitting.{turned}
+use Rattle.rob_counterpart.specs.Splitting.{signed_entry}
 use Rattle.rob_counterpart.specs.Reform.{pairs, plan_entry, multiplier_entry, row_entry}
 use Rattle.rob_counterpart.proofs.ReformPlaces.{where_less}
 use Rattle.rob_sets.specs.SetProgram.{left_sides, right_sides}
@@ -123,6 +123,6 @@ module _ (d : RobustProgram) (i : ℕ) (l : i < d.forms) (plan count : ℕ) (e :
     zero_behind p k low high = sym (outside_row d i p k plan count e f (omega arith) high (inr low))
 
 pub plan_row : (d : RobustProgram) (i p j : ℕ) (v : ℤ) → p < d.set_columns + d.set_columns
-    → v ≡ neg_ℤ (entry d i (p / 2) (suc j)) → turned p v ≡ plan_entry d i p j
-plan_row d i p j v l e = ap (turned p) e ∙ sym (where_less p (d.set_columns + d.set_columns)
-    (turned p (neg_ℤ (entry d i (p / 2) (suc j)))) (d.form i 0 (suc j)) l)
+    → v ≡ neg_ℤ (entry d i (p / 2) (suc j)) → signed_entry p v ≡ plan_entry d i p j
+plan_row d i p j v l e = ap (signed_entry p) e ∙ sym (where_less p (d.set_columns + d.set_columns)
+    (signed_entry p (neg_ℤ (entry d i (p / 2) (suc j)))) (d.form i 0 (suc j)) l)

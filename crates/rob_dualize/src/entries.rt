@@ -5,7 +5,7 @@ ghost use Rattle.rob_linear.specs.Vectors.{at};
 ghost use Rattle.rob_meaning.specs.Forms.{matrix_at};
 ghost use Rattle.rob_counterpart.specs.Counterpart.{cell};
 ghost use Rattle.rob_counterpart.specs.RobustProgram.{entry as entry_of};
-ghost use Rattle.rob_counterpart.specs.Splitting.{turned as turned_of};
+ghost use Rattle.rob_counterpart.specs.Splitting.{signed_entry as signed_entry_of};
 ghost use Rattle.rob_counterpart.specs.Reform.{plan_entry, multiplier_entry, right_entry, row_entry};
 ghost use Rattle.rob_sets.specs.SetProgram.{left_sides, right_sides};
 ghost use Rattle.rob_dualize.specs.Wholes.{wholes_in, cost_of, counterpart_in, IsFew, AreSound, IsSound};
@@ -64,9 +64,9 @@ pub fn entry(model: Elaborated, i: usize, c: usize, j: usize) -> i64
 }
 
 /// A number in the first column of a pair, and its negation in the second.
-pub fn turned(k: usize, number: i64) -> i64
+pub fn signed_entry(k: usize, number: i64) -> i64
     requires small { nat_abs number ≤ 2 ^ 62 - 1 }
-    ensures number { result ≡ turned_of k number }
+    ensures number { result ≡ signed_entry_of k number }
     ensures small { nat_abs result ≤ 2 ^ 62 - 1 }
 {
     if k % 2 == 0 { number } else { -number }
@@ -82,7 +82,7 @@ fn plan_number(model: Elaborated, i: usize, p: usize, j: usize) -> i64
     ensures small { nat_abs result ≤ 2 ^ 62 - 1 }
 {
     if p < 2 * model.set.columns as usize {
-        turned(p, -entry(model, i, p / 2, j + 1))
+        signed_entry(p, -entry(model, i, p / 2, j + 1))
     } else {
         form_number(model.forms, i, 0, j + 1)
     }
@@ -96,7 +96,7 @@ fn multiplier_number(model: Elaborated, p: usize, r: usize) -> i64
     ensures small { nat_abs result ≤ 2 ^ 62 - 1 }
 {
     if p < 2 * model.set.columns as usize {
-        turned(p, left_number(model.set, r, p / 2))
+        signed_entry(p, left_number(model.set, r, p / 2))
     } else {
         right_side_number(model.set, r)
     }
@@ -110,7 +110,7 @@ pub fn right_number(model: Elaborated, i: usize, p: usize) -> i64
     ensures small { nat_abs result ≤ 2 ^ 62 - 1 }
 {
     if p < 2 * model.set.columns as usize {
-        turned(p, entry(model, i, p / 2, 0))
+        signed_entry(p, entry(model, i, p / 2, 0))
     } else {
         -form_number(model.forms, i, 0, 0)
     }
@@ -128,7 +128,7 @@ pub fn row_number(model: Elaborated, i: usize, p: usize, k: usize) -> i64
 {
     let plan = 2 * (model.forms.columns as usize + 1);
     if k < plan {
-        return turned(k, plan_number(model, i, p, k / 2));
+        return signed_entry(k, plan_number(model, i, p, k / 2));
     }
     let rows = model.set.rows.items().len();
     let first = plan + i * rows;
@@ -147,7 +147,7 @@ pub fn cost_number(forms: &Forms, k: usize) -> i64
         return 0;
     }
     match forms.sense {
-        Sense::Minimise => turned(k, -1),
-        Sense::Maximise => turned(k, 1),
+        Sense::Minimise => signed_entry(k, -1),
+        Sense::Maximise => signed_entry(k, 1),
     }
 }

@@ -18,10 +18,10 @@ pub returns-then-p-model-clause-number : goal.returns-then-p-model-clause-number
 returns-then-p-model-clause-number c =
     let n : c.args.j + 1 ≡ suc c.args.j = omega arith in
     let d : RobustProgram = wholes c.args.model.forms.now c.args.model.set.now in
-    seen_same c.turned.result (plan_entry d c.args.i c.args.p c.args.j)
-    (c.turned.ensures.number
+    seen_same c.signed_entry.result (plan_entry d c.args.i c.args.p c.args.j)
+    (c.signed_entry.ensures.number
     ∙ plan_row d c.args.i c.args.p c.args.j (to_z w64 (of_z w64 (pos 0 -ℤ to_z w64 (of_z w64 c.entry.result))))
     (omega (arith, c.if-p-model.true))
     (negated_seen c.entry.result (omega (arith, c.entry.ensures.small))
     ∙ ap neg_ℤ (c.entry.ensures.number ∙ ap (entry d c.args.i (c.args.p / 2)) n)))
-    c.turned.ensures.small
+    c.signed_entry.ensures.small
