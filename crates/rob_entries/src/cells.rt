@@ -140,7 +140,7 @@ impl<E: Entry> Cells<E> {
         self.set(b, entry);
     }
 
-    /// Turns the signs of a row's entries round.
+    /// Negates a row's entries.
     pub fn negate(&mut self, start: usize, width: usize, bound: u128)
         requires inside { start + width ≤ length self.old }
         requires within { (k : ℕ) → k < width → nat_abs (at self.old (start + k)) ≤ bound }

@@ -1,4 +1,4 @@
-//! One row of entries: its signs turned round, and the lowest column where it is negative.
+//! One row of entries: its negation, and the lowest column where it is negative.
 
 ghost use Rattle.std.specs.Prelude.{◌≡◌, ℕ, ◌<◌, ◌≤◌, ◌≤ℤ◌, ◌<ℤ◌, pos, neg_ℤ, map, min, length, slice_index_or};
 ghost use Rattle.rob_linear.specs.Vectors.{at};
@@ -7,7 +7,7 @@ ghost use Rattle.rob_entries.specs.Choices.{IsLowest};
 
 use crate::entry::Entry;
 
-/// Turns the signs of the entries round.
+/// Negates the entries.
 pub fn negate<E: Entry>(row: &mut [E], bound: u128)
     requires within { IsWithin bound (map E.value row.old) }
     requires bound { bound ≤ E.top }

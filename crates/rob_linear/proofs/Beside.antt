@@ -171,10 +171,10 @@ module _ (P : Program) (basis : ℕ → ℕ) (q f : ℕ) (rows : ℕ → ℕ →
       (P.n + P.m) i (tags_in (kept_of P) (kept_tagged P)) bound own_at own_other il d (row_in i il)
       (row_in q (omega arith)).along c
 
-  -- row q turned round
-  pub round_is : (new : ℕ → ℤ) → IsParallel (suc (suc (suc (P.n + P.m)))) new (λ k. neg_ℤ (rows q k))
+  -- row q negated
+  pub negated_is : (new : ℕ → ℤ) → IsParallel (suc (suc (suc (P.n + P.m)))) new (λ k. neg_ℤ (rows q k))
       → IsMultipleRow (kept_of P) (own_of (kept_of P) basis) q new
-  round_is new h =
+  negated_is new h =
       let ql : q < P.m = s.inside in
       let n : rows q (P.n + P.m) <ℤ pos 0 = s.below in
       let m : IsMultipleRow (kept_of P) (own_of (kept_of P) basis) q (λ k. neg_ℤ (rows q k)) =
@@ -212,7 +212,7 @@ module _ (P : Program) (basis : ℕ → ℕ) (q f : ℕ) (rows : ℕ → ℕ →
           (cost_cleared (new P.m) cost)
       | inr c ↦ to_auxiliary (own_of (kept_of P) basis) i (new i) own_last (omega arith) (elim (cases_eq i q) [
         | inl g ↦ subst (λ v. IsMultipleRow (kept_of P) (own_of (kept_of P) basis) v (new v))
-            (sym g) (round_is (new q) at)
+            (sym g) (negated_is (new q) at)
         | inr d ↦ other_cleared i (new i) il d (others i (omega arith) d)
       ])
     ];

@@ -15,7 +15,7 @@ use Rattle.rob_linear.proofs.Starts.{auxiliary_tagged}
 use Rattle.rob_linear.proofs.TwoPhases.{InFirst, kept_tagged}
 use Rattle.rob_linear.proofs.Multiples.{parallel_sym, parallel_trans, parallel_along, multiple_parallel, multiples_basis, cleared_row, order_parallel, are_sym, rows_parallel}
 use Rattle.rob_linear.proofs.WideRows.{listed_inside}
-use Rattle.rob_linear.proofs.Beside.{neg_along, own_put_same, own_put_other, own_at, own_other, bound, own_inside, own_last, last_beside, to_auxiliary, cost_beside, round_is}
+use Rattle.rob_linear.proofs.Beside.{neg_along, own_put_same, own_put_other, own_at, own_other, bound, own_inside, own_last, last_beside, to_auxiliary, cost_beside, negated_is}
 use Rattle.rob_linear.proofs.BesideTurns.{in_first}
 
 along_moved : (S : System) (own own' : ℕ → ℕ) (e : ℕ) (r : ℕ → ℤ) → ((j : ℕ) → j ≢ e → own' j ≡ own j)
@@ -106,7 +106,7 @@ module _ (P : Program) (basis : ℕ → ℕ) (q f col : ℕ) (rows begun : ℕ �
           (omega arith) (elim (cases_eq i q) [
             | inl g ↦
                 subst (λ v. IsMultipleRow (kept_of P) (own_of (kept_of P) basis) v (new v)) (sym g)
-                (round_is P basis q f rows s (new q)
+                (negated_is P basis q f rows s (new q)
                 (parallel_trans (suc (suc (suc (P.n + P.m)))) (new q) (begun q)
                 (λ k. neg_ℤ (rows q k)) v.row_at b.row_at))
             | inr d ↦ begun_row i (new i) il d (v.row_other i (omega arith) d)

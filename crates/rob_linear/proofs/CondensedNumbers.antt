@@ -28,7 +28,7 @@ entry_is m w n at near basis table own i Q h z o t c cl =
           ]
     ]
 
--- a row turned round, divided, or kept
+-- a row negated, divided, or kept
 pub entry_times : (m w n : ℕ) (at near basis : ℕ → ℕ) (table table' : ℕ → ℕ → ℤ) (own own' : ℕ → ℤ) (i : ℕ) (a b : ℤ)
     → IsPlaced m w n at near basis → ((k : ℕ) → k < w → a *ℤ table' i k ≡ b *ℤ table i k) → a *ℤ own' i ≡ b *ℤ own i
     → (c : ℕ) → c < n → a *ℤ entry_of w at table' own' i c ≡ b *ℤ entry_of w at table own i c

@@ -58,73 +58,74 @@ start_feasible P h i l =
 
 -- ---- the first pivot of the auxiliary form: the auxiliary column comes in for the row that comes first
 
--- the starting rows with row e turned round
-abbrev pub turned_round : System → ℕ → ℕ → ℕ → ℤ
-turned_round S e t k = cond (eqb t e) (neg_ℤ (S.start t k)) (S.start t k)
+-- the starting rows with row e negated
+abbrev pub negated_start : System → ℕ → ℕ → ℕ → ℤ
+negated_start S e t k = cond (eqb t e) (neg_ℤ (S.start t k)) (S.start t k)
 
-pub round_other : (S : System) (e t k : ℕ) → t ≢ e → turned_round S e t k ≡ S.start t k
-round_other S e t k d = grind (arith, nat_tests)
+pub negated_other : (S : System) (e t k : ℕ) → t ≢ e → negated_start S e t k ≡ S.start t k
+negated_other S e t k d = grind (arith, nat_tests)
 
-pub round_at : (S : System) (e k : ℕ) → turned_round S e e k ≡ neg_ℤ (S.start e k)
-round_at S e k = grind (arith, nat_tests)
+pub negated_at : (S : System) (e k : ℕ) → negated_start S e e k ≡ neg_ℤ (S.start e k)
+negated_at S e k = grind (arith, nat_tests)
 
-round_same : (S : System) (e t : ℕ) → t ≢ e → turned_round S e t ≡ S.start t
-round_same S e t d = λ i k. round_other S e t k d i
+negated_same : (S : System) (e t : ℕ) → t ≢ e → negated_start S e t ≡ S.start t
+negated_same S e t d = λ i k. negated_other S e t k d i
 
-pub round_pivotable : (S : System) (e : ℕ) → IsTagged S → e < S.m → IsPivotable S S.tag (turned_round S e) e
-round_pivotable S e g el = record {
+pub negated_pivotable : (S : System) (e : ℕ) → IsTagged S → e < S.m → IsPivotable S S.tag (negated_start S e) e
+negated_pivotable S e g el = record {
   inside = g.inside;
   last = g.last;
-  others = λ i il d. subst (λ r. RowOf S S.tag i r) (sym (round_same S e i d)) ((start_is_basis S g).rows_of i il);
+  others = λ i il d. subst (λ r. RowOf S S.tag i r) (sym (negated_same S e i d)) ((start_is_basis S g).rows_of i il);
   along = record {
     zeros = λ j jl d. let z : S.start e (S.tag j) ≡ pos 0 = g.zero e j (omega arith) jl d in
-        round_at S e (S.tag j) ∙ ap neg_ℤ z;
+        negated_at S e (S.tag j) ∙ ap neg_ℤ z;
     spanned = λ k kl.
         let a : S.start e k ≡ sum_to (suc S.m) (λ t. S.start e (S.tag t) *ℤ S.start t k) =
         (start_along S g e (omega arith)).spanned k kl in
-        round_at S e k ∙ ap neg_ℤ a
+        negated_at S e k ∙ ap neg_ℤ a
         ∙ sym (sum_neg (suc S.m) (λ t. S.start e (S.tag t) *ℤ S.start t k))
         ∙ sum_ext (suc S.m) (λ t. neg_ℤ (S.start e (S.tag t) *ℤ S.start t k))
-        (λ t. turned_round S e e (S.tag t) *ℤ S.start t k) (λ t tl.
+        (λ t. negated_start S e e (S.tag t) *ℤ S.start t k) (λ t tl.
         let x : neg_ℤ (S.start e (S.tag t) *ℤ S.start t k) ≡ neg_ℤ (S.start e (S.tag t)) *ℤ S.start t k = simp ring in
-        x ∙ ap (λ v. v *ℤ S.start t k) (sym (round_at S e (S.tag t))));
+        x ∙ ap (λ v. v *ℤ S.start t k) (sym (negated_at S e (S.tag t))));
   };
   primitive =
       λ d h. start_primitive S g e (omega arith) d
       (λ k kl. let n : unsigned_abs (neg_ℤ (S.start e k)) ≡ unsigned_abs (S.start e k) = omega (arith, ints) in
-      subst (λ v. d ∣ v) (ap unsigned_abs (round_at S e k) ∙ n) (h k kl));
+      subst (λ v. d ∣ v) (ap unsigned_abs (negated_at S e k) ∙ n) (h k kl));
 }
 
-key_round : (S : System) (e k : ℕ) → k < suc S.m → key S (turned_round S e e) k ≡ neg_ℤ (key S (S.start e) k)
-key_round S e zero l = round_at S e (right S)
-key_round S e (suc k) l = round_at S e (S.tag k)
+key_negated : (S : System) (e k : ℕ) → k < suc S.m → key S (negated_start S e e) k ≡ neg_ℤ (key S (S.start e) k)
+key_negated S e zero l = negated_at S e (right S)
+key_negated S e (suc k) l = negated_at S e (S.tag k)
 
 -- row i less row e
 others_positive : (P : Program) (own' : ℕ → ℕ) (rows' : ℕ → ℕ → ℤ) (e i : ℕ) → e < P.m → i < P.m → i ≢ e
     → ((i : ℕ) → i < P.m → ¬ (ComesBefore (auxiliary_of P) (auxiliary_row P i) (pos 1) (auxiliary_row P e) (pos 1)))
-    → IsPivot (auxiliary_of P) (auxiliary_tag P) own' (turned_round (auxiliary_of P) e) rows' e (P.n + P.m)
+    → IsPivot (auxiliary_of P) (auxiliary_tag P) own' (negated_start (auxiliary_of P) e) rows' e (P.n + P.m)
     → IsLexPositive (suc P.m) (key (auxiliary_of P) (rows' i))
 others_positive P own' rows' e i el il d first v =
     let S : System = auxiliary_of P in
     let g : IsTagged (auxiliary_of P) = auxiliary_tagged P in
-    let c : IsCombined (suc (right S)) (turned_round S e e (P.n + P.m)) (turned_round S e i)
-    (turned_round S e i (P.n + P.m)) (turned_round S e e) (rows' i) = v.row_other i (omega arith) d in
-    let pe : turned_round S e e (P.n + P.m) ≡ pos 1 = round_at S e (P.n + P.m) ∙ ap neg_ℤ (auxiliary_entry P e el) in
-    let qi : turned_round S e i (P.n + P.m) ≡ negsuc 0 = round_other S e i (P.n + P.m) d ∙ auxiliary_entry P i il in
-    let ke : (k : ℕ) → k < suc P.m → key S (turned_round S e e) k ≡ neg_ℤ (key S (S.start e) k) = key_round S e in
-    let ki : turned_round S e i ≡ S.start i = round_same S e i d in
+    let c : IsCombined (suc (right S)) (negated_start S e e (P.n + P.m)) (negated_start S e i)
+    (negated_start S e i (P.n + P.m)) (negated_start S e e) (rows' i) = v.row_other i (omega arith) d in
+    let pe : negated_start S e e (P.n + P.m) ≡ pos 1 = negated_at S e (P.n + P.m) ∙ ap neg_ℤ (auxiliary_entry P e el) in
+    let qi : negated_start S e i (P.n + P.m) ≡ negsuc 0 = negated_other S e i (P.n + P.m) d ∙ auxiliary_entry P i il in
+    let ke : (k : ℕ) → k < suc P.m → key S (negated_start S e e) k ≡ neg_ℤ (key S (S.start e) k) = key_negated S e in
+    let ki : negated_start S e i ≡ S.start i = negated_same S e i d in
     let eq : (k : ℕ) → k < suc P.m → key S (S.start i) k -ℤ key S (S.start e) k ≡ c.divisor *ℤ key S (rows' i) k =
     (λ k kl.
-    let a : c.divisor *ℤ key S (rows' i) k ≡ (turned_round S e e (P.n + P.m) *ℤ key S (turned_round S e i) k)
-    -ℤ (turned_round S e i (P.n + P.m) *ℤ key S (turned_round S e e) k) =
-    key_combined S (turned_round S e e (P.n + P.m)) (turned_round S e i (P.n + P.m)) (turned_round S e i)
-    (turned_round S e e) (rows' i) (tags_in S g) c k kl in
-    let b : (turned_round S e e (P.n + P.m) *ℤ key S (turned_round S e i) k)
-    -ℤ (turned_round S e i (P.n + P.m) *ℤ key S (turned_round S e e) k)
+    let a : c.divisor *ℤ key S (rows' i) k ≡ (negated_start S e e (P.n + P.m) *ℤ key S (negated_start S e i) k)
+    -ℤ (negated_start S e i (P.n + P.m) *ℤ key S (negated_start S e e) k) =
+    key_combined S (negated_start S e e (P.n + P.m)) (negated_start S e i (P.n + P.m)) (negated_start S e i)
+    (negated_start S e e) (rows' i) (tags_in S g) c k kl in
+    let b : (negated_start S e e (P.n + P.m) *ℤ key S (negated_start S e i) k)
+    -ℤ (negated_start S e i (P.n + P.m) *ℤ key S (negated_start S e e) k)
     ≡ (pos 1 *ℤ key S (S.start i) k) -ℤ (negsuc 0 *ℤ neg_ℤ (key S (S.start e) k)) =
-    ap (λ w. (w *ℤ key S (turned_round S e i) k) -ℤ (turned_round S e i (P.n + P.m) *ℤ key S (turned_round S e e) k)) pe
-    ∙ ap (λ w. (pos 1 *ℤ key S (turned_round S e i) k) -ℤ (w *ℤ key S (turned_round S e e) k)) qi
-    ∙ ap (λ w. (pos 1 *ℤ key S w k) -ℤ (negsuc 0 *ℤ key S (turned_round S e e) k)) ki
+    ap (λ w. (w *ℤ key S (negated_start S e i) k) -ℤ (negated_start S e i (P.n + P.m) *ℤ key S (negated_start S e e) k))
+    pe
+    ∙ ap (λ w. (pos 1 *ℤ key S (negated_start S e i) k) -ℤ (w *ℤ key S (negated_start S e e) k)) qi
+    ∙ ap (λ w. (pos 1 *ℤ key S w k) -ℤ (negsuc 0 *ℤ key S (negated_start S e e) k)) ki
     ∙ ap (λ w. (pos 1 *ℤ key S (S.start i) k) -ℤ (negsuc 0 *ℤ w)) (ke k kl) in
     let x : (pos 1 *ℤ key S (S.start i) k) -ℤ (negsuc 0 *ℤ neg_ℤ (key S (S.start e) k))
     ≡ key S (S.start i) k -ℤ key S (S.start e) k = omega (arith, ints) in
@@ -147,7 +148,7 @@ others_positive P own' rows' e i el il d first v =
 -- the row that comes first has a negative right side; after the pivot all keys are positive
 pub auxiliary_feasible : (P : Program) (own' : ℕ → ℕ) (rows' : ℕ → ℕ → ℤ) (e : ℕ) → P.b e <ℤ pos 0
     → ((i : ℕ) → i < P.m → ¬ (ComesBefore (auxiliary_of P) (auxiliary_row P i) (pos 1) (auxiliary_row P e) (pos 1)))
-    → IsPivot (auxiliary_of P) (auxiliary_tag P) own' (turned_round (auxiliary_of P) e) rows' e (P.n + P.m)
+    → IsPivot (auxiliary_of P) (auxiliary_tag P) own' (negated_start (auxiliary_of P) e) rows' e (P.n + P.m)
     → IsLexFeasible (auxiliary_of P) rows'
 auxiliary_feasible P own' rows' e neg first v i il =
     let el : e < P.m = v.row_in in
@@ -155,7 +156,7 @@ auxiliary_feasible P own' rows' e neg first v i il =
       | inl c ↦
           let r : rows' i (suc (suc (P.n + P.m))) ≡ neg_ℤ (P.b e) =
           ap (λ t. rows' t (suc (suc (P.n + P.m)))) c ∙ v.row_at (suc (suc (P.n + P.m))) (omega arith)
-          ∙ round_at (auxiliary_of P) e (suc (suc (P.n + P.m))) ∙ ap neg_ℤ (auxiliary_right P e el) in
+          ∙ negated_at (auxiliary_of P) e (suc (suc (P.n + P.m))) ∙ ap neg_ℤ (auxiliary_right P e el) in
           (0, omega arith, (λ j jl. absurd (omega arith)), omega (arith, ints))
       | inr d ↦ others_positive P own' rows' e i el il d first v
     ]

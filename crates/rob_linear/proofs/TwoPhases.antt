@@ -14,7 +14,7 @@ use Rattle.rob_linear.proofs.Solutions.{tags_in, start_along, start_primitive, s
 use Rattle.rob_linear.proofs.Pivots.{basis_pivotable, pivot_is_basis, row_of_other}
 use Rattle.rob_linear.proofs.Primitive.{pivot_exists}
 use Rattle.rob_linear.proofs.Costs.{with_objective_low, with_objective_at, basis_restarted}
-use Rattle.rob_linear.proofs.Starts.{system_tagged, auxiliary_tagged, start_feasible, turned_round, round_at, round_pivotable, auxiliary_feasible}
+use Rattle.rob_linear.proofs.Starts.{system_tagged, auxiliary_tagged, start_feasible, negated_start, negated_at, negated_pivotable, auxiliary_feasible}
 use Rattle.rob_linear.proofs.Phases.{phase_basis, phase_order}
 use Rattle.rob_linear.proofs.Turns.{own_low, own_high, basis_same, turn_exchange, turn_stands}
 use Rattle.rob_linear.proofs.Programs.{auxiliary_entry, auxiliary_tag-beyond, auxiliary_tag-slack}
@@ -87,15 +87,15 @@ pub record InFirst (P : Program) (basis : ℕ → ℕ) : Type 0 where
 
 pub start_exchange : (P : Program) (basis : ℕ → ℕ) → (s : StartsAtAuxiliary P basis)
     → IsExchange (auxiliary_of P) (auxiliary_tag P) (own_of (auxiliary_of P) basis)
-    (turned_round (auxiliary_of P) s.row) s.row (P.n + P.m)
+    (negated_start (auxiliary_of P) s.row) s.row (P.n + P.m)
 start_exchange P basis s =
     let el : s.row < P.m = s.inside in
     record {
       row_in = el;
       col_in = omega arith;
       entry =
-          let a : turned_round (auxiliary_of P) s.row s.row (P.n + P.m) ≡ neg_ℤ (auxiliary_row P s.row (P.n + P.m)) =
-          round_at (auxiliary_of P) s.row (P.n + P.m) in
+          let a : negated_start (auxiliary_of P) s.row s.row (P.n + P.m) ≡ neg_ℤ (auxiliary_row P s.row (P.n + P.m)) =
+          negated_at (auxiliary_of P) s.row (P.n + P.m) in
           let b : auxiliary_row P s.row (P.n + P.m) ≡ negsuc 0 = auxiliary_entry P s.row el in
           omega (arith, ints);
       own_at =
@@ -114,7 +114,7 @@ pub kept_start : (P : Program) (basis : ℕ → ℕ) → StartsAtAuxiliary P bas
     → RowOf (kept_of P) (own_of (kept_of P) basis) P.m (kept_row P P.m)
 kept_start P basis s =
     let v : IsExchange (auxiliary_of P) (auxiliary_tag P) (own_of (auxiliary_of P) basis)
-    (turned_round (auxiliary_of P) s.row) s.row (P.n + P.m) = start_exchange P basis s in
+    (negated_start (auxiliary_of P) s.row) s.row (P.n + P.m) = start_exchange P basis s in
     let g : IsTagged (kept_of P) = kept_tagged P in
     let om : own_of (kept_of P) basis P.m ≡ auxiliary_tag P P.m =
     own_high (kept_of P) basis P.m (omega arith) ∙ sym g.last in
@@ -131,16 +131,16 @@ kept_start P basis s =
       primitive = start_primitive (kept_of P) g P.m (omega arith);
     }
 
--- the rows that the first pivot makes, of the starting rows with the row that comes first turned round
+-- the rows that the first pivot makes, of the starting rows with the row that comes first negated
 pub auxiliary_start : (P : Program) (basis : ℕ → ℕ) (rows : ℕ → ℕ → ℤ) → (s : StartsAtAuxiliary P basis)
-    → IsPivot (auxiliary_of P) (auxiliary_tag P) (own_of (auxiliary_of P) basis) (turned_round (auxiliary_of P) s.row)
+    → IsPivot (auxiliary_of P) (auxiliary_tag P) (own_of (auxiliary_of P) basis) (negated_start (auxiliary_of P) s.row)
     rows s.row (P.n + P.m) → StandsWith (auxiliary_of P) basis rows
 auxiliary_start P basis rows s v =
     let g : IsTagged (auxiliary_of P) = auxiliary_tagged P in
     record {
       is_basis = pivot_is_basis (auxiliary_of P) (auxiliary_tag P) (own_of (auxiliary_of P) basis)
-          (turned_round (auxiliary_of P) s.row) rows s.row (P.n + P.m) (tags_in (auxiliary_of P) g)
-          (round_pivotable (auxiliary_of P) s.row g s.inside) v;
+          (negated_start (auxiliary_of P) s.row) rows s.row (P.n + P.m) (tags_in (auxiliary_of P) g)
+          (negated_pivotable (auxiliary_of P) s.row g s.inside) v;
       feasible = auxiliary_feasible P (own_of (auxiliary_of P) basis) rows s.row s.negative s.first v;
     }
 
@@ -148,10 +148,10 @@ pub first_start : (P : Program) (basis : ℕ → ℕ) → StartsAtAuxiliary P ba
 first_start P basis s =
     let v : (rows' : ℕ → ℕ → ℤ)
     × IsPivot (auxiliary_of P) (auxiliary_tag P) (own_of (auxiliary_of P) basis)
-    (turned_round (auxiliary_of P) s.row) rows' s.row (P.n + P.m) =
+    (negated_start (auxiliary_of P) s.row) rows' s.row (P.n + P.m) =
     pivot_exists (auxiliary_of P) (auxiliary_tag P) (own_of (auxiliary_of P) basis)
-    (turned_round (auxiliary_of P) s.row) s.row (P.n + P.m)
-    (round_pivotable (auxiliary_of P) s.row (auxiliary_tagged P) s.inside) (start_exchange P basis s) in
+    (negated_start (auxiliary_of P) s.row) s.row (P.n + P.m)
+    (negated_pivotable (auxiliary_of P) s.row (auxiliary_tagged P) s.inside) (start_exchange P basis s) in
     record {
       rows = v.0;
       kept = kept_row P P.m;

@@ -10,7 +10,7 @@ use Rattle.rob_linear.specs.Turns.{ComesBefore, IsPivot, own_of, TurnsTo}
 use Rattle.rob_linear.specs.Paths.{StartsAtSlacks, StartsAtAuxiliary, Last}
 use Rattle.rob_linear.proofs.Solutions.{tags_in, primitive_by_one}
 use Rattle.rob_linear.proofs.Pivots.{basis_pivotable, pivot_is_basis}
-use Rattle.rob_linear.proofs.Starts.{system_tagged, auxiliary_tagged, turned_round, round_pivotable}
+use Rattle.rob_linear.proofs.Starts.{system_tagged, auxiliary_tagged, negated_start, negated_pivotable}
 use Rattle.rob_linear.proofs.Choices.{before_not_self}
 use Rattle.rob_linear.proofs.Turns.{turn_exchange}
 use Rattle.rob_linear.proofs.TwoPhases.{slacks_stand, stands_without, start_exchange}
@@ -141,17 +141,17 @@ buying_start =
     placed zero l = refl
     placed (suc i) l = absurd (omega arith)
 
--- (1, 1, -1, 0, -1) is turned round, and taken from (0, 0, 1, 1, 0)
+-- (1, 1, -1, 0, -1) is negated, and taken from (0, 0, 1, 1, 0)
 buying_rows : ℕ → ℕ → ℤ
 buying_rows zero = at (negsuc 0 ∷ negsuc 0 ∷ pos 1 ∷ pos 0 ∷ pos 1 ∷ [])
 buying_rows (suc i) = at (pos 1 ∷ pos 1 ∷ pos 0 ∷ pos 1 ∷ negsuc 0 ∷ [])
 
 buying_pivot : IsPivot (auxiliary_of buying) (auxiliary_tag buying) (own_of (auxiliary_of buying) (λ i. 2))
-    (turned_round (auxiliary_of buying) 0) buying_rows 0 2
+    (negated_start (auxiliary_of buying) 0) buying_rows 0 2
 unfolding buying_rows buying_start
 buying_pivot = record { exchange = start_exchange buying (λ i. 2) buying_start; row_at = stays; row_other = becomes }
   where
-    stays : (k : ℕ) → k ≤ 4 → buying_rows 0 k ≡ turned_round (auxiliary_of buying) 0 0 k
+    stays : (k : ℕ) → k ≤ 4 → buying_rows 0 k ≡ negated_start (auxiliary_of buying) 0 0 k
     stays zero l = refl
     stays (suc zero) l = refl
     stays (suc (suc zero)) l = refl
@@ -160,7 +160,7 @@ buying_pivot = record { exchange = start_exchange buying (λ i. 2) buying_start;
     stays (suc (suc (suc (suc (suc k))))) l = absurd (omega arith)
 
     entries : (k : ℕ) → k < 5 → pos 1 *ℤ buying_rows 1 k
-        ≡ (pos 1 *ℤ turned_round (auxiliary_of buying) 0 1 k) -ℤ (pos 1 *ℤ turned_round (auxiliary_of buying) 0 0 k)
+        ≡ (pos 1 *ℤ negated_start (auxiliary_of buying) 0 1 k) -ℤ (pos 1 *ℤ negated_start (auxiliary_of buying) 0 0 k)
     entries zero l = refl
     entries (suc zero) l = refl
     entries (suc (suc zero)) l = refl
@@ -169,8 +169,8 @@ buying_pivot = record { exchange = start_exchange buying (λ i. 2) buying_start;
     entries (suc (suc (suc (suc (suc k))))) l = absurd (omega arith)
 
     becomes : (i : ℕ) → i ≤ 1 → i ≢ 0
-        → IsCombined 5 (turned_round (auxiliary_of buying) 0 0 2) (turned_round (auxiliary_of buying) 0 i)
-        (turned_round (auxiliary_of buying) 0 i 2) (turned_round (auxiliary_of buying) 0 0) (buying_rows i)
+        → IsCombined 5 (negated_start (auxiliary_of buying) 0 0 2) (negated_start (auxiliary_of buying) 0 i)
+        (negated_start (auxiliary_of buying) 0 i 2) (negated_start (auxiliary_of buying) 0 0) (buying_rows i)
     becomes zero l d = absurd (d refl)
     becomes (suc zero) l d =
         record {
@@ -191,9 +191,9 @@ buying_last =
       buying_rows,
       (0, omega arith, refl),
       pivot_is_basis (auxiliary_of buying) (auxiliary_tag buying) (own_of (auxiliary_of buying) (λ i. 2))
-          (turned_round (auxiliary_of buying) 0) buying_rows 0 2
+          (negated_start (auxiliary_of buying) 0) buying_rows 0 2
           (tags_in (auxiliary_of buying) (auxiliary_tagged buying))
-          (round_pivotable (auxiliary_of buying) 0 (auxiliary_tagged buying) (omega arith)) buying_pivot,
+          (negated_pivotable (auxiliary_of buying) 0 (auxiliary_tagged buying) (omega arith)) buying_pivot,
       record { feasible = feasible; no_improving = none; below = record { lt = tt } },
     )
   where

@@ -26,7 +26,7 @@ pub record EntersBeside (P : Program) (q : ℕ) (rows : Matrix) (col : ℕ) : Ty
   pub improving : rows q col <ℤ pos 0
   pub first : (k : ℕ) → k < col → pos 0 ≤ℤ rows q k
 
--- the pivot of the table: row q is turned round, and clears the entering column in the others
+-- the pivot of the table: row q is negated, and clears the entering column in the others
 pub record IsBesidePivot (P : Program) (q col : ℕ) (rows rows' : Matrix) : Type 0 where
   pub row_at : IsParallel (suc (right (kept_of P))) (rows' q) (λ k. neg_ℤ (rows q k))
   pub row_other : (i : ℕ) → i ≤ P.m → i ≢ q → IsClearedBy (suc (right (kept_of P))) col (rows i) (rows q) (rows' i)

@@ -21,7 +21,7 @@ ComesBefore S a p b q = IsLexPositive (suc S.m) (λ k. (p *ℤ key S b k) -ℤ (
 abbrev pub IsLexFeasible : System → Matrix → Type 0
 IsLexFeasible S rows = (i : ℕ) → i < S.m → IsLexPositive (suc S.m) (key S (rows i))
 
--- what a pivot at position e asks of the rows: they are those of a basis, but row e may be turned round
+-- what a pivot at position e asks of the rows: they are those of a basis, but row e may be negated
 pub record IsPivotable (S : System) (own : Columns) (rows : Matrix) (e : ℕ) : Type 0 where
   pub inside : (i : ℕ) → i < S.m → own i < S.columns
   pub last : own S.m ≡ objective S

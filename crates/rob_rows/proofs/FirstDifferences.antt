@@ -15,7 +15,7 @@ use Rattle.rob_rows.specs.Quotients.{quotients}
 use Rattle.rob_rows.proofs.Orders.{cmp_ℚ-of_pair}
 use Rattle.rob_number.specs.Lowest.{size_back}
 
--- what an ordering says of n numbers f, and of the same numbers turned round, g
+-- what an ordering says of n numbers f, and of the same numbers negated, g
 abbrev pub Tells : ℕ → (ℕ → ℤ) → (ℕ → ℤ) → Ordering → Type 0
 Tells n f g o = MatchOrdering o (IsLexPositive n f) ((k : ℕ) → k < n → f k ≡ pos 0) (IsLexPositive n g)
 

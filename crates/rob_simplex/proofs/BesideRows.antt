@@ -66,7 +66,7 @@ module _ {P : Program} {q : ℕ} {t : Table} (h : InBeside P q t) where
   pub auxiliary_free : IsFree t.columns t.basis (P.n + P.m)
   auxiliary_free = negative_free (P.n + P.m) (omega arith) h.holds.below
 
--- the position is open, and its row was turned round
+-- the position is open, and its row was negated
 module _ {P : Program} {q : ℕ} {t : Table} (h : IsOpenBeside P q t) where
   pub open_positive : pos 0 <ℤ rows_of t q (P.n + P.m)
   open_positive =

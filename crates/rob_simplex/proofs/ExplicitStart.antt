@@ -26,7 +26,7 @@ use Rattle.rob_simplex.specs.Phases.{IsOpenBeside}
 use Rattle.rob_simplex.specs.Explicit.{InExplicit, IsPrepared}
 use Rattle.rob_simplex.proofs.Prepared.{cleared_same, row_of_same, wide_same}
 use Rattle.rob_simplex.proofs.PivotLemmas.{set_twice, zero_stays, free_opened}
-use Rattle.rob_simplex.proofs.RoundRows.{set_is}
+use Rattle.rob_simplex.proofs.NegatedRows.{set_is}
 use Rattle.rob_simplex.proofs.BesideRows.{auxiliary_free, open_positive}
 use Rattle.rob_simplex.proofs.SpareColumns.{wide_cleared, wide_primitive, wide_entry}
 

@@ -27,7 +27,7 @@ use Rattle.rob_linear.proofs.TwoPhases.{kept_tagged}
 use Rattle.rob_simplex.specs.Dictionaries.{Table, positions, width_of, columns_of, spare_column, shape, rows_of, IsFree, IsClosed, IsPivoted, IsBegunPivot, FirstNegative}
 use Rattle.rob_simplex.specs.Phases.{InBeside, HasLeft, IsOpenBeside, rank_left_beside, turns_left_beside}
 use Rattle.rob_simplex.proofs.BesideRows.{size_is, q_low, q_in, negative_free}
-use Rattle.rob_simplex.proofs.RoundRows.{cleared_round, set_is}
+use Rattle.rob_simplex.proofs.NegatedRows.{cleared_negated, set_is}
 use Rattle.rob_simplex.proofs.Ranks.{IsSmall, falls}
 
 module _ {P : Program} {q : ℕ} {t : Table} (h : InBeside P q t) where
@@ -47,7 +47,7 @@ module _ {P : Program} {q : ℕ} {t : Table} (h : InBeside P q t) where
     pub column_not_spare : column ≢ spare_column t.columns (positions t)
     column_not_spare e = absurd (omega (arith, size_is h, low))
 
-    -- ---- row q turned round
+    -- ---- row q negated
     module _ (r : Table) (rb : r.basis ≡ t.basis) (rn : r.columns ≡ t.columns)
         (rr : (c : ℕ) → rows_of r q c ≡ neg_ℤ (rows_of t q c))
         (ro : (i c : ℕ) → i ≤ positions t → i ≢ q → rows_of r i c ≡ rows_of t i c) where
@@ -57,21 +57,21 @@ module _ {P : Program} {q : ℕ} {t : Table} (h : InBeside P q t) where
       width_is : width_of r ≡ suc (suc (suc (suc (P.n + P.m))))
       width_is = omega (arith, size_is h, rm, rn)
 
-      pub round_free : IsFree r.columns r.basis column
-      round_free =
+      pub negated_free : IsFree r.columns r.basis column
+      negated_free =
           subst (λ n. IsFree n r.basis column) (sym rn)
           (subst (λ (b : List ℕ). IsFree t.columns b column) (sym rb) column_free)
 
-      pub round_not_spare : column ≢ spare_column r.columns (positions r)
-      round_not_spare e = absurd (omega (arith, size_is h, low, rm, rn))
+      pub negated_not_spare : column ≢ spare_column r.columns (positions r)
+      negated_not_spare e = absurd (omega (arith, size_is h, low, rm, rn))
 
-      pub round_positive : pos 0 <ℤ rows_of r q column
-      round_positive =
+      pub negated_positive : pos 0 <ℤ rows_of r q column
+      negated_positive =
           subst (λ z. pos 0 <ℤ z) (sym (rr column))
           (let n : rows_of t q column <ℤ pos 0 = first.negative in omega (arith, ints))
 
-      pub round_closed : IsClosed r
-      round_closed =
+      pub negated_closed : IsClosed r
+      negated_closed =
           let e : spare_column r.columns (positions r) ≡ spare_column t.columns (positions t) = omega (arith, rm, rn) in
           record {
             free = λ i l x. h.closed.free i (omega (arith, rm)) (ap (λ (b : List ℕ). columns_of b i) (sym rb) ∙ x ∙ e);
@@ -85,9 +85,9 @@ module _ {P : Program} {q : ℕ} {t : Table} (h : InBeside P q t) where
             | inr d ↦ ro i (spare_column t.columns (positions t)) l d ∙ h.closed.zero i l
           ]
 
-      row_round : (new : ℕ → ℤ) → IsParallel (width_of r) new (rows_of r q)
+      row_negated : (new : ℕ → ℤ) → IsParallel (width_of r) new (rows_of r q)
           → IsParallel (suc (suc (suc (P.n + P.m)))) new (λ k. neg_ℤ (rows_of t q k))
-      row_round new p = record {
+      row_negated new p = record {
         p = p.p;
         q = p.q;
         p_positive = p.p_positive;
@@ -95,18 +95,18 @@ module _ {P : Program} {q : ℕ} {t : Table} (h : InBeside P q t) where
         same = λ k l. p.same k (omega (arith, width_is)) ∙ ap (λ z. p.q *ℤ z) (rr k);
       }
 
-      other_round : (i : ℕ) (new : ℕ → ℤ) → i ≤ P.m → i ≢ q
+      other_negated : (i : ℕ) (new : ℕ → ℤ) → i ≤ P.m → i ≢ q
           → IsClearedBy (width_of r) column (rows_of r i) (rows_of r q) new
           → IsClearedBy (suc (suc (suc (P.n + P.m)))) column (rows_of t i) (rows_of t q) new
-      other_round i new il d c =
-          cleared_round (width_of r) (suc (suc (suc (P.n + P.m)))) column (rows_of r i) (rows_of t i) (rows_of r q)
+      other_negated i new il d c =
+          cleared_negated (width_of r) (suc (suc (suc (P.n + P.m)))) column (rows_of r i) (rows_of t i) (rows_of r q)
           (rows_of t q) new (omega (arith, width_is)) (λ k. ro i k (omega (arith, h.rows_are)) d) rr c
 
       -- a pivot that was begun
       pub begun_beside : (t' : Table) → IsBegunPivot r t' q column → IsBegun P q column (rows_of t) (rows_of t')
       begun_beside t' b = record {
         inside = low;
-        row_at = row_round (rows_of t' q) b.row_at;
+        row_at = row_negated (rows_of t' q) b.row_at;
         row_other = λ i il d. elim (b.row_other i (omega (arith, rm, h.rows_are)) d) [
           | inl s ↦ inl (record {
             p = pos 1;
@@ -117,7 +117,7 @@ module _ {P : Program} {q : ℕ} {t : Table} (h : InBeside P q t) where
                 λ k l. ap (λ z. pos 1 *ℤ z)
                 (sym (s k (omega (arith, width_is)) ∙ ro i k (omega (arith, h.rows_are)) d));
           })
-          | inr c ↦ inr (other_round i (rows_of t' i) il d c)
+          | inr c ↦ inr (other_negated i (rows_of t' i) il d c)
         ];
       }
 
@@ -139,8 +139,8 @@ module _ {P : Program} {q : ℕ} {t : Table} (h : InBeside P q t) where
           (en : t'.columns ≡ r.columns) where
         beside_pivot : IsBesidePivot P q column (rows_of t) (rows_of t')
         beside_pivot = record {
-          row_at = row_round (rows_of t' q) p.row_at;
-          row_other = λ i il d. other_round i (rows_of t' i) il d (p.row_other i (omega (arith, rm, h.rows_are)) d);
+          row_at = row_negated (rows_of t' q) p.row_at;
+          row_other = λ i il d. other_negated i (rows_of t' i) il d (p.row_other i (omega (arith, rm, h.rows_are)) d);
         }
 
         pub rows_after : positions t' ≡ P.m

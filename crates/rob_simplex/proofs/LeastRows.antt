@@ -15,7 +15,7 @@ use Rattle.rob_linear.proofs.Choices.{before_not_self}
 use Rattle.rob_simplex.specs.Dictionaries.{shape, IsLower, MayBeLeast, Decided}
 use Rattle.rob_simplex.proofs.RatioLemmas.{lex_decided, lex_none}
 
--- ---- a number turned round
+-- ---- a number negated
 pub negative_of : (z : ℤ) → pos 0 <ℤ neg_ℤ z → z <ℤ pos 0
 negative_of z h = omega (arith, ints)
 

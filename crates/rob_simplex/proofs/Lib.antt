@@ -50,6 +50,6 @@ pub mod BegunWork
 pub mod TellLemmas
 pub mod ReadRows
 pub mod SpareColumns
-pub mod RoundRows
+pub mod NegatedRows
 pub mod Ranks
 pub mod BesideRows

@@ -48,7 +48,7 @@ read_negated w places i r r' h c = elim (cases_lt (places c) w) [
   ]
 ]
 
--- ---- a row turned round, under its old bound
+-- ---- a row negated, under its old bound
 pub negated_bounds : (limit width : ℕ) (rows new : List ℤ) (bounds : List ℕ) (i : ℕ) → HasBounds limit width rows bounds
     → length new ≡ length rows → ((k : ℕ) → k < width → row_at new width i k ≡ neg_ℤ (row_at rows width i k))
     → ((j k : ℕ) → j ≢ i → k < width → row_at new width j k ≡ row_at rows width j k) → HasBounds limit width new bounds

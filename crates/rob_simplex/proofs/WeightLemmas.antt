@@ -29,7 +29,7 @@ use Rattle.rob_simplex.specs.declared.first_phase.FirstEnding.TheVariants.{Infea
 use Rattle.rob_simplex.specs.Dictionaries.{Table, positions, columns_of, rows_of, IsFree}
 use Rattle.rob_simplex.specs.Explicit.{EndsAtRow, EndsExplicit, FirstEnds}
 use Rattle.rob_simplex.specs.PathEnds.{AreWeights}
-use Rattle.rob_simplex.proofs.RoundRows.{set_is}
+use Rattle.rob_simplex.proofs.NegatedRows.{set_is}
 use Rattle.rob_simplex.proofs.BesideRows.{auxiliary_free}
 
 -- a list whose entries are within the limit

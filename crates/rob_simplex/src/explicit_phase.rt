@@ -48,7 +48,7 @@ impl<E: Entry> Dictionary<E> {
         }
     }
 
-    /// Goes over to the explicit form, where position q is open and its row has been turned round: the kept row stands
+    /// Goes over to the explicit form, where position q is open and its row has been negated: the kept row stands
     /// behind the objective's, and the auxiliary column comes in at q. An `Err` names a row that is wide at the basis
     /// that is then told.
     fn bring_in<L: Ledger>(&mut self, q: usize, ledger: &mut L) -> Result<(), usize>

@@ -116,7 +116,7 @@ impl<E: Entry> Dictionary<E> {
         ensures counted { CountsRows L.ops L.wides ledger.old ledger.new }
     {
         let m = self.basis.len();
-        self.turn_round(q);
+        self.negate(q);
         match self.pivot_or_open(q, column, m + 1, ledger) {
             Ok(()) => match self.least() {
                 None => Ok(false),

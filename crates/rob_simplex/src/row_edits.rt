@@ -1,4 +1,4 @@
-//! A row of a table that is divided by what is common to its entries, or turned round.
+//! A row of a table that is divided by what is common to its entries, or negated.
 
 ghost use Rattle.std.specs.Prelude.{◌≡◌, ◌≢◌, ◌<◌, ◌≤◌, ◌<ℤ◌, ◌*ℤ◌, ℕ, ℤ, pos, neg_ℤ, length};
 ghost use Rattle.rob_simplex.specs.Tables.{row_at, HasBounds, IsUnchangedBut};
@@ -36,7 +36,7 @@ fn reduce_unless_one<E: Entry>(rows: &mut Cells<E>, bounds: &mut [u128], i: usiz
     reduce_row(rows, bounds, i, width);
 }
 
-/// Turns row i round.
+/// Negates row i.
 fn negate_row<E: Entry>(rows: &mut Cells<E>, bounds: &[u128], i: usize, width: usize)
     requires bounded { HasBounds E.top width rows.old bounds.now }
     requires inside { i < length bounds.now }
@@ -63,8 +63,8 @@ impl<E: Entry> Dictionary<E> {
         reduce_unless_one(&mut self.rows, self.bounds.as_mut_slice(), row, width);
     }
 
-    /// Turns a row round.
-    pub fn turn_round(&mut self, row: usize)
+    /// Negates a row.
+    pub fn negate(&mut self, row: usize)
         requires row_in { row ≤ positions self.old }
         ensures row { (c : ℕ) → rows_of self.new row c ≡ neg_ℤ (rows_of self.old row c) }
         ensures others { (i c : ℕ) → i ≤ positions self.old → i ≢ row → rows_of self.new i c ≡ rows_of self.old i c }

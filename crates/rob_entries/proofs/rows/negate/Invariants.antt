@@ -1,4 +1,4 @@
--- The entries before k are turned round, and the others are as they were.
+-- The entries before k are negated, and the others are as they were.
 use Rattle.std.proofs.Common.{◌≡◌, ℕ, ◌<◌, ◌≤◌, neg_ℤ, map}
 use Rattle.rob_linear.specs.Vectors.{at}
 use Rattle.rob_entries.proofs.rows.negate.Given as goal

@@ -3,7 +3,7 @@ use Rattle.rob_simplex.specs.Dictionaries.{Table, positions}
 use Rattle.rob_simplex.proofs.OwnEntries.{keeps_rows, keeps_positive, beside_positive}
 use Rattle.rob_simplex.proofs.Ranks.{IsSmall}
 use Rattle.rob_simplex.proofs.EntryLemmas.{small_entries}
-use Rattle.rob_simplex.proofs.FirstPhase.{round_free, round_closed, round_positive, leaves_beside, stays_beside, falls_beside, open_beside}
+use Rattle.rob_simplex.proofs.FirstPhase.{negated_free, negated_closed, negated_positive, leaves_beside, stays_beside, falls_beside, open_beside}
 use Rattle.rob_simplex.proofs.Sizes.{sized_after}
 use Rattle.rob_simplex.proofs.dictionary.Dictionary.turn_beside.Goals as goal
 
@@ -12,20 +12,20 @@ pivot_or_open-requires g c =
     let t = c.args.self.now in
     let h = c.requires.stands.1 in
     let first = c.requires.first in
-    let t1 = c.turn_round.new.self in
-    let r = c.turn_round.ensures in
+    let t1 = c.negate.new.self in
+    let r = c.negate.ensures in
     let em : c.len-m.result ≡ positions t =
     c.len-m.ensures ∙ c.self.inside.basis.ok.0 ∙ ap (λ (t : Table). positions t) c.self.view_is in
     let e = r.sized.positions in
     record {
       ready = record {
         row_in = omega (arith, h.holds.inside, h.rows_are, e);
-        free = round_free h first t1 r.basis r.sized.columns r.row r.others;
+        free = negated_free h first t1 r.basis r.sized.columns r.row r.others;
         apart = λ x. absurd (omega (arith, x, first.inside, r.sized.columns, e));
-        closed = round_closed h first t1 r.basis r.sized.columns r.row r.others;
+        closed = negated_closed h first t1 r.basis r.sized.columns r.row r.others;
         all = omega (arith, em, e);
         below = omega (arith, em, e);
-        positive = round_positive h first t1 r.basis r.sized.columns r.row r.others;
+        positive = negated_positive h first t1 r.basis r.sized.columns r.row r.others;
         own = keeps_rows (c.len-m.result + 1) c.args.q t t1 r.basis r.sized.columns r.others r.kept
             (keeps_positive (c.len-m.result + 1) c.args.q t (omega (arith, em))
             (beside_positive c.requires.stands.0 c.args.q t h));
@@ -34,16 +34,16 @@ pivot_or_open-requires g c =
 
 pub returns-in-None-clause-turned : goal.returns-in-None-clause-turned
 returns-in-None-clause-turned g c P h =
-    let r = c.turn_round.ensures in
+    let r = c.negate.ensures in
     let p = c.in-Ok.ensures.pivoted in
-    leaves_beside h c.requires.first c.turn_round.new.self r.basis r.sized.columns r.row r.others
+    leaves_beside h c.requires.first c.negate.new.self r.basis r.sized.columns r.row r.others
     c.pivot_or_open.new.self p.pivoted p.closed p.basis c.pivot_or_open.ensures.sized.columns
     c.in-None.ensures.least
 
 pub returns-in-Some-clause-turned : goal.returns-in-Some-clause-turned
 returns-in-Some-clause-turned g c P h =
-    let t1 = c.turn_round.new.self in
-    let r = c.turn_round.ensures in
+    let t1 = c.negate.new.self in
+    let r = c.negate.ensures in
     let p = c.in-Ok.ensures.pivoted in
     let s = c.pivot_or_open.ensures.sized in
     let x = c.exchange.ensures in
@@ -59,16 +59,16 @@ returns-in-Some-clause-turned g c P h =
 
 pub returns-in-Err-clause-opened : goal.returns-in-Err-clause-opened
 returns-in-Err-clause-opened g c P h =
-    let r = c.turn_round.ensures in
-    open_beside h c.requires.first c.turn_round.new.self r.basis r.sized.columns r.row r.others c.pivot_or_open.new.self
+    let r = c.negate.ensures in
+    open_beside h c.requires.first c.negate.new.self r.basis r.sized.columns r.row r.others c.pivot_or_open.new.self
     c.in-Err.ensures.begun c.pivot_or_open.ensures.sized.columns
 
 pub returns-in-None-clause-sized : goal.returns-in-None-clause-sized
-returns-in-None-clause-sized g c = sized_after c.turn_round.ensures.sized c.pivot_or_open.ensures.sized
+returns-in-None-clause-sized g c = sized_after c.negate.ensures.sized c.pivot_or_open.ensures.sized
 
 pub returns-in-Some-clause-sized : goal.returns-in-Some-clause-sized
 returns-in-Some-clause-sized g c =
-    sized_after c.turn_round.ensures.sized (sized_after c.pivot_or_open.ensures.sized c.exchange.ensures.sized)
+    sized_after c.negate.ensures.sized (sized_after c.pivot_or_open.ensures.sized c.exchange.ensures.sized)
 
 pub returns-in-Err-clause-sized : goal.returns-in-Err-clause-sized
-returns-in-Err-clause-sized g c = sized_after c.turn_round.ensures.sized c.pivot_or_open.ensures.sized
+returns-in-Err-clause-sized g c = sized_after c.negate.ensures.sized c.pivot_or_open.ensures.sized

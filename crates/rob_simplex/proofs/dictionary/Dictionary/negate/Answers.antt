@@ -1,5 +1,5 @@
 use Rattle.rob_simplex.proofs.Sizes.{sized_view}
-use Rattle.rob_simplex.proofs.dictionary.Dictionary.turn_round.Goals as goal
+use Rattle.rob_simplex.proofs.dictionary.Dictionary.negate.Goals as goal
 
 pub returns-clause-sized : goal.returns-clause-sized
 returns-clause-sized g c =

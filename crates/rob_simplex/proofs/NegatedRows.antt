@@ -1,4 +1,4 @@
--- A row that is turned round clears as before; a column that is written to a basis.
+-- A row that is negated clears as before; a column that is written to a basis.
 use Rattle.std.proofs.Common.{◌≡◌, ℕ, ◌<◌, ◌≤◌, sym, ap, ◌∙◌, arith, inl, inr, List, length, set}
 use Rattle.std.proofs.lemmas.Bool.{cases_eq}
 use Rattle.std.proofs.lemmas.Int.{ints}
@@ -9,22 +9,23 @@ use Rattle.rob_linear.specs.Multiples.{IsClearedBy, put_at}
 use Rattle.rob_linear.proofs.Beside.{put_same, put_other}
 use Rattle.rob_simplex.specs.Dictionaries.{columns_of}
 
--- a row that clears may be turned round
-round_ring : (D p q x a b b' : ℤ) → b' ≡ neg_ℤ b → D *ℤ x ≡ (p *ℤ a) -ℤ (q *ℤ b') → D *ℤ x ≡ (p *ℤ a) -ℤ (neg_ℤ q *ℤ b)
-round_ring D p q x a b b' e h =
+-- a row that clears may be negated
+negated_ring : (D p q x a b b' : ℤ) → b' ≡ neg_ℤ b → D *ℤ x ≡ (p *ℤ a) -ℤ (q *ℤ b')
+    → D *ℤ x ≡ (p *ℤ a) -ℤ (neg_ℤ q *ℤ b)
+negated_ring D p q x a b b' e h =
     h ∙ ap (λ z. (p *ℤ a) -ℤ (q *ℤ z)) e
     ∙ ap (λ z. (p *ℤ a) -ℤ z) (let r : q *ℤ neg_ℤ b ≡ neg_ℤ q *ℤ b = simp ring (omega (arith, ints)) in r)
 
-pub cleared_round : (n n' column : ℕ) (low low' top top' new : ℕ → ℤ) → n' ≤ n → ((k : ℕ) → low k ≡ low' k)
+pub cleared_negated : (n n' column : ℕ) (low low' top top' new : ℕ → ℤ) → n' ≤ n → ((k : ℕ) → low k ≡ low' k)
     → ((k : ℕ) → top k ≡ neg_ℤ (top' k)) → IsClearedBy n column low top new → IsClearedBy n' column low' top' new
-cleared_round n n' column low low' top top' new l el et c = record {
+cleared_negated n n' column low low' top top' new l el et c = record {
   divisor = c.divisor;
   p = c.p;
   q = neg_ℤ c.q;
   divides = c.divides;
   positive = c.positive;
   entries =
-      λ k kl. round_ring c.divisor c.p c.q (new k) (low' k) (top' k) (top k) (et k)
+      λ k kl. negated_ring c.divisor c.p c.q (new k) (low' k) (top' k) (top k) (et k)
       (c.entries k (omega arith) ∙ ap (λ z. (c.p *ℤ z) -ℤ (c.q *ℤ top k)) (el k));
   cleared = c.cleared;
 }
