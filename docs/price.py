@@ -42,8 +42,8 @@ def drawn(found):
         yield f'<text x="{x}" y="{y - 8}" text-anchor="middle">{value}</text>'
         yield f'<text x="{x}" y="{HEIGHT - MARGIN + 26}" text-anchor="middle">{budget}</text>'
     yield f'<text x="{WIDTH // 2}" y="{HEIGHT - 6}" text-anchor="middle">budget</text>'
-    turned = f'transform="rotate(-90 14 {HEIGHT // 2})"'
-    yield f'<text x="14" y="{HEIGHT // 2}" text-anchor="middle" {turned}>optimal value</text>'
+    rotated = f'transform="rotate(-90 14 {HEIGHT // 2})"'
+    yield f'<text x="14" y="{HEIGHT // 2}" text-anchor="middle" {rotated}>optimal value</text>'
     yield "</svg>"
 
 

@@ -58,14 +58,14 @@ def hull(points):
     for ordered in (rising, rising[::-1]):
         chain = []
         for point in ordered:
-            while len(chain) > 1 and turn(chain[-2], chain[-1], point) <= 0:
+            while len(chain) > 1 and orientation(chain[-2], chain[-1], point) <= 0:
                 chain.pop()
             chain.append(point)
         outline += chain[:-1]
     return outline
 
 
-def turn(a, b, c):
+def orientation(a, b, c):
     """Above 0 where the way from a by b to c turns left."""
     return (b[0] - a[0]) * (c[1] - a[1]) - (b[1] - a[1]) * (c[0] - a[0])
 

@@ -15,9 +15,9 @@ use Rattle.rob_entries.specs.Updates.{AreListed}
 use Rattle.rob_entries.proofs.WrittenRows.{part, stored, row_at, stored_here, stored_other, stored_length}
 
 -- the negation of a test
-pub turned : {X : Type 0} (test : Bool) → (IsTrue test ↔ X) → (IsFalse (not test) ↔ X)
-turned true h = (λ e. h.0 refl, λ x. refl)
-turned false h = (λ e. let f : true ≡ false = e in cc, λ x. let f : false ≡ true = h.1 x in cc)
+pub negated_test : {X : Type 0} (test : Bool) → (IsTrue test ↔ X) → (IsFalse (not test) ↔ X)
+negated_test true h = (λ e. h.0 refl, λ x. refl)
+negated_test false h = (λ e. let f : true ≡ false = e in cc, λ x. let f : false ≡ true = h.1 x in cc)
 
 -- ---- marks that are written
 -- a mark that is off behind a write is the one that was written, or it was off

@@ -134,10 +134,10 @@ module _ (u z : List Fraction) where
       ∙ Q.ℚ-mul_comm (along (λ k. g k 0) (1ℚ ∷ u)) (along (f 0) (1ℚ ∷ z))
       ∙ ap₂ ◌*ℚ◌ (sym (no_params_at f u (1ℚ ∷ z) np)) (sym (no_columns_at g (1ℚ ∷ u) z nc))
 
-  turned : (f g : Table) →
+  times_at-comm : (f g : Table) →
       table_at (table_times g f) (1ℚ ∷ u) (1ℚ ∷ z) ≡ table_at g (1ℚ ∷ u) (1ℚ ∷ z) *ℚ table_at f (1ℚ ∷ u) (1ℚ ∷ z) →
       table_at (table_times f g) (1ℚ ∷ u) (1ℚ ∷ z) ≡ table_at f (1ℚ ∷ u) (1ℚ ∷ z) *ℚ table_at g (1ℚ ∷ u) (1ℚ ∷ z)
-  turned f g e =
+  times_at-comm f g e =
       table_at-same (table_times f g) (table_times g f) (1ℚ ∷ u) (1ℚ ∷ z) (times_comm f g)
       ∙ e ∙ Q.ℚ-mul_comm (table_at g (1ℚ ∷ u) (1ℚ ∷ z)) (table_at f (1ℚ ∷ u) (1ℚ ∷ z))
 
@@ -148,9 +148,9 @@ module _ (u z : List Fraction) where
       (1ℚ ∷ z) *ℚ table_at g (1ℚ ∷ u) (1ℚ ∷ z)
   times_at f g zero zero c d pf cf pg cg h k = times_at-constant f g (pf refl) (cf refl)
   times_at f g zero (suc b) c d pf cf pg cg h k = times_at-apart f g (pf refl) (cg (omega arith))
-  times_at f g (suc a) zero c d pf cf pg cg h k = turned f g (times_at-apart g f (pg (omega arith)) (cf refl))
+  times_at f g (suc a) zero c d pf cf pg cg h k = times_at-comm f g (times_at-apart g f (pg (omega arith)) (cf refl))
   times_at f g (suc a) (suc b) c d pf cf pg cg h k =
-      turned f g (times_at-constant g f (pg (omega arith)) (cg (omega arith)))
+      times_at-comm f g (times_at-constant g f (pg (omega arith)) (cg (omega arith)))
 
 pub signed-zero : (is_minus : Bool) → signed is_minus 0ℚ ≡ 0ℚ
 signed-zero true = Q.ring [] (minus (lit (pos 0))) (lit (pos 0)) refl

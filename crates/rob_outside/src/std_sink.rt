@@ -73,7 +73,7 @@ impl<'a, R: Print> Sink for StdSink<'a, R> {
     }
 }
 
-/// Writes until the piece is used up, and notes the bytes that each write took. Each turn writes a byte at least.
+/// Writes until the piece is used up, and notes the bytes that each write took. Each time a byte at least is written.
 fn write_whole<W: Write>(writer: &mut W, piece: &[u8], taken: &mut WriteNote) -> Result<(), SinkErr>
     // Where the writer's bytes are known: the piece came behind them, or at an error a prefix of it.
     ensures took { TakesKnown (W.contents writer.old) (W.contents writer.new) piece.now result }

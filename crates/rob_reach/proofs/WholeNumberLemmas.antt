@@ -87,22 +87,22 @@ below_floor_next x =
 pub at_most_ceiling : (x : Fraction) → x ≤ℚ of_int (ceiling x)
 at_most_ceiling x =
     is_le_in (is_self x) (is_int (ceiling x))
-    (turned x.num (rounded_down (neg_ℤ x.num) x.den) (pos x.den) (rounded_low (neg_ℤ x.num) x.den (den_pos x)))
+    (negated x.num (rounded_down (neg_ℤ x.num) x.den) (pos x.den) (rounded_low (neg_ℤ x.num) x.den (den_pos x)))
   where
-    turned : (n f d : ℤ) → (f *ℤ d) ≤ℤ neg_ℤ n → (n *ℤ pos 1) ≤ℤ (neg_ℤ f *ℤ d)
-    turned n f d h = rw (Z.neg-mul, Z.mul-one) (omega (arith, ints))
+    negated : (n f d : ℤ) → (f *ℤ d) ≤ℤ neg_ℤ n → (n *ℤ pos 1) ≤ℤ (neg_ℤ f *ℤ d)
+    negated n f d h = rw (Z.neg-mul, Z.mul-one) (omega (arith, ints))
 
 -- the ceiling is at most each whole number that the number is at most
 pub ceiling_least : (z : ℤ) (x : Fraction) → x ≤ℚ of_int z → ceiling x ≤ℤ z
 ceiling_least z x h =
-    turned z (rounded_down (neg_ℤ x.num) x.den)
+    negated z (rounded_down (neg_ℤ x.num) x.den)
     (Z.cancel_lt (neg_ℤ z) (rounded_down (neg_ℤ x.num) x.den +ℤ pos 1) (pos x.den)
     (Z.le_of_lt_z (pos 0) (pos x.den) (pos_lt x.den (den_pos x)))
     (below x.num z (pos x.den) ((rounded_down (neg_ℤ x.num) x.den +ℤ pos 1) *ℤ pos x.den)
     (is_le_out (is_self x) (is_int z) h) (rounded_high (neg_ℤ x.num) x.den (den_pos x))))
   where
-    turned : (z f : ℤ) → neg_ℤ z <ℤ (f +ℤ pos 1) → neg_ℤ f ≤ℤ z
-    turned z f h = omega (arith, ints)
+    negated : (z f : ℤ) → neg_ℤ z <ℤ (f +ℤ pos 1) → neg_ℤ f ≤ℤ z
+    negated z f h = omega (arith, ints)
 
     below : (n z d p : ℤ) → (n *ℤ pos 1) ≤ℤ (z *ℤ d) → neg_ℤ n <ℤ p → (neg_ℤ z *ℤ d) <ℤ p
     below n z d p h k =

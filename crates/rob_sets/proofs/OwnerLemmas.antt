@@ -77,13 +77,13 @@ module _ (f g : Table) where
       ((lit (pos 0) :* v0 :+ lit (pos 0) :* v1) :+ (v2 :+ v3 :* lit (pos 0))) v2 refl)
 
   -- the parameters to the first, the columns to the second
-  by_turn : HasNoParameters g → HasNoColumns f → (k j : ℕ) → table_times f g k j ≡ f k 0 *ℚ g 0 j
-  by_turn np nc zero zero = refl
-  by_turn np nc (suc k) zero =
+  by_order : HasNoParameters g → HasNoColumns f → (k j : ℕ) → table_times f g k j ≡ f k 0 *ℚ g 0 j
+  by_order np nc zero zero = refl
+  by_order np nc (suc k) zero =
       rw (np k 0) (Q.ring (f 0 0 ∷ (f (suc k) 0 *ℚ g 0 0) ∷ []) (v1 :+ v0 :* lit (pos 0)) v1 refl)
-  by_turn np nc zero (suc j) =
+  by_order np nc zero (suc j) =
       rw (nc 0 j) (Q.ring (g 0 0 ∷ (f 0 0 *ℚ g 0 (suc j)) ∷ []) (lit (pos 0) :* v0 :+ v1) v1 refl)
-  by_turn np nc (suc k) (suc j) =
+  by_order np nc (suc k) (suc j) =
       rw (nc (suc k) j, nc 0 j, np k (suc j))
       (Q.ring (g 0 0 ∷ (f (suc k) 0 *ℚ g 0 (suc j)) ∷ g (suc k) 0 ∷ f 0 0 ∷ [])
       ((lit (pos 0) :* v0 :+ v1) :+ (lit (pos 0) :* v2 :+ v3 :* lit (pos 0))) v1 refl)
@@ -95,7 +95,7 @@ module _ (f g : Table) where
       by : (p c : Bool) → Lacks p (HasNoParameters f) (HasNoParameters g) → Lacks c (HasNoColumns f) (HasNoColumns g)
           → table_times f g k j ≡ f (sel p k) (sel c j) *ℚ g (sel (not p) k) (sel (not c) j)
       by true true np nc = by_first np nc k j
-      by true false np nc = by_turn np nc k j
+      by true false np nc = by_order np nc k j
       by false true np nc = by_both np nc k j
       by false false np nc = by_second np nc k j
 

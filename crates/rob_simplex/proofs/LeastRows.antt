@@ -78,8 +78,8 @@ module _ (n m : ℕ) (rows : Matrix) (column : ℕ) where
   least_begins None h = λ j l s. absurd (omega arith)
   least_begins (Some e) h = (h.0, h.1.0, h.1.1, (λ j l s. absurd (omega arith)))
 
-  turned : (j : ℕ) → rows j column <ℤ pos 0 → pos 0 <ℤ neg_ℤ (rows j column)
-  turned j b = omega (arith, ints)
+  negated : (j : ℕ) → rows j column <ℤ pos 0 → pos 0 <ℤ neg_ℤ (rows j column)
+  negated j b = omega (arith, ints)
 
   pub least_takes : (k i : ℕ) (best : Option ℕ) → i + (k + 1) ≡ m → IsLeastSoFar k best → IsLower n m rows column i best
       → IsLeastSoFar (k + 1) (Some i)
@@ -104,7 +104,7 @@ module _ (n m : ℕ) (rows : Matrix) (column : ℕ) where
           (subst (λ v. ComesBefore (shape n m) (rows v) (neg_ℤ (rows v column)) (rows i) (neg_ℤ (rows i column))) c w))
       | inr d ↦ (λ w. f.3 j jl (omega arith) b neg
           (before_trans (shape n m) (rows j) (rows i) (rows e) (neg_ℤ (rows j column)) (neg_ℤ (rows i column))
-          (neg_ℤ (rows e column)) (turned j b) (turned i g.0) (turned e f.1) w g.1))
+          (neg_ℤ (rows e column)) (negated j b) (negated i g.0) (negated e f.1) w g.1))
     ]),
   )
 

@@ -1,4 +1,4 @@
--- Loops that turn the items of a list into those of another.
+-- Loops that make of the items of a list those of another.
 use Rattle.std.proofs.Common.{◌≡◌, ℕ, ◌+◌, ◌<◌, ◌≤◌, List, [], ◌∷◌, ◌++◌, map, length, get_or, drop, refl, ap, sym, ◌∙◌, subst, append_assoc, append-nil, arith, false}
 use Rattle.std.specs.Prelude.{Option, Some, None, slice_get, Vec, zero, suc}
 use Rattle.std.specs.declared.alloc.Global.{Global}

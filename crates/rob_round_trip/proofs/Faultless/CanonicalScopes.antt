@@ -123,16 +123,17 @@ rows_last {A = A} p r v a d =
     let first_behind = apart_right p r (v ++ a) first in
     distinct_append p (v ++ (a ++ r)) (distinct_left p rest d)
     (distinct_append v (a ++ r) (distinct_left v a f)
-    (distinct_append a r (distinct_right v a f) (distinct_left r (v ++ a) e) (turned r a (apart_right r v a others)))
-    (apart_append v a r (distinct_apart v a f) (turned r v (apart_left r v a others))))
+    (distinct_append a r (distinct_right v a f) (distinct_left r (v ++ a) e)
+    (apart_exchanged r a (apart_right r v a others)))
+    (apart_append v a r (distinct_apart v a f) (apart_exchanged r v (apart_left r v a others))))
     (apart_append p v (a ++ r) (apart_left p v a first_behind)
     (apart_append p a r (apart_right p v a first_behind) (apart_left p r (v ++ a) first)))
   where
-    turned : (xs ys : List A) → Apart xs ys → Apart ys xs
-    turned xs [] h = tt
-    turned xs (y ∷ ys) h = (
+    apart_exchanged : (xs ys : List A) → Apart xs ys → Apart ys xs
+    apart_exchanged xs [] h = tt
+    apart_exchanged xs (y ∷ ys) h = (
       each_map (λ x. Each (λ z. x ≢ z) (y ∷ ys)) (λ x. y ≢ x) (λ x k e. k.0 (sym e)) xs h,
-      turned xs ys (each_map (λ x. Each (λ z. x ≢ z) (y ∷ ys)) (λ x. Each (λ z. x ≢ z) ys) (λ x k. k.1) xs h),
+      apart_exchanged xs ys (each_map (λ x. Each (λ z. x ≢ z) (y ∷ ys)) (λ x. Each (λ z. x ≢ z) ys) (λ x k. k.1) xs h),
     )
 
 -- and so they may where sets are declared behind the first
