@@ -18,20 +18,20 @@ use Rattle.rob_tree.specs.declared.error.TreeStop.TheVariants.{Rule, EmptySet, W
 use Rattle.rob_branch.specs.Growth.{HasCauseBehind, RoseIfWide}
 use Rattle.rob_elab.specs.Written.{IsWritten}
 
--- ---- there is room for both boxes of a branch
+-- ---- the leaves of both boxes of a branch are few
 module _ (m : RobustModel) (names : List ℕ) (before : Search) (c : Certificate) (j : ℕ) (k : ℤ)
     (h : Decides m names before c (branches j k)) where
   module _ (model : IsModel m) (bounded : T (are_bounded m.variables names)) where
-    -- there is room for both
-    pub room_below : (n : ℕ) → n + product_of_ranges m.variables names ≤ 1000
+    -- behind each of them they are few
+    pub few_below : (n : ℕ) → n + product_of_ranges m.variables names ≤ 1000
         → n + product_of_ranges (box_below m j k).variables names ≤ 1000
-    room_below n room =
+    few_below n few =
         omega (arith, (measure_falls m model names bounded c j k (allows_branch m names before c j k h)).0)
 
-    pub room_above : (n middle : ℕ) → n + product_of_ranges m.variables names ≤ 1000
+    pub few_above : (n middle : ℕ) → n + product_of_ranges m.variables names ≤ 1000
         → middle ≤ n + product_of_ranges (box_below m j k).variables names
         → middle + product_of_ranges (box_above m j k).variables names ≤ 1000
-    room_above n middle room some =
+    few_above n middle few some =
         omega (arith, measure_splits m model names bounded c j k (allows_branch m names before c j k h))
 
 -- ---- the measure falls behind an allowed branch

@@ -16,7 +16,7 @@ use Rattle.rob_reach.specs.Ranges.{are_bounded, product_of_ranges}
 use Rattle.rob_reach.specs.Trees.{split}
 use Rattle.rob_tree.specs.View.{node_of}
 use Rattle.rob_tree.specs.declared.error.TreeStop.{TreeStop}
-use Rattle.rob_branch.proofs.GrowthLemmas.{count_within, room_above, room_below}
+use Rattle.rob_branch.proofs.GrowthLemmas.{count_within, few_above, few_below}
 use Rattle.rob_branch.proofs.GrownTreeLemmas.{grown_joined}
 use Rattle.rob_branch.specs.Growth.{IsGrownTo}
 use Rattle.rob_branch.specs.View.{search_of}
@@ -46,19 +46,19 @@ above_read j k b small e = e ∙ ap (at_least_branch j) (seen k small)
 pub record MayGrow (limit : ℕ) (m : RobustModel) (names : List ℕ) (count : ℕ) (b : Branch) : Type 0 where
   pub allowed : IsAllowed m names b
   pub within : nat_abs b.bound ≤ limit
-  pub room : count + product_of_ranges (behind m b).variables names ≤ 1000
+  pub few : count + product_of_ranges (behind m b).variables names ≤ 1000
 
 module _ {N : Type 0} (value : N → Fraction) (limit : ℕ) (m : RobustModel) (names : List ℕ) (before : Search)
     (c : Certificate) (j : ℕ) (k : ℤ) where
   module _ (decides : Decides m names before c (branches j k)) (fits : (nat_abs k ≤ limit) × (k ≢ pos limit))
       (model : IsModel m) (bounded : T (are_bounded m.variables names))
-      (room : before.count + product_of_ranges m.variables names ≤ 1000) where
+      (few : before.count + product_of_ranges m.variables names ≤ 1000) where
     pub below_may : (b : Branch) → b ≡ at_most_branch j k → MayGrow limit m names before.count b
     below_may b is =
         subst (MayGrow limit m names before.count) (sym is) record {
           allowed = allowed_below m names before c j k decides;
           within = fits.0;
-          room = room_below m names before c j k decides model bounded before.count room;
+          few = few_below m names before c j k decides model bounded before.count few;
         }
 
     -- the other one, behind what the first has grown into
@@ -77,7 +77,7 @@ module _ {N : Type 0} (value : N → Fraction) (limit : ℕ) (m : RobustModel) (
         subst (MayGrow limit m names first.after.count) (sym same) record {
           allowed = allowed_above m names before c j k decides;
           within = next_within limit k fits.0 fits.1;
-          room = room_above m names before c j k decides model bounded before.count first.after.count room some;
+          few = few_above m names before c j k decides model bounded before.count first.after.count few some;
         }
 
     -- the node of both; its K is read as another number that is the same

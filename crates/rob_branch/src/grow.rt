@@ -72,7 +72,7 @@ fn grow<N: Exact, L: Ledger>(
 ) -> Result<Grown<N>, TreeStop>
     requires valid { IsValid N.value area.model.now }
     requires bounded { KeepsBothBounds (robust N.value area.model.now) area.names.now }
-    requires room { before.count + product_of_ranges (robust N.value area.model.now).variables area.names.now ≤ 1000 }
+    requires few { before.count + product_of_ranges (robust N.value area.model.now).variables area.names.now ≤ 1000 }
     requires admitted { HasScenario (robust N.value area.model.now) }
     ensures grown { IfOk result (IsGrownTo N.value N.limit (robust N.value area.entry.model.now) area.entry.names.now
         (search_of N.value before)) }
@@ -103,7 +103,7 @@ fn grow_from<N: Exact, L: Ledger>(
 ) -> Result<Grown<N>, TreeStop>
     requires valid { IsValid N.value area.model.now }
     requires bounded { KeepsBothBounds (robust N.value area.model.now) area.names.now }
-    requires room { before.count + product_of_ranges (robust N.value area.model.now).variables area.names.now ≤ 1000 }
+    requires few { before.count + product_of_ranges (robust N.value area.model.now).variables area.names.now ≤ 1000 }
     requires going { before.endless ≡ None }
     requires proves { Proves (robust N.value area.model.now) (certificate_of N.value cert) }
     requires shape { HasShape (robust N.value area.model.now) (certificate_of N.value cert) }
@@ -135,7 +135,7 @@ fn grow_branch<N: Exact, L: Ledger>(
 ) -> Result<Grown<N>, TreeStop>
     requires valid { IsValid N.value area.model.now }
     requires bounded { KeepsBothBounds (robust N.value area.model.now) area.names.now }
-    requires room { before.count + product_of_ranges (robust N.value area.model.now).variables area.names.now ≤ 1000 }
+    requires few { before.count + product_of_ranges (robust N.value area.model.now).variables area.names.now ≤ 1000 }
     requires decides { (c : Certificate) × growing.Decides (robust N.value area.model.now) area.names.now
         (search_of N.value before) c (growing.branches column k) }
     requires within { (nat_abs k ≤ N.limit) × (k ≢ pos N.limit) }
@@ -190,7 +190,7 @@ fn grow_side<N: Exact, L: Ledger>(
     requires admitted { HasScenario (robust N.value area.model.now) }
     requires allowed { growing.IsAllowed (robust N.value area.model.now) area.names.now (branch_of branch) }
     requires within { nat_abs branch.k ≤ N.limit }
-    requires room { before.count
+    requires few { before.count
         + product_of_ranges (boxes.behind (robust N.value area.model.now) (branch_of branch)).variables area.names.now
         ≤ 1000 }
     ensures grown { IfOk result (IsGrownTo N.value N.limit

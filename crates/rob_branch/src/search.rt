@@ -44,7 +44,7 @@ pub enum Outcome<N> {
 
 /// One leaf more.
 pub fn counted<N: Exact>(search: Search<N>) -> Search<N>
-    requires room { search.count < 1000 }
+    requires few { search.count < 1000 }
     ensures search { search_of N.value result ≡ growing.counted (search_of N.value search) }
 {
     Search {
@@ -56,7 +56,7 @@ pub fn counted<N: Exact>(search: Search<N>) -> Search<N>
 
 /// One leaf more, whose whole plan is the best so far.
 fn improved<N: Exact>(search: Search<N>, value: N) -> Search<N>
-    requires room { search.count < 1000 }
+    requires few { search.count < 1000 }
     ensures search { search_of N.value result ≡ growing.improved (search_of N.value search) (N.value value) }
 {
     let number = search.count + 1;
@@ -69,7 +69,7 @@ fn improved<N: Exact>(search: Search<N>, value: N) -> Search<N>
 
 /// One leaf more, which shows the model to be unbounded.
 fn shown_endless<N: Exact>(search: Search<N>) -> Search<N>
-    requires room { search.count < 1000 }
+    requires few { search.count < 1000 }
     ensures search { search_of N.value result ≡ growing.shown_endless (search_of N.value search) }
 {
     let number = search.count + 1;
@@ -123,7 +123,7 @@ fn of_optimum<N: Exact>(
     search: Search<N>,
     cert: &Cert<N>,
 ) -> Outcome<N>
-    requires room { search.count < 1000 }
+    requires few { search.count < 1000 }
     ensures outcome { outcome_of N.value result ≡ growing.outcome_by (search_of N.value search)
         (certificate_of N.value cert.now) optimal
         (growing.is_beaten (sense_of sense) (search_of N.value search).best (N.value cert.now.value))
@@ -141,7 +141,7 @@ fn of_optimum<N: Exact>(
 
 /// What comes of a box that is unbounded: a leaf that shows the model to be so where its plan is whole, else a branch.
 fn of_ray<N: Exact>(names: &[u32], search: Search<N>, cert: &Cert<N>) -> Outcome<N>
-    requires room { search.count < 1000 }
+    requires few { search.count < 1000 }
     ensures outcome { (beaten : Bool) → outcome_of N.value result ≡ growing.outcome_by (search_of N.value search)
         (certificate_of N.value cert.now) unbounded beaten
         (growing.first_broken names.now (map N.value cert.now.plan)) }
@@ -161,7 +161,7 @@ pub fn comes_of<N: Exact>(
     search: Search<N>,
     cert: &Cert<N>,
 ) -> Outcome<N>
-    requires room { search.count < 1000 }
+    requires few { search.count < 1000 }
     ensures outcome { outcome_of N.value result
         ≡ growing.outcome names.now (sense_of sense) (search_of N.value search) (certificate_of N.value cert.now) }
     // K and K + 1 are within the limit.

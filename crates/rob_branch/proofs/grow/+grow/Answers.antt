@@ -24,7 +24,7 @@ use Rattle.rob_branch.proofs.grow.+grow.Goals as goal
 pub grow-counted-requires : goal.grow-counted-requires
 grow-counted-requires g t c =
     let m = robust g.N.Exact.value c.args.area.model.now in
-    record { room = omega (arith, c.requires.room, product_positive m.variables c.args.area.names.now) }
+    record { few = omega (arith, c.requires.few, product_positive m.variables c.args.area.names.now) }
 
 pub grow-grow_from-requires : goal.grow-grow_from-requires
 grow-grow_from-requires g t c κs within =
@@ -35,7 +35,7 @@ grow-grow_from-requires g t c κs within =
         within.0,
         (
           within.1,
-          (r.valid, (r.bounded, (r.room, (search rules, (s.proves, (s.shape, c.in-Ok.ensures.written)))))),
+          (r.valid, (r.bounded, (r.few, (search rules, (s.proves, (s.shape, c.in-Ok.ensures.written)))))),
         ),
       ),
     )
@@ -57,7 +57,7 @@ grow-returns-in-Ok-clause-counted g t c =
 pub grow_from-comes_of-requires : goal.grow_from-comes_of-requires
 grow_from-comes_of-requires g t c =
     let m = robust g.N.Exact.value c.args.area.model.now in
-    record { room = omega (arith, c.requires.room, product_positive m.variables c.args.area.names.now) }
+    record { few = omega (arith, c.requires.few, product_positive m.variables c.args.area.names.now) }
 
 pub grow_from-grow_branch-requires : goal.grow_from-grow_branch-requires
 grow_from-grow_branch-requires g t c κs within =
@@ -79,7 +79,7 @@ grow_from-grow_branch-requires g t c κs within =
     let fits : (nat_abs (to_z w64 (of_z w64 k)) ≤ limit) × (to_z w64 (of_z w64 k) ≢ pos limit) =
     subst (λ z. (nat_abs z ≤ limit) × (z ≢ pos limit)) (sym same) c.in-Branches.ensures.within in
     let r = c.requires in
-    (omega (arith, c.decreases), (within.0, (within.1, (r.valid, (r.bounded, (r.room, (asked, (fits, r.written))))))))
+    (omega (arith, c.decreases), (within.0, (within.1, (r.valid, (r.bounded, (r.few, (asked, (fits, r.written))))))))
 
 -- ---- a branch
 pub grow_branch-branch_below-at_most-requires : goal.grow_branch-branch_below-at_most-requires
@@ -101,11 +101,11 @@ grow_branch-grow_side-requires g t c κs within =
     let small : nat_abs k < 2 ^ 62 = omega (arith, c.requires.within.0, g.met.N.Exact.limit_high) in
     let may = below_may value g.N.Exact.limit m c.args.area.names.now (search_of value c.args.before)
     c.requires.decides.0 column k decides c.requires.within c.requires.valid.well_formed c.requires.bounded
-    c.requires.room below (below_read column k below small c.branch_below-at_most.ensures.branch) in
+    c.requires.few below (below_read column k below small c.branch_below-at_most.ensures.branch) in
     let r = c.requires in
     let some = scenario_of m r.decides.0 decides.proves in (
       omega (arith, c.decreases),
-      (within.0, (within.1, (r.valid, (r.bounded, (some, (may.allowed, (may.within, may.room))))))),
+      (within.0, (within.1, (r.valid, (r.bounded, (some, (may.allowed, (may.within, may.few))))))),
     )
 
 pub grow_branch-grow_side-requires-in-Ok : goal.grow_branch-grow_side-requires-in-Ok
@@ -120,12 +120,12 @@ grow_branch-grow_side-requires-in-Ok g t c κs within =
     let small : nat_abs k < 2 ^ 62 = omega (arith, c.requires.within.0, g.met.N.Exact.limit_high) in
     let may = above_may value g.N.Exact.limit m c.args.area.names.now (search_of value c.args.before)
     c.requires.decides.0 column k decides c.requires.within c.requires.valid.well_formed c.requires.bounded
-    c.requires.room below above c.in-Ok.below (below_read column k below small c.branch_below-at_most.ensures.branch)
+    c.requires.few below above c.in-Ok.below (below_read column k below small c.branch_below-at_most.ensures.branch)
     (above_read column k above small c.branch_above-at_least.ensures.branch) c.in-Ok.ensures.grown in
     let r = c.requires in
     let some = scenario_of m r.decides.0 decides.proves in (
       omega (arith, c.decreases),
-      (within.0, (within.1, (r.valid, (r.bounded, (some, (may.allowed, (may.within, may.room))))))),
+      (within.0, (within.1, (r.valid, (r.bounded, (some, (may.allowed, (may.within, may.few))))))),
     )
 
 pub grow_branch-returns-in-Ok-grow_side-clause-grown : goal.grow_branch-returns-in-Ok-grow_side-clause-grown
@@ -138,7 +138,7 @@ grow_branch-returns-in-Ok-grow_side-clause-grown g t c =
     let above = branch_of c.branch_above-at_least.result in
     let small : nat_abs k < 2 ^ 62 = omega (arith, c.requires.within.0, g.met.N.Exact.limit_high) in
     joined_grown value g.N.Exact.limit m c.args.area.names.now (search_of value c.args.before) c.requires.decides.0
-    column k c.requires.decides.1 c.requires.within c.requires.valid.well_formed c.requires.bounded c.requires.room
+    column k c.requires.decides.1 c.requires.within c.requires.valid.well_formed c.requires.bounded c.requires.few
     below above c.in-Ok.below c.in-Ok-grow_side.above c.joined.result (to_z w64 (of_z w64 k))
     (below_read column k below small c.branch_below-at_most.ensures.branch)
     (above_read column k above small c.branch_above-at_least.ensures.branch) (seen k small) c.requires.written
@@ -200,12 +200,12 @@ grow_side-grow-requires g t c κs within =
     subst (λ (n : RobustModel). KeepsBothBounds n names) (sym tight)
     (changes_bounded b.is_upper b.bound b.variable m.variables names c.requires.bounded)
     in
-    let room : c.args.before.count + product_of_ranges side.variables names ≤ 1000 =
+    let few : c.args.before.count + product_of_ranges side.variables names ≤ 1000 =
     subst (λ (n : RobustModel). c.args.before.count + product_of_ranges n.variables names ≤ 1000) (sym tight)
-    c.requires.room
+    c.requires.few
     in
     let some : HasScenario side = subst HasScenario (sym tight) (u, admits_in m b u c.requires.admitted.1) in
-    (omega (arith, c.decreases, less), (within.0, (within.1, (c.in_ok-model.ensures.valid, (bounded, (room, some))))))
+    (omega (arith, c.decreases, less), (within.0, (within.1, (c.in_ok-model.ensures.valid, (bounded, (few, some))))))
 
 pub grow_side-returns-clause-cause : goal.grow_side-returns-clause-cause
 grow_side-returns-clause-cause g t c =

@@ -16,8 +16,8 @@ pub grow_from-requires-clause-bounded : goal.grow_from-requires-clause-bounded
 grow_from-requires-clause-bounded g c =
     ((rules_kept (robust g.N.Exact.value c.args.model.now) c.args.names.now).0 c.requires.kept).0
 
-pub grow_from-requires-clause-room : goal.grow_from-requires-clause-room
-grow_from-requires-clause-room g c =
+pub grow_from-requires-clause-few : goal.grow_from-requires-clause-few
+grow_from-requires-clause-few g c =
     let none : c.start.result.count ≡ 0 = ap (λ (s : growing.Search). s.count) c.start.ensures.start in
     omega (arith, none, ((rules_kept (robust g.N.Exact.value c.args.model.now) c.args.names.now).0 c.requires.kept).1)
 
