@@ -12,7 +12,7 @@ ghost use Rattle.rob_parse.specs.Building as spec;
 ghost use Rattle.rob_syntax.specs.Known.{texts};
 ghost use Rattle.rob_parse.specs.Models.{parameters, variables, adaptives, set_lines, rows, goal_in, line_taken, model_of, row_taken};
 ghost use Rattle.rob_parse.specs.Modelled.{ReadsModel};
-ghost use Rattle.rob_rules.specs.Texts.{HasModelCause};
+ghost use Rattle.rob_rules.specs.Texts.{HasTextCause};
 ghost use Rattle.rob_syntax.specs.declared.syntax.Statement.TheVariants as parsed;
 
 use crate::fraction::{fraction, lower, upper};
@@ -38,7 +38,7 @@ pub fn read_model<N: Exact, L: Ledger>(
     ensures read { IfOk result (λ m. ReadsModel N.limit text.now (robust N.value m)) }
     ensures valid { IfOk result (λ m. IsValid N.value m) }
     ensures named { IfOk result (λ m. IsNamed (robust N.value m)) }
-    ensures cause { IfErr result (λ e. HasModelCause N.limit text.now e) }
+    ensures cause { IfErr result (λ e. HasTextCause N.limit text.now e) }
     ensures ops { L.ops ledger.old ≤ L.ops ledger.new }
     // No number is wide, since digits over the limit are refused before.
     ensures told { L.wides ledger.old ≡ L.wides ledger.new }

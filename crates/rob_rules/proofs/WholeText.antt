@@ -21,7 +21,7 @@ use Rattle.rob_rules.specs.declared.fault.Fault.TheVariants.{NoObjective}
 use Rattle.rob_rules.specs.Scopes.{earlier_of}
 use Rattle.rob_rules.specs.Stages.{BreakRule, HaveStop, IsBetween, ReadsOn, StartsAt, stage_of}
 use Rattle.rob_rules.proofs.MoreLines.{symbols_in}
-use Rattle.rob_rules.specs.Texts.{Stage, LinesFollow, in_front, Reads, HasModelCause}
+use Rattle.rob_rules.specs.Texts.{Stage, LinesFollow, in_front, Reads, HasTextCause}
 
 -- what is read of lines are as many lines
 body_long : (text : List ℕ) (begun : Bool) (lines : List (List Token)) → length (body text begun lines) ≡ length lines
@@ -96,7 +96,7 @@ module _ (limit : ℕ) (text : List ℕ) (tokens : List Token) (are : AreTokens 
 
     -- no goal is there
     pub text_ends : new.scope.goal ≡ false → (rule number : ℕ) → rule ≡ rule_of NoObjective
-        → number ≡ length (token_lines tokens) → HasModelCause limit text (model.Rule rule number)
+        → number ≡ length (token_lines tokens) → HasTextCause limit text (model.Rule rule number)
     text_ends none rule number is count =
         inr (
           tokens,
@@ -127,15 +127,15 @@ module _ (limit : ℕ) (text : List ℕ) (tokens : List Token) (are : AreTokens 
       (subst (λ (e : Stage limit own version). BreakRule limit own version e (lines version) rule line)
       starts_in_front stop)
 
-  refused : (e : ModelErr) → Stops own version e → HasModelCause limit text e
+  refused : (e : ModelErr) → Stops own version e → HasTextCause limit text e
   refused model.Memory stop = tt
   refused (model.Rule rule line) stop =
       let b = breaks_text rule line stop in inr (tokens, b.fault, are, inl b.breaks, b.rule_is)
 
-  pub text_breaks : (e : ModelErr) → Stops (texts old.own.keys) version e → HasModelCause limit text e
+  pub text_breaks : (e : ModelErr) → Stops (texts old.own.keys) version e → HasTextCause limit text e
   text_breaks e stop = refused e (subst (λ (w : List Name). Stops w version e) own_is stop)
 
 -- at the exit of a `?`
 pub refused_by : {V : Type 0} (limit : ℕ) (text : List ℕ) (r : Result V ModelErr) (e f : ModelErr) → r ≡ Err e → e ≡ f
-    → HasModelCause limit text f → IfErr r (λ x. HasModelCause limit text x)
-refused_by limit text r e f is same cause = rw is (subst (HasModelCause limit text) (sym same) cause)
+    → HasTextCause limit text f → IfErr r (λ x. HasTextCause limit text x)
+refused_by limit text r e f is same cause = rw is (subst (HasTextCause limit text) (sym same) cause)

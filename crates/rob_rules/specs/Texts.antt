@@ -83,9 +83,9 @@ module _ (limit : ℕ) where
       × LinesBreak text (words_of text tokens) tokens fault line × (line_rule rule_of fault ≡ rule))
 
   -- a refusal's cause; want of memory has none
-  abbrev pub HasModelCause : List ℕ → ModelErr → Type 0
-  HasModelCause text (Rule rule line) = Breaks text rule line
-  HasModelCause text Memory = Unit {0}
+  abbrev pub HasTextCause : List ℕ → ModelErr → Type 0
+  HasTextCause text (Rule rule line) = Breaks text rule line
+  HasTextCause text Memory = Unit {0}
 
   -- the text reads as statements, or breaks a rule
   abbrev pub HasReading : List ℕ → Type 0

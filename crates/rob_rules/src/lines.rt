@@ -9,7 +9,7 @@ ghost use Rattle.rob_index.specs.Statements.{Name};
 ghost use Rattle.rob_rules.specs.declared.lines.Stop.TheVariants.{Memory};
 ghost use Rattle.rob_rules.specs.Scopes.{earlier_of};
 ghost use Rattle.rob_rules.specs.Stages.{IsBetween, StartsAt, ReadsOn, IsAppended, IsTaken, HasFaultStop, HasIndexStop, HasLineStop, HasNoStatement, HaveStop, IsExpanded, IsWidened, LeaveRoom, lower_of, lowest_fault, behind_all, declare_all, mark_declared, padded, stage_of};
-ghost use Rattle.rob_rules.specs.Texts.{Reads, HasModelCause};
+ghost use Rattle.rob_rules.specs.Texts.{Reads, HasTextCause};
 ghost use Rattle.rob_syntax.specs.Known.{texts};
 ghost use Rattle.rob_syntax.specs.Seen.{seen_line, seen_statement};
 ghost use Rattle.rob_syntax.specs.Symbols.{words_of, symbols_of, token_lines};
@@ -91,7 +91,7 @@ pub fn read_text(alloc: Global, text: &[u8], limit: u64) -> Result<Statements, M
     // Digits of a value over 2^62 - 1 aren't told apart.
     requires limit { limit < 2 ^ 62 }
     ensures read { IfOk result (λ s. Reads limit text.now (texts s.words.keys) s.list (earlier_of s.scope)) }
-    ensures cause { IfErr result (λ e. HasModelCause limit text.now e) }
+    ensures cause { IfErr result (λ e. HasTextCause limit text.now e) }
 {
     let owned = match tokens(alloc, text) {
         Ok(tokens) => tokens,

@@ -8,7 +8,7 @@ use Rattle.rob_number.specs.Lowest as Lowest
 use Rattle.rob_number.specs.declared.memory.Memory.{Memory as Want}
 use Rattle.rob_parse.specs.Modelled.{ReadsModel}
 use Rattle.rob_report.specs.Spots.{too_wide_line}
-use Rattle.rob_rules.specs.Texts.{Breaks, HasModelCause}
+use Rattle.rob_rules.specs.Texts.{Breaks, HasTextCause}
 use Rattle.rob_rules.specs.declared.error.ModelErr.{ModelErr}
 use Rattle.rob_rules.specs.declared.error.ModelErr.TheVariants as unread
 use Rattle.rob_report.specs.Rows.{rows_of}
@@ -113,7 +113,7 @@ rule_answers limit wides line texts rule number reply reads broken is = λ call 
 
 pub unread_answers : (limit : ℕ) (wides : Count) (line : Line) (texts : Texts) (text : List ℕ)
     (e : ModelErr) (r : Result Reply Want)
-    → IsOnModel line.verb → text ≡ texts.model.items → HasModelCause limit text e → IfOk r (RepliesUnread e)
+    → IsOnModel line.verb → text ≡ texts.model.items → HasTextCause limit text e → IfOk r (RepliesUnread e)
     → IfOk r (AnswersTexts limit wides line texts)
 unread_answers limit wides line texts text e (Err want) reads same cause is = tt
 unread_answers limit wides line texts text (unread.Rule rule number) (Ok reply) reads same cause is =
