@@ -46,10 +46,10 @@ module _ (call : Call) where
 
   -- the plan keeps each row in every scenario that the row's set admits, and its worst case is the value; of an
   -- unbounded model's plan it is a bound
-  abbrev pub IsKept : RobustModel → Certificate → Status → Type 0
-  IsKept m c optimal = HasWorstCase m c.plan c.value
-  IsKept m c infeasible = Unit {0}
-  IsKept m c unbounded = HasBound m c.plan c.value
+  abbrev pub HasPlanValue : RobustModel → Certificate → Status → Type 0
+  HasPlanValue m c optimal = HasWorstCase m c.plan c.value
+  HasPlanValue m c infeasible = Unit {0}
+  HasPlanValue m c unbounded = HasBound m c.plan c.value
 
   -- the model has the status: a certificate of it was found that proves it, by the line's route, as the last basis of
   -- the model's counterpart gives it, or the end of a run of the cutting-plane method; and it, or its plan, is
@@ -63,7 +63,7 @@ module _ (call : Call) where
     pub c : Certificate
     pub status_is : c.status ≡ status
     pub holds : HasStatus m status c.value
-    pub kept : IsKept m c status
+    pub kept : HasPlanValue m c status
     pub proves : Proves m c
     pub rounds : List Round
     pub found : IsFoundBy line.way m c rounds

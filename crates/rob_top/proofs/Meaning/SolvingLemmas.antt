@@ -51,7 +51,7 @@ use Rattle.rob_top.specs.Headline.{Means}
 use Rattle.rob_top.specs.Inputs.{HasForms}
 use Rattle.rob_top.specs.Replies.{Replies}
 use Rattle.rob_top.specs.Routes.{HasStopCause, IsFound, IsFoundBy, IsWideBy, SolvesBy, with_rounds}
-use Rattle.rob_top.specs.Solved.{IsKept, IsPrinted, IsSolved}
+use Rattle.rob_top.specs.Solved.{HasPlanValue, IsPrinted, IsSolved}
 use Rattle.rob_top.specs.Work.{AnswersRoute, ended_of}
 use Rattle.rob_top.specs.WorkStops.{RepliesStop}
 use Rattle.rob_top.specs.Ways.{on_way, solved, while_solving}
@@ -109,7 +109,7 @@ module _ (m : RobustModel) (model : IsModel m) where
       zero_le_one (admits_meets m model u admitted))
 
   kept_as : (call : Call) (c : Certificate) (status : Status) → ProvesAs status m c → HasStatus m status c.value
-      → IsKept call m c status
+      → HasPlanValue call m c status
   kept_as call c optimal h true_of =
       optimum_is_worst_case m c.plan c.value true_of (covered_bound c h.inside h.columns h.scale h.covered)
   kept_as call c infeasible h true_of = tt
