@@ -24,7 +24,7 @@ use Rattle.rob_dualize.specs.SetSolving.{HasSetCause, IsWideInSet}
 use Rattle.rob_dualize.specs.Solving.{HasScenario}
 use Rattle.rob_cuts.specs.Places.{IsRefusedAfter}
 use Rattle.rob_cuts.specs.Rounds.{cuts_told, RoundFits, TellsRun}
-use Rattle.rob_cuts.specs.Solving.{IsSolution, ComesAfterSet, IsWideAt, HasCause, StopFits}
+use Rattle.rob_cuts.specs.Solving.{IsSolution, ComesAfterSet, IsWideAfterRounds, HasCause, StopFits}
 use Rattle.rob_cuts.specs.Stops.{StopsWith, stop_after}
 use Rattle.rob_cuts.specs.Outcomes.{IsEnd, IsOfRound}
 use Rattle.rob_cuts.proofs.RunLemmas.{trace_is}
@@ -50,7 +50,7 @@ pub set_cause : (limit : ℕ) (m : RobustModel) (stop : Stop) → HasSetCause li
 set_cause limit m (EmptySet weights) h = h
 set_cause limit m (Wide place trace) h = by place h.0
   where
-    by : (place : Spot) → IsWideInSet limit m place → IsWideAt limit m place trace.rounds
+    by : (place : Spot) → IsWideInSet limit m place → IsWideAfterRounds limit m place trace.rounds
     by (spot.Dictionary program.Set basis p) w = record {
       trace = [];
       rounds = h.1;

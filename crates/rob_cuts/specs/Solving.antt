@@ -54,7 +54,7 @@ ComesAfterSet m trace other = HasScenario m
 
 -- the rounds are a run, and the number at the place is wide in its next round; where it is one of a row, its program is
 -- refused for the row
-pub record IsWideAt (limit : ℕ) (m : RobustModel) (place : Spot) (told : List Told) : Type 0 where
+pub record IsWideAfterRounds (limit : ℕ) (m : RobustModel) (place : Spot) (told : List Told) : Type 0 where
   pub trace : List Round
   pub rounds : told ≡ map round_told trace
   pub spot : RunSpot
@@ -66,7 +66,7 @@ pub record IsWideAt (limit : ℕ) (m : RobustModel) (place : Spot) (told : List 
 -- each refusal with what stands behind it; memory is free
 abbrev pub HasCause : ℕ → RobustModel → Stop → Type 0
 HasCause limit m (EmptySet weights) = TellsEmpty limit m weights
-HasCause limit m (Wide place trace) = IsWideAt limit m place trace.rounds
+HasCause limit m (Wide place trace) = IsWideAfterRounds limit m place trace.rounds
 HasCause limit m Memory = ⊤
 
 -- no number of the cuts of the rounds that are told before a wide number is over the limit

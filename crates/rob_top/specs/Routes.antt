@@ -11,7 +11,7 @@ use Rattle.rob_cert.specs.declared.ending.Stop.TheVariants.{EmptySet, Wide, Memo
 use Rattle.rob_cert.specs.declared.trace.Round.{Round}
 use Rattle.rob_cert.specs.declared.trace.Trace.{Trace}
 use Rattle.rob_cuts.specs.Rounds.{RoundFits}
-use Rattle.rob_cuts.specs.Solving.{IsSolution, IsWideAt, StopFits}
+use Rattle.rob_cuts.specs.Solving.{IsSolution, IsWideAfterRounds, StopFits}
 use Rattle.rob_dualize.specs.Solving.{CountsStop, IsLastScenario, IsReadAtEnd, IsWideOnPath, TellsEmpty}
 use Rattle.rob_meaning.specs.Certificates.{Certificate}
 use Rattle.rob_meaning.specs.Places.{Each}
@@ -34,12 +34,12 @@ IsFoundBy Cuts m c rounds = IsSolution m c rounds
 -- one of a row, its program is refused for the row
 abbrev pub IsWideBy : Route → ℕ → RobustModel → Spot → List Round → Type 0
 IsWideBy Dual limit m spot rounds = IsWideOnPath limit m spot × (rounds ≡ [])
-IsWideBy Cuts limit m spot rounds = IsWideAt limit m spot rounds
+IsWideBy Cuts limit m spot rounds = IsWideAfterRounds limit m spot rounds
 
 -- the same, whichever rounds come before it
 abbrev pub IsWideOnWay : Route → ℕ → RobustModel → Spot → Type 0
 IsWideOnWay Dual limit m spot = IsWideOnPath limit m spot
-IsWideOnWay Cuts limit m spot = (rounds : List Round) × IsWideAt limit m spot rounds
+IsWideOnWay Cuts limit m spot = (rounds : List Round) × IsWideAfterRounds limit m spot rounds
 
 -- a text, and behind it the rounds of the cutting-plane method
 abbrev pub with_rounds : Route → RobustModel → List Round → List ℕ → List ℕ
