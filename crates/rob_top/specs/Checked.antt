@@ -16,7 +16,7 @@ use Rattle.rob_words.specs.declared.verb.Verb.TheVariants as verbs
 module _ (call : Call) where
   -- accepted: each condition holds and no number on the way is wide; so the certificate proves, and the model is as
   -- it says
-  pub record IsAccepted (text : List ℕ) : Type 0 where
+  pub record IsCertificateAccepted (text : List ℕ) : Type 0 where
     pub line : Line
     pub m : RobustModel
     pub c : Certificate
@@ -27,7 +27,7 @@ module _ (call : Call) where
     pub printed : text ≡ accepted_text c
 
   -- rejected: this condition is the first that fails, and no number before it is wide; so the certificate doesn't prove
-  pub record IsRejected (place : Place) (text : List ℕ) : Type 0 where
+  pub record IsCertificateRejected (place : Place) (text : List ℕ) : Type 0 where
     pub line : Line
     pub m : RobustModel
     pub c : Certificate

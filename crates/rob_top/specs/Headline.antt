@@ -21,7 +21,7 @@ use Rattle.rob_outside.specs.Puts.{PutAll, PutUntil}
 use Rattle.rob_outside.specs.Taken.{Took, TookPrefix}
 use Rattle.rob_top.specs.Branched.{IsNoWhole}
 use Rattle.rob_top.specs.Calls.{Call, Output, WasRaised}
-use Rattle.rob_top.specs.Checked.{IsRejected}
+use Rattle.rob_top.specs.Checked.{IsCertificateRejected}
 use Rattle.rob_top.specs.Lines.{PutMemory, text_lines}
 use Rattle.rob_top.specs.Refused.{IsMissing, IsNoCommandLine, IsNoModel, IsTooLong, IsUnread}
 use Rattle.rob_top.specs.Replayed.{IsNoScenarios}
@@ -43,7 +43,7 @@ module _ (call : Call) where
   Means Unbounded text = FindsStatus call unbounded text
   Means Printed text = Prints call text
   Means Accepted text = Accepts call text
-  Means (Rejected place) text = IsRejected call place text
+  Means (Rejected place) text = IsCertificateRejected call place text
   Means (TreeRejected number fault) text = IsTreeRejected call number fault text
   Means Words text = IsNoCommandLine call text
   Means Missing text = IsMissing call text

@@ -5,7 +5,7 @@ use Rattle.rob_meaning.specs.Certificates.{Status}
 use Rattle.rob_model.specs.declared.place.Spot.{Spot}
 use Rattle.rob_top.specs.Branched.{IsBranched, IsEmptyBranched, IsWideNode}
 use Rattle.rob_top.specs.Calls.{Call}
-use Rattle.rob_top.specs.Checked.{IsAccepted}
+use Rattle.rob_top.specs.Checked.{IsCertificateAccepted}
 use Rattle.rob_top.specs.Compared.{IsCompared, IsWideCompared}
 use Rattle.rob_top.specs.Generated.{IsGenerated}
 use Rattle.rob_top.specs.Narrowed.{IsNarrowed}
@@ -41,7 +41,7 @@ module _ (call : Call) where
 
   -- what was read is accepted: by `check` a certificate, by `checktree` a branch tree
   pub data Accepts (text : List ℕ) : Type 0 where
-    a_certificate : IsAccepted call text → Accepts text
+    a_certificate : IsCertificateAccepted call text → Accepts text
     a_tree : IsTreeAccepted call text → Accepts text
 
   -- no joint scenario is admitted, as the weights show: found by `solve` and `prove`; by `whole` and `tree`; by

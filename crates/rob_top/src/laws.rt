@@ -23,7 +23,7 @@ ghost use Rattle.rob_split_text.specs.SplitTexts.{HasFewTokens};
 ghost use Rattle.rob_top.specs.Calls.{Call, Known, known_call, limit_of};
 ghost use Rattle.rob_top.specs.Files.{HasFile};
 ghost use Rattle.rob_report.specs.NarrowText.{narrow_line};
-ghost use Rattle.rob_top.specs.Checked.{IsAccepted};
+ghost use Rattle.rob_top.specs.Checked.{IsCertificateAccepted};
 ghost use Rattle.rob_top.specs.Commands.{IsSolving};
 ghost use Rattle.rob_top.specs.Compared.{AsksFor};
 ghost use Rattle.rob_top.specs.ComparedEnds.{IsComparedAnswer};
@@ -98,7 +98,7 @@ pub fn narrow_then_solve()
 /// The plan of a certificate that `check` accepted, as `replay` takes it on the same model.
 pub fn check_then_replay()
     // It has its bound; so each inside line shows no slack below 0, and an objective no worse than the value.
-    ensures shown { (checking replaying : Call) (text shown : List ℕ) (accepted : IsAccepted checking text)
+    ensures shown { (checking replaying : Call) (text shown : List ℕ) (accepted : IsCertificateAccepted checking text)
         (replayed : IsReplayed replaying shown) → replayed.m ≡ accepted.m → replayed.c ≡ accepted.c
         → Each (ShowsBound replayed.m replayed.c.value) replayed.lines }
 {}
@@ -106,7 +106,7 @@ pub fn check_then_replay()
 /// The plan of a certificate that `check` accepted, as `worst` takes it on the same model.
 pub fn check_then_worst()
     // It has its bound; so a worst scenario is printed, whichever form is named, and no slack below 0.
-    ensures kept { (checking searching : Call) (text shown : List ℕ) (accepted : IsAccepted checking text)
+    ensures kept { (checking searching : Call) (text shown : List ℕ) (accepted : IsCertificateAccepted checking text)
         (searched : IsSearched searching shown) → searched.m ≡ accepted.m → searched.c ≡ accepted.c
         → ShowsKept searched.m searched.form (certificate_vector searched.c) shown }
 {}

@@ -31,7 +31,7 @@ use Rattle.rob_top.proofs.Courses.SplitCourseLemmas.{SplitCourse}
 use Rattle.rob_top.proofs.Courses.TreeCourseLemmas.{TreeCourse, breaks_names, breaks_text, judges_tree}
 use Rattle.rob_top.specs.Branched.{BreaksWhole, IsBranched, IsEmptyBranched, IsNoWhole, IsWideNode}
 use Rattle.rob_top.specs.Calls.{Call, limit_of}
-use Rattle.rob_top.specs.Checked.{IsAccepted, IsRejected}
+use Rattle.rob_top.specs.Checked.{IsCertificateAccepted, IsCertificateRejected}
 use Rattle.rob_top.specs.Commands as works
 use Rattle.rob_top.specs.Commands.{IsBranching, IsElaborating, IsSweeping, Work, makes_forms, work_of}
 use Rattle.rob_top.specs.Inputs.{BreaksCertificate, HasCertificate, HasCertificateFile, HasForms, HasScenarioFile, HasSought, HasWholeVariables, LacksPlan}
@@ -272,11 +272,11 @@ module _ (call : Call) where
   pub narrowed_course : (text : List ℕ) (h : IsNarrowed call text) → Course call h.line h.m Printed
   narrowed_course text h = does works.narrowing (ap work_of h.is_narrow) (h.forms, refl)
 
-  pub accepted_course : (text : List ℕ) (h : IsAccepted call text) → Course call h.line h.m Accepted
+  pub accepted_course : (text : List ℕ) (h : IsCertificateAccepted call text) → Course call h.line h.m Accepted
   accepted_course text h =
       does works.checking (ap work_of h.read.file.is_verb) (judges h.c h.read (ap verdict_ended (sym h.verdict)))
 
-  pub rejected_course : (place : Place) (text : List ℕ) (h : IsRejected call place text)
+  pub rejected_course : (place : Place) (text : List ℕ) (h : IsCertificateRejected call place text)
       → Course call h.line h.m (Rejected place)
   rejected_course place text h =
       does works.checking (ap work_of h.read.file.is_verb) (judges h.c h.read (ap verdict_ended (sym h.verdict)))
