@@ -15,7 +15,7 @@ ghost use Rattle.rob_parse.specs.Modelled.{EndsInSet};
 ghost use Rattle.rob_round_trip.specs.Lines.{AreReadable, CountsSetsFromOne, canonical_line};
 ghost use Rattle.rob_round_trip.specs.Pages.{IsShallow, ended};
 ghost use Rattle.rob_round_trip.specs.Shown.{IsFoundAgain};
-ghost use Rattle.rob_rules.specs.Reading.{Reads};
+ghost use Rattle.rob_rules.specs.Reading.{ReadsPlain};
 ghost use Rattle.rob_rules.specs.Scopes.{Earlier};
 ghost use Rattle.rob_rules.specs.Texts as texts;
 ghost use Rattle.rob_rules.specs.declared.sort.Sort.{Sort};
@@ -50,7 +50,7 @@ pub fn plain_lines()
 /// A text of version 1 that reads as statements reads as the same by rob_index' reading of lines of either version.
 pub fn plain_texts()
     ensures reads { (limit : ℕ) (text : List ℕ) (words : List (List ℕ)) (list : List Statement) (known : Earlier)
-        → Reads limit text words list known → texts.Reads limit text words list known }
+        → ReadsPlain limit text words list known → texts.Reads limit text words list known }
 {}
 
 /// The canonical lines of plain statements, whose names have numbers, are as many tokens and as deep as rob_index says.

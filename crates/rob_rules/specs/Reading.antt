@@ -22,7 +22,7 @@ module _ (limit : ℕ) where
       IsStatement (x ∷ symbols) s × (first_fault limit e e s ≡ None) × Follows (behind e s) lines list f
 
   -- the text has these words and reads as these statements, behind which this is known
-  pub record Reads (text : List ℕ) (words : List (List ℕ)) (list : List Statement) (known : Earlier) : Type 0 where
+  pub record ReadsPlain (text : List ℕ) (words : List (List ℕ)) (list : List Statement) (known : Earlier) : Type 0 where
     pub tokens : List Token
     pub are_tokens : AreTokens text tokens
     pub words_are : words_of text tokens ≡ words

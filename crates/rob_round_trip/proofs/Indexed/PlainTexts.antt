@@ -20,7 +20,7 @@ use Rattle.rob_round_trip.proofs.Indexed.PlainFollows.{lines_follow}
 use Rattle.rob_round_trip.proofs.Lengths.TokenPlaces.{cost, lines_few}
 use Rattle.rob_rules.specs.Faults.{in_order}
 use Rattle.rob_rules.specs.Names.{Named, named_behind}
-use Rattle.rob_rules.specs.Reading.{Follows, Reads}
+use Rattle.rob_rules.specs.Reading.{Follows, ReadsPlain}
 use Rattle.rob_rules.specs.Scopes.{Earlier, start}
 use Rattle.rob_rules.specs.Texts as texts
 use Rattle.rob_rules.specs.Texts.{has_goal, has_later, in_front, is_declared}
@@ -129,7 +129,7 @@ module _ (limit : ℕ) where
 
   -- the text reads as before
   pub text_reads : (text : List ℕ) (words : List (List ℕ)) (list : List Statement) (known : Earlier)
-      → Reads limit text words list known → texts.Reads limit text words list known
+      → ReadsPlain limit text words list known → texts.Reads limit text words list known
   text_reads text words list known r =
       let tokens = r.tokens in
       let ws = words_of text tokens in
