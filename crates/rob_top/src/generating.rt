@@ -59,7 +59,7 @@ fn print_generated<L: Ledger>(
 fn told_number(line: &CommandLine) -> u32
     requires read { IsRead line.now }
     requires numbered { own_of line.now.verb ≡ Number ∷ [] }
-    ensures told { TellsNumber (line_of line.now) result }
+    ensures number { TellsNumber (line_of line.now) result }
 {
     match line.own.as_slice() {
         [word, ..] => match number(word.as_str()) {
