@@ -33,7 +33,7 @@ pub fn told<N: Exact>(
     requires few { IsFewSet set.now }
     requires task { FitsSet N.limit set.now.columns task.now }
     requires searched { HasSearched (program_of_set set.now) task.now.cost kind solver.now }
-    ensures told { IfOk result (TellsTask N.value set.now task.now) }
+    ensures found { IfOk result (TellsTask N.value set.now task.now) }
     ensures within { IfOk result (HasConstantWithin N.limit) }
 {
     match kind {
@@ -52,7 +52,7 @@ fn greatest<N: Exact>(
     requires few { IsFewSet set.now }
     requires task { FitsSet N.limit set.now.columns task.now }
     requires searched { HasSearched (program_of_set set.now) task.now.cost kinds.Optimal solver.now }
-    ensures told { IfOk result (TellsTask N.value set.now task.now) }
+    ensures found { IfOk result (TellsTask N.value set.now task.now) }
     ensures within { IfOk result (HasConstantWithin N.limit) }
 {
     let rows = set.rows.items().len() as u32;
@@ -79,7 +79,7 @@ fn along<N: Exact>(
     requires few { IsFewSet set.now }
     requires task { FitsSet N.limit set.now.columns task.now }
     requires searched { HasSearched (program_of_set set.now) task.now.cost kinds.Unbounded solver.now }
-    ensures told { IfOk result (TellsTask N.value set.now task.now) }
+    ensures found { IfOk result (TellsTask N.value set.now task.now) }
     ensures within { IfOk result (HasConstantWithin N.limit) }
 {
     let rows = set.rows.items().len() as u32;

@@ -38,7 +38,7 @@ pub fn go_on<N: Exact, L: Ledger>(
     requires few { IsFewSet set.now }
     requires task { FitsSet N.limit set.now.columns task.now }
     requires solved { IsSolved (program_of_set set.now) solver.old }
-    ensures told { IfOk result (λ answer. MatchResult answer (TellsTask N.value set.now task.now)
+    ensures found { IfOk result (λ answer. MatchResult answer (TellsTask N.value set.now task.now)
         (λ stop. HasStoppedSearch N.limit (program_of_set set.now) task.now.cost stop solver.new)) }
     ensures within { IfOk result (λ answer. IfOk answer (HasConstantWithin N.limit)) }
     ensures columns { solver.new.columns ≡ solver.old.columns }

@@ -26,7 +26,7 @@ column-requires g c = record { ray = c.requires.searched.answered.0 }
 
 pub returns : goal.returns
 returns g c = record {
-  told = λ m is step i some z size t. along_told g.N.Exact.value m c.args.set.now is step i some z size
+  found = λ m is step i some z size t. along_told g.N.Exact.value m c.args.set.now is step i some z size
       c.args.task.now t c.args.solver.now c.requires.searched c.in_ok-ray.ray c.in_ok-basis.basis c.column.result
       c.in_ok-ray.ensures.parameters c.in_ok-basis.ensures.basis c.column.ensures.column;
   within = tt;

@@ -38,8 +38,8 @@ dual_values-requires g c = record {
 pub value-requires : goal.value-requires
 value-requires g c = record { optimum = c.requires.searched.answered.0 }
 
-pub returns-clause-told : goal.returns-clause-told
-returns-clause-told g c =
+pub returns-clause-found : goal.returns-clause-found
+returns-clause-found g c =
     let d : nat_abs c.args.task.now.common ≤ 2 ^ 62 - 1 =
     omega (arith, c.requires.task.common_within, g.met.N.Exact.limit_high) in
     let k : nat_abs c.args.task.now.constant ≤ 2 ^ 62 - 1 =

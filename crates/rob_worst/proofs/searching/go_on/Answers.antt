@@ -25,8 +25,8 @@ told-requires-clause-searched g c =
     (c.in-Ok.ensures.resumed h.last.program h.stands))
     c.in-Ok.ensures.answered
 
-pub returns-in-Err-clause-told : goal.returns-in-Err-clause-told
-returns-in-Err-clause-told g c =
+pub returns-in-Err-clause-found : goal.returns-in-Err-clause-found
+returns-in-Err-clause-found g c =
     let h : IsSolved (program_of_set c.args.set.now) c.args.solver.now = c.requires.solved in
     stopped_search (program_of_set c.args.set.now) c.args.solver.now h c.args.solver.now c.resume.new.self refl
     c.resume.ensures.positions c.resume.ensures.columns g.N.Exact.limit c.args.task.now.cost c.in-Err.stop

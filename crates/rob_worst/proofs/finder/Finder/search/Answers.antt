@@ -25,7 +25,7 @@ returns-in-Ok-Ok-clause-answer g c = λ m model is step i some z size h.
     let told : TellsTask value c.args.set.now c.in-Ok.task c.in-Ok-Ok.worst =
     subst (λ r. MatchResult r (TellsTask value c.args.set.now c.in-Ok.task)
     (λ stop. HasStoppedSearch limit (program_of_set c.args.set.now) c.in-Ok.task.cost stop c.go_on.new.solver))
-    c.in-Ok-Ok.field-0-is c.in-Ok-Ok.ensures.told in
+    c.in-Ok-Ok.field-0-is c.in-Ok-Ok.ensures.found in
     search_found value limit m step i z (g.L.Ledger.wides c.args.ledger.now) (g.L.Ledger.wides c.go_on.new.ledger)
     c.in-Ok-Ok.worst (told m is step i some z size t) c.go_on.ensures.counted.wides
 
