@@ -72,7 +72,7 @@ abbrev pub IsOutcome : {N : Type 0} → (N → Fraction) → ℕ → RobustModel
 IsOutcome value limit m rounds (outcome.Cut round) = IsNext limit m rounds round
 IsOutcome value limit m rounds (outcome.End cert) = IsEnd m (cuts_told rounds) (certificate_of value cert)
 
--- what the round behind these rounds leads to, of each model whose forms and set rows these are
+-- what the round behind these rounds leads to, of each well formed model whose forms and set rows these are
 abbrev pub LeadsOn : {N : Type 0} → (N → Fraction) → ℕ → Elaborated → List Told → Result (Outcome N) Stop → Type 0
 LeadsOn value limit model rounds result =
     OfEachModel model.forms.now model.set.now

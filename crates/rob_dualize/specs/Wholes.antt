@@ -47,7 +47,7 @@ counterpart_in model = reform (wholes_in model)
 abbrev pub cost_of : Forms → ℕ → ℤ
 cost_of forms = tau_cost (wholes forms (record { columns = 0; rows = [] }))
 
--- it is so of each model whose forms and set rows these are
+-- it is so of each well formed model whose forms and set rows these are
 abbrev pub OfEachModel : Forms → SetForm → (RobustModel → Type 0) → Type 0
 OfEachModel forms set P = (m : RobustModel) → IsModel m → IsForms m forms → IsSetForm m set → P m
 

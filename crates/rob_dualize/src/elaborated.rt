@@ -6,7 +6,7 @@ use rob_sets::SetForm;
 /// A model's forms and its set rows, in whole numbers.
 #[derive(Clone, Copy)]
 pub struct Elaborated<'a> {
-    /// Its rows, the bounds of its variables, and its objective.
+    /// The matrices of its objective, its rows and the bounds of its variables.
     pub forms: &'a Forms,
     /// The rows of its uncertainty sets.
     pub set: &'a SetForm,

@@ -11,7 +11,7 @@ use rob_model::Scenario;
 use rob_number::{Exact, List};
 use std::alloc::Global;
 
-/// Infeasible: the items alone, with a scenario that is admitted.
+/// Infeasible: the items alone, with the scenario.
 pub fn with_items<N: Exact>(alloc: Global, inside: Scenario<N>, items: List<Item<N>>) -> Cert<N>
     ensures certificate { certificate_of N.value result
         ≡ infeasible_with (scenario_of N.value inside) (map (item_of N.value) items) }

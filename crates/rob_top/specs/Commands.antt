@@ -1,5 +1,5 @@
--- The commands by their work: those that do the same work solve models, grow trees, sweep or cut alike. What a command
--- asks of its model goes by its work alone.
+-- The commands by their work: two that do the same work solve a model, grow a tree, sweep or cut alike; the two that
+-- read no model stand together. What a command asks of its model goes by its work alone.
 use Rattle.std.specs.Prelude.{◌≡◌, Bool, true, false}
 use Rattle.rob_words.specs.declared.verb.Verb.{Verb}
 use Rattle.rob_words.specs.declared.verb.Verb.TheVariants.{Rows, Solve, Prove, Check, Replay, Text, Gen, Whole, Tree, Narrow, Sweep, SweepText, CheckTree, Worst, Cells, CellText}

@@ -40,7 +40,7 @@ pub record AreVariables (m : RobustModel) (names : List Word) (numbers : List �
   pub named : map (name_at (column_names m)) numbers ≡ names
   pub kept : KeepsNames m numbers
 
--- the bytes are the text of no certificate of the model, of numbers within the limit: they break this rule first, at
+-- the bytes are the text of no certificate of the model with numbers within the limit: they break this rule first, at
 -- this line
 abbrev pub BreaksCertificate : ℕ → RobustModel → List ℕ → ℕ → ℕ → Type 0
 BreaksCertificate limit m bytes rule number = HasCause (naming_of m) limit start bytes 1 (Rule rule number)
@@ -80,7 +80,7 @@ module _ (call : Call) where
     pub is_verb : line.verb ≡ verb
     pub file : HasFile call line own.Certificate bytes
 
-  -- and it is the text of this certificate, whose numbers are within the line's width. It isn't checked
+  -- and it is the text of this certificate, whose numbers are within the line's width; whether it proves isn't asked
   pub record HasCertificate (verb : Verb) (line : Line) (m : RobustModel) (c : Certificate) : Type 0 where
     pub bytes : List ℕ
     pub file : HasCertificateFile verb line m bytes

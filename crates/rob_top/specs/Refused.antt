@@ -103,7 +103,7 @@ module _ (call : Call) where
     pub breaks : BreaksCertificate (limit_of line) m bytes rule number
     pub printed : text ≡ certificate_fault_text rule number
 
-  -- the command has no plan by the certificate, so the rule and the line are named
+  -- the certificate gives this command no plan, so the rule and the line are named
   pub record IsNoPlan (verb : Verb) (rule number : ℕ) (text : List ℕ) : Type 0 where
     pub line : Line
     pub m : RobustModel
