@@ -101,7 +101,7 @@ fn append_covers<N: Exact>(
 }
 
 /// The items, by form: those whose base and vector are not all 0. Each has weight 1.
-pub fn items<N: Exact>(
+pub(crate) fn items<N: Exact>(
     alloc: Global,
     model: Elaborated,
     numbers: &[N],
