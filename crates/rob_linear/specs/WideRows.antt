@@ -46,12 +46,6 @@ pub record HasWideRow (limit : ℕ) (P : Program) (basis : Columns) (i : ℕ) : 
   pub reached : Reached P basis
   pub wide : IsWideAt limit P basis i
 
--- the list is the whole basis, a column for each row of the program; it is on the path, and a row of that position is
--- wide there
-pub record TellsWideRow (limit : ℕ) (P : Program) (basis : List ℕ) (i : ℕ) : Type 0 where
-  pub whole : length basis ≡ P.m
-  pub row : HasWideRow limit P (columns_of basis) i
-
 -- the same without the auxiliary form: the program's own row, or of the objective's position a stage
 abbrev pub IsOwnWideAt : ℕ → Program → Columns → ℕ → Type 0
 IsOwnWideAt limit P basis i = IsWideIn limit (system_of P) basis i ⊎ ((i ≡ P.m) × IsWideStage limit P basis)
@@ -60,3 +54,9 @@ IsOwnWideAt limit P basis i = IsWideIn limit (system_of P) basis i ⊎ ((i ≡ P
 pub record HasWideRowFrom (limit : ℕ) (P : Program) (start basis : Columns) (i : ℕ) : Type 0 where
   pub reached : ReachedFrom P start basis
   pub wide : IsOwnWideAt limit P basis i
+
+-- the list is the whole basis, a column for each row of the program; it is on the path, and a row of that position is
+-- wide there
+pub record TellsWideRow (limit : ℕ) (P : Program) (basis : List ℕ) (i : ℕ) : Type 0 where
+  pub whole : length basis ≡ P.m
+  pub row : HasWideRow limit P (columns_of basis) i
