@@ -107,7 +107,7 @@ CountsStop before now (EmptySet weights) = now ≡ before
 CountsStop before now (Wide place trace) = now ≡ raised before
 CountsStop before now Memory = before ≤ now
 
--- what an answer has: a refusal so, and else nothing was wide
+-- what an answer has counted of them: a refusal what is said there, any other none
 abbrev pub CountsAnswer : {T : Type 0} → ℕ → ℕ → Result T Stop → Type 0
 CountsAnswer before now result = MatchResult result (λ _. now ≡ before) (CountsStop before now)
 
