@@ -12,7 +12,8 @@ use Rattle.rob_simplex.specs.Dictionaries.{Table, positions, columns_of, rows_of
 use Rattle.rob_simplex.specs.Phases.{StandsFor}
 use Rattle.rob_simplex.specs.PathEnds.{EndsWide}
 
--- a pivot of the first dictionary was begun, and the column has come to the row's position
+-- a pivot of the first dictionary was begun, and the column has come to the row's position; of the kept row nothing is
+-- said
 pub record IsBroken (t t' : Table) (row column : ℕ) : Type 0 where
   pub half : Table
   pub begun : IsBegunPivot t half row column
@@ -41,7 +42,8 @@ abbrev pub StandsFrom : Program → Columns → Table → Type 0
 StandsFrom P start t = StandsFor P t × ReachedFrom P start (columns_of t.basis)
 
 -- what is known of the dictionary of a path that stopped at position i, by what it stopped at: the last basis tells a
--- wide number there; a turn was begun; or in the first phase that row has an entry over the limit of the rows
+-- wide number there; a turn was begun; or a row of that position has an entry over the limit of the rows, in which
+-- phase isn't said
 abbrev pub HaltsAt : (Columns → Type 0) → (Table → Type 0) → ℕ → Program → ℕ → Cause → Table → Type 0
 HaltsAt IsEnd Stood limit P i Told t = EndsWide IsEnd limit P t i
 HaltsAt IsEnd Stood limit P i (Turn row) t = HasBegunTurn Stood t row

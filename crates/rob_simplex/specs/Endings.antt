@@ -100,7 +100,7 @@ HasSolved P kind.Optimal s = IsOptimumOf P s
 HasSolved P kind.Infeasible s = HasWeightsFor P s
 HasSolved P kind.Unbounded s = IsRayOf P s
 
--- the solver stands at a basis on the path, where the row of that position is wide
+-- the solver stands at a basis on the path, where a row of that position is wide
 abbrev pub HasStopped : ℕ → Program → LpStop → Solver → Type 0
 HasStopped limit P (Wide position) s = has_stopped s.state × HasWideRow limit P (columns_of s.basis) position
 
@@ -115,14 +115,14 @@ pub record HasWideWeight (limit : ℕ) (P : Program) (s : Solver) (i : ℕ) : Ty
   pub inside : weight < P.m
   pub wide : limit < nat_abs (weights_of s weight)
 
--- why the solver stopped: the row of that position has an entry over the limit of its own rows; or at the last basis of
+-- why the solver stopped: a row of that position has an entry over the limit of its own rows; or at the last basis of
 -- the path a number is told there that is over the limit of what is told: of an optimum, of a ray, or of weights
 abbrev pub IsCaused : ℕ → Program → LpStop → Solver → Type 0
 IsCaused limit P (Wide position) s = PathStops limit P s.dictionary position ⊎ HasWideWeight limit P s position
 
 -- what is known of a solver that stopped at position i, by what it stopped at: the last basis tells a number there that
--- is over the limit of what is told; a turn of the second phase was begun, from a basis on the path; or in the first
--- phase that row has an entry over the limit of the rows
+-- is over the limit of what is told; a turn of the second phase was begun, from a basis on the path; or a row of that
+-- position has an entry over the limit of the rows, in which phase isn't said
 abbrev pub halted_by : ℕ → Program → ℕ → Solver → Cause → Type 0
 halted_by limit P i s Told = EndsWide (Last P) limit P s.dictionary i ⊎ HasWideWeight limit P s i
 halted_by limit P i s (Turn row) = HasBegunTurn (InSecond P) s.dictionary row

@@ -74,7 +74,8 @@ impl<E: Entry> Dictionary<E> {
         }
     }
 
-    /// The same, but after an `Err` the basis is the next one, and the pivot can be ended by rows of a greater limit.
+    /// The same, but after an `Err` the basis is the next one, and the pivot can be ended by rows of a greater limit,
+    /// the kept row aside.
     pub fn pivot<L: Ledger>(
         &mut self,
         row: usize,

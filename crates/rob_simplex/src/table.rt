@@ -10,8 +10,8 @@ ghost use Rattle.rob_simplex.specs.Tables.{row_at, HasBounds, AreCleared, IsRead
 use rob_entries::{Cells, Entry, PivotRow};
 use rob_number::{Ledger, Wide};
 
-/// Where a row clears the others: this row, of this entry, of a table whose rows have this width. The last number of a
-/// row is its own entry.
+/// A pivot in a table whose rows have this width: the row that clears the others, and the place in a row of the entry
+/// that it clears. The last number of a row is its own entry.
 #[derive(Clone, Copy, Drop)]
 pub struct Pivot {
     pub row: usize,
