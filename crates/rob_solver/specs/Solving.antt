@@ -28,7 +28,7 @@ pub record IsSolved {N : Type 0} (P : Program) (solved : Answer N) : Type 0 wher
   pub answered : HasAnswered solved.kind solved.solver
   pub resumable : HasPoint solved.solver → CanResume P solved.solver
 
--- the solver stands at a basis on the program's path where the row of the told position is wide; want of memory is free
+-- the solver stands at a basis on the program's path where a row of the told position is wide; want of memory is free
 abbrev pub IsStopped : {N : Type 0} → ℕ → Program → Stopped N → Type 0
 IsStopped limit P (Wide solver stop) = (P.m ≡ positions solver) × HasStopped limit P stop solver
 IsStopped limit P Memory = ⊤
@@ -38,8 +38,8 @@ IsStopped limit P Memory = ⊤
 abbrev pub TellsWide : ℕ → Program → LpStop → Solver → Type 0
 TellsWide limit P (At i) s = EndsWide (Last P) limit P s.dictionary i ⊎ HasWideWeight limit P s i
 
--- why: the rows are deep ones, and the row of that position has an entry over their limit, 2^126 - 1; or such a number
--- is told there
+-- why: the rows are deep ones, and a row of that position, as `HasWideRow` has rows, has an entry over their limit,
+-- 2^126 - 1; or such a number is told there
 abbrev pub IsCausedBy : ℕ → Program → LpStop → Solver → Type 0
 IsCausedBy limit P (At i) s =
     ((s.limit ≡ deep_limit) × HasWideRow deep_limit P (columns_of s.basis) i) ⊎ TellsWide limit P (At i) s
