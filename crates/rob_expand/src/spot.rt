@@ -1,7 +1,7 @@
 //! Settings, each with the items of a list that aren't idle there. An item is left out for all settings of a span at
 //! once, where the greatest lengths of its ranges tell that it has none there; the settings are halved until one is
-//! left. So an item without a setting isn't asked for in each. Where ranges that are too long count, an item that has
-//! one isn't left out, though it has no setting: it has to be short.
+//! left. So an item without a setting isn't asked for in each. An item that has to be short to be idle isn't left out
+//! where a range of it is too long, though it has no setting there.
 
 ghost use Rattle.std.specs.Prelude.{◌≡◌, ◌++◌, ℤ, [], ◌∷◌, List as Items, map, IfOk, IfSome, IsTrue, OnOk, false, if◌then◌else◌};
 ghost use Rattle.rob_expand.specs.declared.spot.Spot.{Spot as SpecSpot};
@@ -108,7 +108,7 @@ fn append_spot(
     spots.push(Spot { values, kept })
 }
 
-/// Those of these places whose items may have entries in some of these settings.
+/// Those of these places whose items aren't known to be idle in all of these settings.
 pub fn thin_in(
     alloc: Global,
     short: bool,
@@ -149,7 +149,7 @@ fn is_row(settings: &[Setting]) -> bool {
     }
 }
 
-/// Those of these places whose items may have entries in some setting of a span.
+/// Those of these places whose items aren't known to be idle in all settings of a span.
 fn busy_places(
     alloc: Global,
     short: bool,
