@@ -14,7 +14,7 @@ abbrev pub RoseIf : Bool → ℕ → ℕ → Type 0
 RoseIf true before now = Rose before now
 RoseIf false before now = Unit {0}
 
--- the count of wide results rose, where the error is that a number is wide
+-- the count of wide results rose, where the error is one for width, as `is_wide` says
 abbrev pub RoseIfWide : {E : Type 0} → (E → Bool) → ℕ → ℕ → E → Type 0
 RoseIfWide is_wide before now e = RoseIf (is_wide e) before now
 
