@@ -14,7 +14,7 @@ use Rattle.rob_cert.specs.declared.trace.Round.{Round as Told}
 use Rattle.rob_cert.specs.declared.ending.Stop.{Stop}
 use Rattle.rob_dualize.specs.Ending.{HasEnded}
 use Rattle.rob_dualize.specs.Solving.{IsLastScenario}
-use Rattle.rob_dualize.specs.Wholes.{OfEachModel}
+use Rattle.rob_dualize.specs.Wholes.{HoldsOfEach}
 use Rattle.rob_dualize.specs.declared.elaborated.Elaborated.{Elaborated}
 use Rattle.rob_runs.specs.Cuts.{Cut}
 use Rattle.rob_runs.specs.Readings.{IsReadOff}
@@ -75,7 +75,7 @@ IsOutcome value limit m rounds (outcome.End cert) = IsEnd m (cuts_told rounds) (
 -- what the round behind these rounds leads to, of each well formed model whose forms and set rows these are
 abbrev pub LeadsOn : {N : Type 0} → (N → Fraction) → ℕ → Elaborated → List Told → Result (Outcome N) Stop → Type 0
 LeadsOn value limit model rounds result =
-    OfEachModel model.forms.now model.set.now
+    HoldsOfEach model.forms.now model.set.now
     (λ m. MatchResult result (IsOutcome value limit m rounds) (IsWideNext limit m rounds))
 
 -- the scenario is admitted, and that of the last basis of the set's program

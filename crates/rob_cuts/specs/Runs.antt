@@ -4,7 +4,7 @@ use Rattle.rob_meaning.specs.Places.{Each}
 use Rattle.rob_elab.specs.declared.forms.Forms.{Forms}
 use Rattle.rob_rows.specs.LinearPrograms.{HasNumbersWithin}
 use Rattle.rob_sets.specs.declared.set_form.SetForm.{SetForm}
-use Rattle.rob_dualize.specs.Wholes.{OfEachModel}
+use Rattle.rob_dualize.specs.Wholes.{HoldsOfEach}
 use Rattle.rob_cuts.specs.declared.run.Run.{Run}
 use Rattle.rob_cuts.specs.Master.{IsMasterList}
 use Rattle.rob_cuts.specs.Rounds.{cuts_told, RoundFits, TellsRun}
@@ -15,7 +15,7 @@ pub record IsRunSoFar (limit : ℕ) (forms : Forms) (set : SetForm) (run : Run) 
   pub master : IsMasterList forms (cuts_told run.rounds) run.master
   pub within : HasNumbersWithin limit run.master
   pub fits : Each (RoundFits limit) run.rounds
-  pub tells : OfEachModel forms set (λ m. TellsRun m run.rounds)
+  pub tells : HoldsOfEach forms set (λ m. TellsRun m run.rounds)
 
 -- no run has more rounds than this
 abbrev pub round_limit : Forms → SetForm → ℕ

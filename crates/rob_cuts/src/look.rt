@@ -5,7 +5,7 @@ ghost use Rattle.rob_number.specs.Counts.{NeverFell};
 ghost use Rattle.rob_simplex.specs.Solvers.{HasPoint, HasRay};
 ghost use Rattle.rob_simplex.specs.Solutions.{point_of, ray_of};
 ghost use Rattle.rob_dualize.specs.Solving.{CountsAnswer};
-ghost use Rattle.rob_dualize.specs.Wholes.{OfEachModel};
+ghost use Rattle.rob_dualize.specs.Wholes.{HoldsOfEach};
 ghost use Rattle.rob_runs.specs.Runs.{plan_at, direction_at};
 ghost use Rattle.rob_worst.specs.Finders.{IsFinder};
 ghost use Rattle.rob_cuts.specs.Looks.{IsInPairs, IsPlanLook, IsStepLook};
@@ -54,7 +54,7 @@ pub fn look_at_plan<N: Exact, L: Ledger>(
     requires finder { IsFinder model.set.now finder.old }
     requires point { HasPoint solver.now }
     requires pairs { IsInPairs model.forms.now.columns solver.now.columns (point_of solver.now) }
-    ensures look { OfEachModel model.entry.forms.now model.entry.set.now
+    ensures look { HoldsOfEach model.entry.forms.now model.entry.set.now
         (λ m. MatchResult result (IsPlanLook N.limit m N.value (point_of solver.now))
         (IsScanStopped N.limit m false (plan_at m (point_of solver.now)))) }
     ensures finder { IsFinder model.entry.set.now finder.new }
@@ -81,7 +81,7 @@ pub fn look_at_step<N: Exact, L: Ledger>(
     requires finder { IsFinder model.set.now finder.old }
     requires ray { HasRay solver.now }
     requires pairs { IsInPairs model.forms.now.columns solver.now.columns (ray_of solver.now) }
-    ensures look { OfEachModel model.entry.forms.now model.entry.set.now
+    ensures look { HoldsOfEach model.entry.forms.now model.entry.set.now
         (λ m. MatchResult result (IsStepLook N.limit m N.value (ray_of solver.now))
         (IsScanStopped N.limit m true (direction_at m (ray_of solver.now)))) }
     ensures finder { IsFinder model.entry.set.now finder.new }

@@ -5,7 +5,7 @@ ghost use Rattle.rob_meaning.specs.Places.{Each};
 ghost use Rattle.rob_number.specs.Counts.{NeverFell};
 ghost use Rattle.rob_cert.specs.View.{certificate_of};
 ghost use Rattle.rob_dualize.specs.Solving.{CountsAnswer};
-ghost use Rattle.rob_dualize.specs.Wholes.{counterpart_of, IsFew, AreSound, OfEachModel};
+ghost use Rattle.rob_dualize.specs.Wholes.{counterpart_of, IsFew, AreSound, HoldsOfEach};
 ghost use Rattle.rob_rows.specs.LinearPrograms.{HasNumbersWithin};
 ghost use Rattle.rob_cuts.specs.Master.{IsMasterList, AddsCut};
 ghost use Rattle.rob_cuts.specs.Rounds.{cut_of, CutFits, RoundFits};
@@ -43,9 +43,9 @@ pub fn solve_cuts<N: Exact, L: Ledger>(
     requires model { AreOfModel N.limit forms.now set.now }
     requires few { IsFew (counterpart_of forms.now set.now) }
     // A certificate that proves, read off where the run is finished that the trace tells.
-    ensures solved { IfOk result (λ answer. OfEachModel forms.now set.now
+    ensures solved { IfOk result (λ answer. HoldsOfEach forms.now set.now
         (λ m. IsSolution m (certificate_of N.value answer.0) answer.1.rounds)) }
-    ensures stopped { IfErr result (λ stop. OfEachModel forms.now set.now (λ m. HasCause N.limit m stop)) }
+    ensures stopped { IfErr result (λ stop. HoldsOfEach forms.now set.now (λ m. HasCause N.limit m stop)) }
     // No number of a told round's cut is over the limit.
     ensures fits { MatchResult result (λ answer. Each (RoundFits N.limit) answer.1.rounds) (StopFits N.limit) }
     ensures wides { CountsAnswer (L.wides ledger.old) (L.wides ledger.new) result }

@@ -7,7 +7,7 @@ ghost use Rattle.rob_algebra.specs.Fraction.{Fraction};
 ghost use Rattle.rob_meaning.specs.WellFormed.{IsModel};
 ghost use Rattle.rob_number.specs.Counts.{NeverFell};
 ghost use Rattle.rob_dualize.specs.Solving.{CountsAnswer};
-ghost use Rattle.rob_dualize.specs.Wholes.{OfEachModel};
+ghost use Rattle.rob_dualize.specs.Wholes.{HoldsOfEach};
 ghost use Rattle.rob_worst.specs.Finders.{IsFinder};
 ghost use Rattle.rob_worst.specs.Finding.{HasConstantWithin, Tells, Searches};
 ghost use Rattle.rob_cuts.specs.Solving.{FitsRoute};
@@ -60,7 +60,7 @@ pub fn scan_forms<N: Exact, L: Ledger>(
     requires model { FitsRoute N.limit model }
     requires finder { IsFinder model.set.now finder.old }
     requires target { FitsTarget model.forms.now.columns target }
-    ensures scanned { OfEachModel model.entry.forms.now model.entry.set.now
+    ensures scanned { HoldsOfEach model.entry.forms.now model.entry.set.now
         (λ m. MatchResult result (IsScanned N.limit m N.value (vector_of N.value target.entry))
         (IsScanStopped N.limit m (by_step_of target.entry) (vector_of N.value target.entry))) }
     ensures finder { IsFinder model.entry.set.now finder.new }
@@ -100,7 +100,7 @@ fn search<N: Exact, L: Ledger>(
     requires finder { IsFinder model.set.now finder.old }
     requires form_in { form < length model.forms.now.matrices }
     requires target { FitsTarget model.forms.now.columns target }
-    ensures answer { OfEachModel model.entry.forms.now model.entry.set.now
+    ensures answer { HoldsOfEach model.entry.forms.now model.entry.set.now
         (λ m. Searches N.value N.limit m (by_step_of target.entry) form (vector_of N.value target.entry)
         (L.wides ledger.old) (L.wides ledger.new) result) }
     ensures within { IfOk result (HasConstantWithin N.limit) }

@@ -48,8 +48,8 @@ abbrev pub cost_of : Forms → ℕ → ℤ
 cost_of forms = tau_cost (wholes forms (record { columns = 0; rows = [] }))
 
 -- it is so of each well formed model whose forms and set rows these are
-abbrev pub OfEachModel : Forms → SetForm → (RobustModel → Type 0) → Type 0
-OfEachModel forms set P = (m : RobustModel) → IsModel m → IsForms m forms → IsSetForm m set → P m
+abbrev pub HoldsOfEach : Forms → SetForm → (RobustModel → Type 0) → Type 0
+HoldsOfEach forms set P = (m : RobustModel) → IsModel m → IsForms m forms → IsSetForm m set → P m
 
 -- the program's rows and columns together are as few as a solver takes
 abbrev pub IsFew : Program → Type 0

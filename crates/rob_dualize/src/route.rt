@@ -6,7 +6,7 @@ ghost use Rattle.rob_elab.specs.Elaborated.{AreElaborated};
 ghost use Rattle.rob_solver.specs.Solving.{CountsSolving};
 ghost use Rattle.rob_dualize.specs.Ending.{IsSolvedAs, IsStoppedAs};
 ghost use Rattle.rob_dualize.specs.Solving.{Solves};
-ghost use Rattle.rob_dualize.specs.Wholes.{counterpart_in, counterpart_of, FitsSolver, IsFew, OfEachModel};
+ghost use Rattle.rob_dualize.specs.Wholes.{counterpart_in, counterpart_of, FitsSolver, IsFew, HoldsOfEach};
 
 use crate::certificate::certificate;
 use crate::counterpart::program_rows;
@@ -35,7 +35,7 @@ pub fn solve_dual<N: Exact, L: Ledger>(
 ) -> Result<Cert<N>, Stop>
     requires model { AreElaborated N.limit forms.now set.now }
     requires few { IsFew (counterpart_of forms.now set.now) }
-    ensures solves { OfEachModel forms.now set.now
+    ensures solves { HoldsOfEach forms.now set.now
         (λ m. Solves N.value N.limit m (L.wides ledger.old) (L.wides ledger.new) result) }
     ensures counted { NeverFell L.ops L.wides ledger.old ledger.new }
 {

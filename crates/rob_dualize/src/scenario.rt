@@ -2,7 +2,7 @@
 
 ghost use Rattle.rob_number.specs.Counts.{NeverFell};
 ghost use Rattle.rob_dualize.specs.SetSolving.{Finds};
-ghost use Rattle.rob_dualize.specs.Wholes.{FitsSolver, OfEachModel};
+ghost use Rattle.rob_dualize.specs.Wholes.{FitsSolver, HoldsOfEach};
 
 use crate::elaborated::Elaborated;
 use crate::set_program::{parameters, solved_set};
@@ -20,7 +20,7 @@ pub fn scenario<N: Exact, L: Ledger>(
     ledger: &mut L,
 ) -> Result<Scenario<N>, Stop>
     requires model { FitsSolver N.limit model }
-    ensures found { OfEachModel model.entry.forms.now model.entry.set.now
+    ensures found { HoldsOfEach model.entry.forms.now model.entry.set.now
         (λ m. Finds N.value N.limit m (L.wides ledger.old) (L.wides ledger.new) result) }
     ensures counted { NeverFell L.ops L.wides ledger.old ledger.new }
 {

@@ -6,7 +6,7 @@ use Rattle.rob_meaning.specs.RobustModel.{RobustModel}
 use Rattle.rob_model.specs.declared.place.Spot.{Spot}
 use Rattle.rob_sets.specs.Appending.{StopsAt}
 use Rattle.rob_sets.specs.FirstWide.{Judged, HasCause, IsFirstWide, IsWideThere, NothingWide, spot_of}
-use Rattle.rob_sets.specs.Judging.{Judging}
+use Rattle.rob_sets.proofs.JudgingLemmas.{Judging}
 use Rattle.rob_sets.specs.Stops.{StopsFor, error_of}
 use Rattle.rob_sets.specs.declared.error.ElabErr.{ElabErr}
 use Rattle.rob_sets.specs.declared.error.ElabErr.TheVariants as Refused

@@ -1,12 +1,18 @@
--- Judging in order: it begins with all, goes one step on where what comes is not wide, stops where it is, and ends.
+-- Judging in order: item after item is found not wide, up to the first that is, where a computation stops. It begins with
+-- all, goes one step on where what comes is not wide, stops where it is, and ends.
 use Rattle.std.specs.Prelude.{◌≡◌, List, [], ◌++◌, refl}
 use Rattle.std.proofs.Common.{sym, ◌∙◌, ap, subst, append_assoc}
 use Rattle.rob_meaning.specs.Places.{Each}
 use Rattle.rob_meaning.proofs.EachLemmas.{each_append}
 use Rattle.rob_sets.specs.FirstWide.{Some_of}
-use Rattle.rob_sets.specs.Judging.{Judging}
 use Rattle.rob_sets.proofs.ListLemmas.{append-nil, some_left, some_right}
 use Rattle.rob_sets.proofs.PartedLemmas.{Parted}
+
+-- of all that is judged some is done, none of it wide, and the rest is left
+pub record Judging {A : Type 0} (IsWide : A → Type 0) (all left : List A) : Type 0 where
+  pub done : List A
+  pub none_wide : Each (λ x. IsWide x → ⊥) done
+  pub order : done ++ left ≡ all
 
 module _ {A : Type 0} {IsWide : A → Type 0} where
   pub judging_begins : (all : List A) → Judging IsWide all all

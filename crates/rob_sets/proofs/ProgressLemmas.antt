@@ -6,11 +6,10 @@ use Rattle.rob_meaning.specs.Places.{Each}
 use Rattle.rob_meaning.specs.RobustModel.{RobustModel}
 use Rattle.rob_sets.specs.Appending.{AppendsLines, AppendsOr, StopsAt}
 use Rattle.rob_sets.specs.FirstWide.{Judged, IsWideThere}
-use Rattle.rob_sets.specs.Judging.{Judging}
 use Rattle.rob_sets.specs.declared.error.ElabErr.{ElabErr}
 use Rattle.rob_sets.proofs.AppendingLemmas.{appended_length, appends_both, appends_err}
 use Rattle.rob_sets.proofs.JudgedLemmas.{stops_judging}
-use Rattle.rob_sets.proofs.JudgingLemmas.{judging_begins, judging_ends, judging_goes_on}
+use Rattle.rob_sets.proofs.JudgingLemmas.{Judging, judging_begins, judging_ends, judging_goes_on}
 use Rattle.rob_sets.proofs.ListLemmas.{append-nil, length-both}
 use Rattle.rob_sets.proofs.PartedLemmas.{Parted, parted_last}
 

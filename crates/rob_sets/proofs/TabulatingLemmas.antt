@@ -13,7 +13,6 @@ use Rattle.rob_meaning.specs.Expressions.{Expression, adaptive, adaptive_in}
 use Rattle.rob_meaning.specs.Places.{Each}
 use Rattle.rob_meaning.specs.RobustModel.{RobustModel}
 use Rattle.rob_sets.specs.FirstWide.{Some_of}
-use Rattle.rob_sets.specs.Judging.{Judging}
 use Rattle.rob_sets.specs.Stops.{StopsFor}
 use Rattle.rob_sets.specs.Subexpressions.{subexpressions, HasWideCoefficient}
 use Rattle.rob_sets.specs.Tables.{numbers_of}
@@ -21,7 +20,7 @@ use Rattle.rob_sets.specs.Tabulating.{IsTableOf, IsWideOnWay, Tabulates}
 use Rattle.rob_sets.specs.declared.error.Stop.{Stop}
 use Rattle.rob_sets.specs.declared.error.Stop.TheVariants as Stopped
 use Rattle.rob_sets.specs.declared.table.Table.{Table}
-use Rattle.rob_sets.proofs.JudgingLemmas.{judging_goes_on, judging_stops}
+use Rattle.rob_sets.proofs.JudgingLemmas.{Judging, judging_goes_on, judging_stops}
 use Rattle.rob_sets.proofs.NumberLemmas.{number_fits}
 use Rattle.rob_sets.proofs.PartedLemmas.{Parted, parted}
 use Rattle.rob_sets.proofs.JointLemmas.{default_table}

@@ -1,6 +1,5 @@
 pub mod Appending
 pub mod FirstWide
-pub mod Judging
 pub mod SetForm
 pub mod Stops
 pub mod Subexpressions

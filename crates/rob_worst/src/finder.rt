@@ -16,7 +16,7 @@ ghost use Rattle.rob_dualize.specs.Solving.{CountsAnswer, HasScenario, IsLastSce
 ghost use Rattle.rob_dualize.specs.SetSolving.{IsSetOfModel, IsFewSet};
 ghost use Rattle.rob_worst.specs.Finders.{IsFinder};
 ghost use Rattle.rob_dualize.specs.SetSolving.{HasSetCause};
-ghost use Rattle.rob_dualize.specs.Wholes.{OfEachModel};
+ghost use Rattle.rob_dualize.specs.Wholes.{HoldsOfEach};
 ghost use Rattle.rob_worst.specs.Finding.{HasConstantWithin, HasSearchCause, Searches};
 ghost use Rattle.rob_worst.specs.Tasks.{FitsSet, IsTaskOf};
 ghost use Rattle.rob_worst.specs.Vectors.{plan_of, step_of};
@@ -82,7 +82,7 @@ impl<N: Exact> Finder<N> {
         requires finder { IsFinder set.now self.old }
         requires form_in { form < length forms.now.matrices }
         requires size { length plan.now.columns ≡ forms.now.columns }
-        ensures answer { OfEachModel forms.now set.now
+        ensures answer { HoldsOfEach forms.now set.now
             (λ m. Searches N.value N.limit m false form (plan_of N.value plan.now)
             (L.wides ledger.old) (L.wides ledger.new) result) }
         ensures within { IfOk result (HasConstantWithin N.limit) }
@@ -109,7 +109,7 @@ impl<N: Exact> Finder<N> {
         requires finder { IsFinder set.now self.old }
         requires form_in { form < length forms.now.matrices }
         requires size { length step.now ≡ suc forms.now.columns }
-        ensures answer { OfEachModel forms.now set.now
+        ensures answer { HoldsOfEach forms.now set.now
             (λ m. Searches N.value N.limit m true form (step_of N.value step.now)
             (L.wides ledger.old) (L.wides ledger.new) result) }
         ensures within { IfOk result (HasConstantWithin N.limit) }

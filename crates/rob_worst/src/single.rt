@@ -4,7 +4,7 @@ ghost use Rattle.std.specs.Prelude.{◌≡◌, ◌<◌, suc, true, false, length
 ghost use Rattle.rob_number.specs.Counts.{NeverFell};
 ghost use Rattle.rob_elab.specs.Elaborated.{AreElaborated};
 ghost use Rattle.rob_dualize.specs.SetSolving.{IsFewSet};
-ghost use Rattle.rob_dualize.specs.Wholes.{OfEachModel};
+ghost use Rattle.rob_dualize.specs.Wholes.{HoldsOfEach};
 ghost use Rattle.rob_worst.specs.Finding.{FindsWorst, HasConstantWithin};
 ghost use Rattle.rob_worst.specs.Vectors.{plan_of, step_of};
 
@@ -33,7 +33,7 @@ pub fn worst<N: Exact, L: Ledger>(
     requires few { IsFewSet set.now }
     requires form_in { form < length forms.now.matrices }
     requires size { length plan.now.columns ≡ forms.now.columns }
-    ensures answer { OfEachModel forms.now set.now
+    ensures answer { HoldsOfEach forms.now set.now
         (λ m. FindsWorst N.value N.limit m false form (plan_of N.value plan.now)
         (L.wides ledger.old) (L.wides ledger.new) result) }
     ensures within { IfOk result (HasConstantWithin N.limit) }
@@ -57,7 +57,7 @@ pub fn worst_step<N: Exact, L: Ledger>(
     requires few { IsFewSet set.now }
     requires form_in { form < length forms.now.matrices }
     requires size { length step.now ≡ suc forms.now.columns }
-    ensures answer { OfEachModel forms.now set.now
+    ensures answer { HoldsOfEach forms.now set.now
         (λ m. FindsWorst N.value N.limit m true form (step_of N.value step.now)
         (L.wides ledger.old) (L.wides ledger.new) result) }
     ensures within { IfOk result (HasConstantWithin N.limit) }
