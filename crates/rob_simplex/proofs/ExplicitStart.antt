@@ -23,7 +23,7 @@ use Rattle.rob_linear.proofs.BesideBack.{begun_stands, begun_wide, begun_cost_wi
 use Rattle.rob_entries.specs.Updates.{IsWideCleared}
 use Rattle.rob_simplex.specs.Dictionaries.{Table, positions, width_of, columns_of, spare_column, rows_of, kept_row_of, IsFree, IsAlone, IsOpen, IsClosed, IsPivoted, ClearsTable}
 use Rattle.rob_simplex.specs.Phases.{IsOpenBeside}
-use Rattle.rob_simplex.specs.Explicit.{InExplicit, IsPrepared}
+use Rattle.rob_simplex.specs.Explicit.{InExplicit, StopsFirst, IsPrepared}
 use Rattle.rob_simplex.proofs.Prepared.{cleared_same, row_of_same, wide_same}
 use Rattle.rob_simplex.proofs.PivotLemmas.{set_twice, zero_stays, free_opened}
 use Rattle.rob_simplex.proofs.NegatedRows.{set_is}
@@ -152,6 +152,9 @@ module _ {P : Program} {q : ℕ} {t : Table} (h : IsOpenBeside P q t) where
               (columns_of t4.basis) (λ i l. basis_is i) h.stood.reached.1,
         )
 
+        path_in : HasAuxiliary P (columns_of t4.basis)
+        path_in = (q, q_low, sym (put_same (columns_of h.before.basis) q (P.n + P.m)) ∙ basis_is q)
+
         -- a cleared row, told by the rows before
         told : (low low' new : Vector) → ((k : ℕ) → k < suc (suc (suc (P.n + P.m))) → low k ≡ low' k)
             → IsClearedBy (width_of t2) x low (rows_of t2 q) new
@@ -216,7 +219,7 @@ module _ {P : Program} {q : ℕ} {t : Table} (h : IsOpenBeside P q t) where
               closed = cz;
               kept_zero = kept_zero4;
             };
-            auxiliary = (q, q_low, sym (put_same (columns_of h.before.basis) q (P.n + P.m)) ∙ basis_is q);
+            auxiliary = path_in;
           }
 
         -- ---- a row would be wide
@@ -286,8 +289,8 @@ module _ {P : Program} {q : ℕ} {t : Table} (h : IsOpenBeside P q t) where
               let s = short (kept_row_of t2) (rows_of t P.m) (λ k kl. p.kept k) kept2 (wk (omega (arith, m2, e))) in
               row_wide P.m s.0 (omega arith) (λ y. absurd (omega (arith, q_low))) s.1 s.2 s.3
 
-          pub begins_refused : HasWideRow limit P (columns_of t4.basis) (min i (positions t))
-          begins_refused = elim (cases_lt i P.m) [
+          refused_row : HasWideRow limit P (columns_of t4.basis) (min i (positions t))
+          refused_row = elim (cases_lt i P.m) [
             | inl l ↦
                 subst (λ v. HasWideRow limit P (columns_of t4.basis) v)
                 (let y : i ≡ min i (positions t) = omega (arith, open_size) in y) (low_wide l)
@@ -299,6 +302,9 @@ module _ {P : Program} {q : ℕ} {t : Table} (h : IsOpenBeside P q t) where
                   | inr d ↦ kept_wide (omega (arith, inside, open_size))
                 ])
           ]
+
+          pub begins_refused : StopsFirst limit P (columns_of t4.basis) (min i (positions t))
+          begins_refused = record { row = refused_row; phase = inl path_in }
 
       -- ---- what clearing has made of the rows, and the column's coming to the position
       module _ (t3 t4 : Table) (b3 : t3.basis ≡ t2.basis) (n3 : t3.columns ≡ t2.columns)

@@ -29,7 +29,7 @@ use Rattle.rob_linear.proofs.MultiplePhases.{kept_multiple}
 use Rattle.rob_entries.specs.Updates.{IsWideCleared}
 use Rattle.rob_simplex.specs.Dictionaries.{Table, positions, width_of, columns_of, basic_columns, spare_column, shape, rows_of, kept_row_of, IsFree, IsClosed, IsPivoted, FirstNegative}
 use Rattle.rob_simplex.specs.Pivots.{KeepsSpare}
-use Rattle.rob_simplex.specs.Explicit.{HoldsExplicit, InExplicit, EndsExplicit, HasTurnedExplicit, turn_after, turns_left_explicit}
+use Rattle.rob_simplex.specs.Explicit.{HoldsExplicit, InExplicit, EndsExplicit, HasTurnedExplicit, FollowsFirst, StopsFirst, turn_after, turns_left_explicit}
 use Rattle.rob_simplex.proofs.ReadRows.{basic_low, basic_high}
 use Rattle.rob_simplex.proofs.SpareColumns.{wide_cleared, wide_primitive, wide_entry}
 use Rattle.rob_simplex.proofs.PivotLemmas.{zero_stays}
@@ -375,11 +375,11 @@ module _ {P : Program} {t : Table} (h : HoldsExplicit P t) where
               ));
             }
 
-        pub explicit_refused : (i : ℕ) → i < positions t + 2 → i ≢ row
+        refused_row : (i : ℕ) → i < positions t + 2 → i ≢ row
             → (i ≤ positions t → IsWideCleared limit (width_of t) column (rows_of t i) (rows_of t row))
             → (i ≡ suc (positions t) → IsWideCleared limit (width_of t) column (kept_row_of t) (rows_of t row))
             → HasWideRow limit P (columns_of (set t.basis row column)) (min i (positions t))
-        explicit_refused i il d w k = elim (cases_eq i (suc (positions t))) [
+        refused_row i il d w k = elim (cases_eq i (suc (positions t))) [
           | inl e ↦
               subst (λ v. HasWideRow limit P (columns_of (set t.basis row column)) v)
               (let x : P.m ≡ min i (positions t) = omega (arith, h.rows_are) in x) (explicit_wide_kept (k e))
@@ -388,6 +388,15 @@ module _ {P : Program} {t : Table} (h : HoldsExplicit P t) where
               (let x : i ≡ min i (positions t) = omega (arith, h.rows_are) in x)
               (explicit_wide i (omega (arith, h.rows_are)) d (w (omega arith)))
         ]
+
+        follows : FollowsFirst P (columns_of (set t.basis row column))
+        follows = (columns_of t.basis, h.reached, a, turn_exists.0)
+
+        pub explicit_refused : (i : ℕ) → i < positions t + 2 → i ≢ row
+            → (i ≤ positions t → IsWideCleared limit (width_of t) column (rows_of t i) (rows_of t row))
+            → (i ≡ suc (positions t) → IsWideCleared limit (width_of t) column (kept_row_of t) (rows_of t row))
+            → StopsFirst limit P (columns_of (set t.basis row column)) (min i (positions t))
+        explicit_refused i il d w k = record { row = refused_row i il d w k; phase = inr follows }
 
 -- ---- the ends
 pub explicit_ends : (P : Program) (t : Table) → InExplicit P t

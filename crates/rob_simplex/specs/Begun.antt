@@ -5,10 +5,10 @@ use Rattle.rob_linear.specs.Vectors.{Columns}
 use Rattle.rob_linear.specs.Programs.{Program}
 use Rattle.rob_linear.specs.Turns.{Leaves}
 use Rattle.rob_linear.specs.Paths.{ReachedFrom}
-use Rattle.rob_linear.specs.WideRows.{HasWideRow}
 use Rattle.rob_simplex.specs.declared.state.Cause.{Cause}
 use Rattle.rob_simplex.specs.declared.state.Cause.TheVariants.{Told, Turn, First, Elsewhere}
 use Rattle.rob_simplex.specs.Dictionaries.{Table, positions, columns_of, rows_of, spare_column, shape, FirstNegative, IsBegunPivot, IsExchanged}
+use Rattle.rob_simplex.specs.Explicit.{StopsFirst}
 use Rattle.rob_simplex.specs.Phases.{StandsFor}
 use Rattle.rob_simplex.specs.PathEnds.{EndsWide}
 
@@ -42,10 +42,9 @@ abbrev pub StandsFrom : Program → Columns → Table → Type 0
 StandsFrom P start t = StandsFor P t × ReachedFrom P start (columns_of t.basis)
 
 -- what is known of the dictionary of a path that stopped at position i, by what it stopped at: the last basis tells a
--- wide number there; a turn was begun; or a row of that position has an entry over the limit of the rows, in which
--- phase isn't said
+-- wide number there; a turn was begun; or the first phase stops there, by the limit of the rows
 abbrev pub HaltsAt : (Columns → Type 0) → (Table → Type 0) → ℕ → Program → ℕ → Cause → Table → Type 0
 HaltsAt IsEnd Stood limit P i Told t = EndsWide IsEnd limit P t i
 HaltsAt IsEnd Stood limit P i (Turn row) t = HasBegunTurn Stood t row
-HaltsAt IsEnd Stood limit P i First t = HasWideRow t.limit P (columns_of t.basis) i
+HaltsAt IsEnd Stood limit P i First t = StopsFirst t.limit P (columns_of t.basis) i
 HaltsAt IsEnd Stood limit P i Elsewhere t = ⊥

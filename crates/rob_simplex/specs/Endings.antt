@@ -19,6 +19,7 @@ use Rattle.rob_simplex.specs.declared.state.LpStop.TheVariants.{Wide}
 use Rattle.rob_simplex.specs.Dictionaries.{columns_of}
 use Rattle.rob_simplex.specs.Solvers.{Solver, positions, entries, column_of, HasPoint, HasOptimum, HasRay, HasWeights, IsMadeFor, has_stopped}
 use Rattle.rob_simplex.specs.Begun.{HasBegunAt, HasBegunTurn}
+use Rattle.rob_simplex.specs.Explicit.{StopsFirst}
 use Rattle.rob_simplex.specs.PathEnds.{EndsWide, PathEnds, PathTells, PathStops}
 use Rattle.rob_simplex.specs.declared.path.Ending.{Ending}
 use Rattle.rob_simplex.specs.declared.state.Halt.{Halt}
@@ -121,12 +122,12 @@ abbrev pub IsCaused : ℕ → Program → LpStop → Solver → Type 0
 IsCaused limit P (Wide position) s = PathStops limit P s.dictionary position ⊎ HasWideWeight limit P s position
 
 -- what is known of a solver that stopped at position i, by what it stopped at: the last basis tells a number there that
--- is over the limit of what is told; a turn of the second phase was begun, from a basis on the path; or a row of that
--- position has an entry over the limit of the rows, in which phase isn't said
+-- is over the limit of what is told; a turn of the second phase was begun, from a basis on the path; or the first phase
+-- stops there, as a row of that position has an entry over the limit of the rows
 abbrev pub halted_by : ℕ → Program → ℕ → Solver → Cause → Type 0
 halted_by limit P i s Told = EndsWide (Last P) limit P s.dictionary i ⊎ HasWideWeight limit P s i
 halted_by limit P i s (Turn row) = HasBegunTurn (InSecond P) s.dictionary row
-halted_by limit P i s First = HasWideRow s.limit P (columns_of s.basis) i
+halted_by limit P i s First = StopsFirst s.limit P (columns_of s.basis) i
 halted_by limit P i s Elsewhere = ⊥
 
 -- so of the stop that is told

@@ -1,8 +1,10 @@
 -- The first phase in the explicit form, in which the auxiliary column is basic, and how the first phase ends.
 use Rattle.std.specs.Prelude.{◌≡◌, ◌≢◌, ℕ, suc, ◌<◌, ◌+◌, ◌-◌, ◌⊎◌, Bool, true, false, pos, ◌≤ℤ◌}
+use Rattle.rob_linear.specs.Vectors.{Columns}
 use Rattle.rob_linear.specs.Programs.{Program, auxiliary_of, kept_of}
-use Rattle.rob_linear.specs.Turns.{own_of}
+use Rattle.rob_linear.specs.Turns.{own_of, TurnsTo}
 use Rattle.rob_linear.specs.Paths.{HasAuxiliary, Reached}
+use Rattle.rob_linear.specs.WideRows.{HasWideRow}
 use Rattle.rob_linear.specs.Rank.{rank, rank_limit}
 use Rattle.rob_linear.specs.Multiples.{IsMultipleRow, StandsMultiple}
 use Rattle.rob_simplex.specs.declared.first_phase.FirstEnding.{FirstEnding}
@@ -71,6 +73,17 @@ FirstTurns P (Infeasible row) t = EndsAtRow P row t ⊎ ((row ≡ P.m) × EndsEx
 abbrev pub FirstEnds : Program → FirstEnding → Table → Type 0
 FirstEnds P Feasible t = InSecond P t
 FirstEnds P (Infeasible row) t = EndsAtRow P row t ⊎ ((row ≡ P.m) × EndsExplicit P t)
+
+-- a turn of the auxiliary form leads to the basis, from one on the path in which the auxiliary column is basic
+abbrev pub FollowsFirst : Program → Columns → Type 0
+FollowsFirst P basis =
+    (before : Columns) × Reached P before × HasAuxiliary P before × TurnsTo (auxiliary_of P) before basis
+
+-- the first phase stops at the basis: a row of position i is wide there, and the auxiliary column is basic, or was
+-- before the turn that leads there
+pub record StopsFirst (limit : ℕ) (P : Program) (basis : Columns) (i : ℕ) : Type 0 where
+  pub row : HasWideRow limit P basis i
+  pub phase : HasAuxiliary P basis ⊎ FollowsFirst P basis
 
 -- the objective's row is kept, and the auxiliary one stands in its place
 pub record IsPrepared (n m : ℕ) (t t2 : Table) : Type 0 where

@@ -3,11 +3,10 @@
 
 ghost use Rattle.std.specs.Prelude.{◌≡◌, ◌≤◌, IfOk, IfErr, MatchResult};
 ghost use Rattle.rob_linear.specs.Programs.{Program};
-ghost use Rattle.rob_linear.specs.WideRows.{HasWideRow};
 ghost use Rattle.rob_simplex.specs.Counting.{CountsRows};
 ghost use Rattle.rob_simplex.specs.Dictionaries.{positions, columns_of, IsSized};
 ghost use Rattle.rob_simplex.specs.Phases.{IsOpenBeside};
-ghost use Rattle.rob_simplex.specs.Explicit.{InExplicit, HasTurnedExplicit, FirstTurns, turn_after};
+ghost use Rattle.rob_simplex.specs.Explicit.{InExplicit, HasTurnedExplicit, FirstTurns, StopsFirst, turn_after};
 
 use crate::dictionary::Dictionary;
 use crate::first_phase::FirstEnding;
@@ -37,7 +36,7 @@ impl<E: Entry> Dictionary<E> {
         ensures ended { (P : Program) → IsOpenBeside P q self.old
             → MatchResult result
             (λ ending. FirstTurns P ending self.new)
-            (λ i. HasWideRow self.old.limit P (columns_of self.new.basis) i) }
+            (λ i. StopsFirst self.old.limit P (columns_of self.new.basis) i) }
         ensures position { IfErr result (λ i. i ≤ positions self.old) }
         ensures sized { IsSized self.old self.new }
         ensures counted { CountsRows L.ops L.wides ledger.old ledger.new }
@@ -56,7 +55,7 @@ impl<E: Entry> Dictionary<E> {
         ensures ended { (P : Program) → IsOpenBeside P q self.old
             → MatchResult result
             (λ _. InExplicit P self.new)
-            (λ i. HasWideRow self.old.limit P (columns_of self.new.basis) i) }
+            (λ i. StopsFirst self.old.limit P (columns_of self.new.basis) i) }
         ensures position { IfErr result (λ i. i ≤ positions self.old) }
         ensures sized { IsSized self.old self.new }
         ensures counted { CountsRows L.ops L.wides ledger.old ledger.new }
@@ -79,7 +78,7 @@ impl<E: Entry> Dictionary<E> {
         ensures ended { (P : Program) → InExplicit P self.old
             → MatchResult result
             (λ ending. FirstTurns P ending self.new)
-            (λ i. HasWideRow self.old.limit P (columns_of self.new.basis) i) }
+            (λ i. StopsFirst self.old.limit P (columns_of self.new.basis) i) }
         ensures position { IfErr result (λ i. i ≤ positions self.old) }
         ensures sized { IsSized self.old self.new }
         ensures counted { CountsRows L.ops L.wides ledger.old ledger.new }
@@ -106,7 +105,7 @@ impl<E: Entry> Dictionary<E> {
         ensures turned { IfOk result (λ turn. (P : Program) → InExplicit P self.old
             → HasTurnedExplicit P turn self.old self.new) }
         ensures wide { IfErr result (λ i. (P : Program) → InExplicit P self.old
-            → HasWideRow self.old.limit P (columns_of self.new.basis) i) }
+            → StopsFirst self.old.limit P (columns_of self.new.basis) i) }
         ensures position { IfErr result (λ i. i ≤ positions self.old) }
         ensures sized { IsSized self.old self.new }
         ensures counted { CountsRows L.ops L.wides ledger.old ledger.new }

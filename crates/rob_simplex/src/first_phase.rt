@@ -3,12 +3,11 @@
 
 ghost use Rattle.std.specs.Prelude.{◌≤◌, ◌+◌, IfOk, IfErr, MatchResult};
 ghost use Rattle.rob_linear.specs.Programs.{Program};
-ghost use Rattle.rob_linear.specs.WideRows.{HasWideRow};
 ghost use Rattle.rob_simplex.specs.Counting.{CountsRows};
 ghost use Rattle.rob_simplex.specs.Dictionaries.{positions, columns_of, rows_of, FirstNegative, IsSized};
 ghost use Rattle.rob_simplex.specs.Phases.{InBeside, HasTurnedBeside, IsOpenBeside, EndsBeside};
 ghost use Rattle.rob_simplex.specs.Starts.{IsStartingTable};
-ghost use Rattle.rob_simplex.specs.Explicit.{FirstTurns, FirstEnds};
+ghost use Rattle.rob_simplex.specs.Explicit.{FirstTurns, FirstEnds, StopsFirst};
 
 use crate::dictionary::Dictionary;
 use rob_entries::Entry;
@@ -42,7 +41,7 @@ impl<E: Entry> Dictionary<E> {
         ensures ended { (P : Program) → IsStartingTable P self.old
             → MatchResult result
             (λ ending. FirstEnds P ending self.new)
-            (λ i. HasWideRow self.old.limit P (columns_of self.new.basis) i) }
+            (λ i. StopsFirst self.old.limit P (columns_of self.new.basis) i) }
         ensures position { IfErr result (λ i. i ≤ positions self.old) }
         ensures sized { IsSized self.old self.new }
         ensures counted { CountsRows L.ops L.wides ledger.old ledger.new }
@@ -65,7 +64,7 @@ impl<E: Entry> Dictionary<E> {
         ensures ended { (P : Program) → IsStartingTable P self.old
             → MatchResult result
             (λ ending. FirstTurns P ending self.new)
-            (λ i. HasWideRow self.old.limit P (columns_of self.new.basis) i) }
+            (λ i. StopsFirst self.old.limit P (columns_of self.new.basis) i) }
         ensures position { IfErr result (λ i. i ≤ positions self.old) }
         ensures sized { IsSized self.old self.new }
         ensures counted { CountsRows L.ops L.wides ledger.old ledger.new }

@@ -1,7 +1,6 @@
 use Rattle.std.proofs.Common.{◌≡◌, ℕ, ◌+◌, ◌∙◌, sym, ap, subst, arith, length, List, min}
-use Rattle.rob_linear.specs.WideRows.{HasWideRow}
 use Rattle.rob_simplex.specs.Dictionaries.{positions, columns_of, IsFree}
-use Rattle.rob_simplex.specs.Explicit.{IsPrepared}
+use Rattle.rob_simplex.specs.Explicit.{IsPrepared, StopsFirst}
 use Rattle.rob_simplex.specs.Pivots.{CanClear}
 use Rattle.rob_simplex.proofs.Prepared.{prepared}
 use Rattle.rob_simplex.proofs.ExplicitStart.{open_free, open_size, ready_free, explicit_begins, begins_refused, back_basis, back_columns, back_pivoted, back_kept, back_closed}
@@ -104,8 +103,8 @@ returns-in-Err-clause-ended g c P h =
     let n4 = c.replace.ensures.sized.columns in
     let sp = c.in-Err.ensures.stopped in
     let e : min c.in-Err.i (positions t) ≡ c.min.result = ap (λ k. min c.in-Err.i k) (sym em) ∙ sym c.min.ensures in
-    subst (λ v. HasWideRow t.limit P (columns_of t4.basis) v) e
-    (subst (λ (l : ℕ). HasWideRow l P (columns_of t4.basis) (min c.in-Err.i (positions t)))
+    subst (λ v. StopsFirst t.limit P (columns_of t4.basis) v) e
+    (subst (λ (l : ℕ). StopsFirst l P (columns_of t4.basis) (min c.in-Err.i (positions t)))
     (w.sized.limit ∙ k.sized.limit)
     (begins_refused h prep is t4 (back_basis h prep is t3 t4 b3 n3 b4 n4) (back_columns h prep is t3 t4 b3 n3 b4 n4)
     c.write_auxiliary.new.self.limit c.in-Err.i (omega (arith, em, sp.inside)) sp.other sp.wide sp.wide_kept))

@@ -1,7 +1,6 @@
 use Rattle.std.proofs.Common.{◌∙◌, subst, inr}
-use Rattle.rob_linear.specs.WideRows.{HasWideRow}
 use Rattle.rob_simplex.specs.Dictionaries.{columns_of}
-use Rattle.rob_simplex.specs.Explicit.{HasTurnedExplicit}
+use Rattle.rob_simplex.specs.Explicit.{HasTurnedExplicit, StopsFirst}
 use Rattle.rob_simplex.proofs.FirstTurns.{explicit_leaves}
 use Rattle.rob_simplex.proofs.Sizes.{sized_after, counted_after}
 use Rattle.rob_simplex.proofs.dictionary.Dictionary.drive_out.Goals as goal
@@ -43,5 +42,5 @@ turns-smaller g c =
 
 pub returns-in-Err-clause-ended : goal.returns-in-Err-clause-ended
 returns-in-Err-clause-ended g c P h =
-    subst (λ l. HasWideRow l P (columns_of c.turn_explicit.new.self.basis) c.in-Err.i) c.turns.invariant.sized.limit
+    subst (λ l. StopsFirst l P (columns_of c.turn_explicit.new.self.basis) c.in-Err.i) c.turns.invariant.sized.limit
     (c.in-Err.ensures.wide P (c.turns.invariant.stands P h))

@@ -1,7 +1,6 @@
 use Rattle.std.proofs.Common.{ℕ, ◌≤◌, IfErr, MatchResult, subst}
-use Rattle.rob_linear.specs.WideRows.{HasWideRow}
 use Rattle.rob_simplex.specs.Dictionaries.{columns_of}
-use Rattle.rob_simplex.specs.Explicit.{FirstTurns}
+use Rattle.rob_simplex.specs.Explicit.{FirstTurns, StopsFirst}
 use Rattle.rob_simplex.proofs.Sizes.{counted_after, sized_after}
 use Rattle.rob_simplex.proofs.dictionary.Dictionary.explicit_turns.Goals as goal
 
@@ -12,7 +11,7 @@ drive_out-requires g c =
 pub returns-in-Ok-clause-ended : goal.returns-in-Ok-clause-ended
 returns-in-Ok-clause-ended g c P h =
     subst (λ (l : ℕ). MatchResult c.drive_out.result (λ ending. FirstTurns P ending c.drive_out.new.self)
-    (λ i. HasWideRow l P (columns_of c.drive_out.new.self.basis) i)) c.bring_in.ensures.sized.limit
+    (λ i. StopsFirst l P (columns_of c.drive_out.new.self.basis) i)) c.bring_in.ensures.sized.limit
     (c.drive_out.ensures.ended P (c.in-Ok.ensures.ended P h))
 
 pub returns-in-Ok-clause-position : goal.returns-in-Ok-clause-position

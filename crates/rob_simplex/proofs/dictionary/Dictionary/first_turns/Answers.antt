@@ -1,7 +1,6 @@
 use Rattle.std.proofs.Common.{ℕ, ◌≤◌, IfErr, MatchResult, subst, inl}
-use Rattle.rob_linear.specs.WideRows.{HasWideRow}
 use Rattle.rob_simplex.specs.Dictionaries.{columns_of}
-use Rattle.rob_simplex.specs.Explicit.{FirstTurns}
+use Rattle.rob_simplex.specs.Explicit.{FirstTurns, StopsFirst}
 use Rattle.rob_simplex.proofs.FirstTurns.{starts_left, starts_beside}
 use Rattle.rob_simplex.proofs.Sizes.{counted_after, sized_after}
 use Rattle.rob_simplex.proofs.dictionary.Dictionary.first_turns.Goals as goal
@@ -39,7 +38,7 @@ explicit_turns-requires g c = record {
 pub returns-in-Open-clause-ended : goal.returns-in-Open-clause-ended
 returns-in-Open-clause-ended g c P h =
     subst (λ (l : ℕ). MatchResult c.explicit_turns.result (λ ending. FirstTurns P ending c.explicit_turns.new.self)
-    (λ i. HasWideRow l P (columns_of c.explicit_turns.new.self.basis) i)) c.go_beside.ensures.sized.limit
+    (λ i. StopsFirst l P (columns_of c.explicit_turns.new.self.basis) i)) c.go_beside.ensures.sized.limit
     (c.explicit_turns.ensures.ended P
     (c.in-Open.ensures.ended P (starts_beside P c.args.self.now h c.in-Some.q c.in-Some.ensures.least)))
 

@@ -1,7 +1,7 @@
 use Rattle.std.proofs.Common.{◌≤◌, sym, subst, inl}
 use Rattle.rob_linear.specs.WideRows.{HasWideRow}
 use Rattle.rob_simplex.specs.Dictionaries.{columns_of}
-use Rattle.rob_simplex.specs.Explicit.{FirstEnds}
+use Rattle.rob_simplex.specs.Explicit.{FirstEnds, StopsFirst}
 use Rattle.rob_simplex.proofs.JudgingLemmas.{wide_below}
 use Rattle.rob_simplex.proofs.dictionary.Dictionary.follow.Goals as goal
 
@@ -32,7 +32,7 @@ returns-in-Ok-Infeasible-clause-told g c P h = (
 pub returns-in-Err-clause-told : goal.returns-in-Err-clause-told
 returns-in-Err-clause-told g c P h =
     wide_below g.N.Exact.limit c.args.self.now.limit c.requires.limit P (columns_of c.first_phase.new.self.basis)
-    c.in-Err.i (c.in-Err.ensures.ended P h)
+    c.in-Err.i (c.in-Err.ensures.ended P h).row
 
 pub returns-in-Ok-Feasible-clause-caused : goal.returns-in-Ok-Feasible-clause-caused
 returns-in-Ok-Feasible-clause-caused g c P h =
@@ -42,7 +42,7 @@ returns-in-Ok-Feasible-clause-caused g c P h =
 pub returns-in-Err-clause-caused : goal.returns-in-Err-clause-caused
 returns-in-Err-clause-caused g c P h =
     inl (subst (λ l. HasWideRow l P (columns_of c.first_phase.new.self.basis) c.in-Err.i)
-    (sym c.first_phase.ensures.sized.limit) (c.in-Err.ensures.ended P h))
+    (sym c.first_phase.ensures.sized.limit) (c.in-Err.ensures.ended P h).row)
 
 pub returns-in-Ok-Feasible-clause-halted : goal.returns-in-Ok-Feasible-clause-halted
 returns-in-Ok-Feasible-clause-halted g c P h =
@@ -51,5 +51,5 @@ returns-in-Ok-Feasible-clause-halted g c P h =
 
 pub returns-in-Err-clause-halted : goal.returns-in-Err-clause-halted
 returns-in-Err-clause-halted g c P h =
-    subst (λ l. HasWideRow l P (columns_of c.first_phase.new.self.basis) c.in-Err.i)
+    subst (λ l. StopsFirst l P (columns_of c.first_phase.new.self.basis) c.in-Err.i)
     (sym c.first_phase.ensures.sized.limit) (c.in-Err.ensures.ended P h)

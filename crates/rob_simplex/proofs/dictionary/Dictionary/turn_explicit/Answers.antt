@@ -2,9 +2,8 @@ use Rattle.std.proofs.Common.{◌≡◌, ℕ, ◌+◌, ◌<◌, ◌∙◌, sym, 
 use Rattle.std.specs.Prelude.{◌≢◌}
 use Rattle.std.proofs.lemmas.Bool.Decides.{nat_tests}
 use lib.Signed.{◌≤ℤ◌}
-use Rattle.rob_linear.specs.WideRows.{HasWideRow}
 use Rattle.rob_simplex.specs.Dictionaries.{Table, positions, columns_of, basic_columns, rows_of, FirstNegative}
-use Rattle.rob_simplex.specs.Explicit.{HasTurnedExplicit}
+use Rattle.rob_simplex.specs.Explicit.{HasTurnedExplicit, StopsFirst}
 use Rattle.rob_simplex.proofs.Ranks.{IsSmall}
 use Rattle.rob_simplex.proofs.EntryLemmas.{small_entries}
 use Rattle.rob_simplex.proofs.OwnEntries.{keeps_explicit}
@@ -96,8 +95,8 @@ returns-in-Err-clause-wide g c P h =
     let no = c.in-Err.ensures.refused in
     let below : c.in-Err.i < c.len-m.result + 2 = no.inside in
     let e : min c.in-Err.i (positions t) ≡ c.min.result = ap (λ k. min c.in-Err.i k) (sym em) ∙ sym c.min.ensures in
-    subst (λ v. HasWideRow t.limit P (columns_of c.pivot.new.self.basis) v) e
-    (subst (λ (b : List ℕ). HasWideRow t.limit P (columns_of b) (min c.in-Err.i (positions t)))
+    subst (λ v. StopsFirst t.limit P (columns_of c.pivot.new.self.basis) v) e
+    (subst (λ (b : List ℕ). StopsFirst t.limit P (columns_of b) (min c.in-Err.i (positions t)))
     (sym c.pivot.ensures.basis)
     (explicit_refused h.holds first c.in-Some-leaving.ensures.first t.limit h.auxiliary c.in-Err.i
     (omega (arith, em, below)) no.other no.wide (no.wide_kept (kept_spare h.holds))))
