@@ -4,21 +4,22 @@ use Rattle.rob_linear.specs.Programs.{Program}
 use Rattle.rob_linear.specs.WideRows.{HasWideRow}
 use Rattle.rob_number.specs.declared.lp_kind.LpKind.{LpKind}
 use Rattle.rob_simplex.specs.declared.state.Cause.{Cause}
-use Rattle.rob_simplex.specs.declared.state.Cause.TheVariants.{Told, Turn, Elsewhere}
+use Rattle.rob_simplex.specs.declared.state.Cause.TheVariants.{Told, Turn, First, Elsewhere}
 use Rattle.rob_simplex.specs.declared.state.LpStop.{LpStop}
 use Rattle.rob_simplex.specs.declared.state.LpStop.TheVariants.{Wide}
 use Rattle.rob_simplex.specs.declared.state.State.{State}
 use Rattle.rob_simplex.specs.declared.state.State.TheVariants.{New, Optimal, Infeasible, Unbounded, Stopped}
 use Rattle.rob_simplex.specs.Dictionaries.{Table, columns_of}
 use Rattle.rob_simplex.specs.Endings.{HasBegun, HasHalted, HasSolved, HasAnswered, HasStopped, IsCaused, begun_in, halted_by}
+use Rattle.rob_simplex.specs.Explicit.{StopsFirst}
 use Rattle.rob_simplex.specs.Resuming.{CanResume}
 use Rattle.rob_simplex.specs.Solvers.{Solver, positions, HasPoint, HasWeights, IsMadeFor, StandsAs, has_stopped}
 use Rattle.rob_number.specs.Counts.{raised}
 use Rattle.rob_simplex.specs.Counting.{CountsRows}
 use Rattle.rob_solver.specs.declared.solving.Stopped.{Stopped as Unsolved}
 use Rattle.rob_solver.specs.declared.solving.Stopped.TheVariants as unsolved
-use Rattle.rob_solver.specs.Depths.{deep_limit}
-use Rattle.rob_solver.specs.Solving.{CountsSolving, CountsStopped, IsBegun, IsCausedBy, IsSolved, TellsWide}
+use Rattle.rob_solver.specs.Depths.{narrow_limit, deep_limit}
+use Rattle.rob_solver.specs.Solving.{CountsSolving, CountsStopped, IsBegun, IsCausedBy, IsSolved, StopsNarrow, TellsWide}
 
 -- what it told when it was made for the program, and then solved it
 pub solution : (N : Type 0) (P : Program) (made now : Solver) (kind : LpKind) → IsMadeFor P made → now.columns ≡ made.columns → positions now ≡ positions made
@@ -53,6 +54,14 @@ begun_turn limit P (Wide i) s row h e = subst (begun_in P s) (sym e) (halted_her
 
 pub begun_nowhere : (limit : ℕ) (P : Program) (stop : LpStop) (s : Solver) → HasHalted limit P stop s → s.state ≡ Stopped Elsewhere → ⊥
 begun_nowhere limit P (Wide i) s h e = halted_here limit P i s Elsewhere h e
+
+pub stops_narrow : (limit : ℕ) (P : Program) (stop : LpStop) (s : Solver) → HasHalted limit P stop s
+    → s.state ≡ Stopped First → s.limit ≡ narrow_limit → StopsNarrow P
+stops_narrow limit P (Wide i) s h e n = (
+  columns_of s.basis,
+  i,
+  subst (λ l. StopsFirst l P (columns_of s.basis) i) n (halted_here limit P i s First h e),
+)
 
 -- ---- why deep rows stop
 pub caused_by : (limit : ℕ) (P : Program) (stop : LpStop) (s : Solver) → s.limit ≡ deep_limit → IsCaused limit P stop s → IsCausedBy limit P stop s

@@ -1,11 +1,13 @@
 -- What is known of a program that was solved over narrow rows or over deep ones, or over neither.
 use Rattle.std.specs.Prelude.{◌≡◌, ◌⊎◌, ℕ, ◌≤◌, Result, MatchResult, ⊤}
+use Rattle.rob_linear.specs.Vectors.{Columns}
 use Rattle.rob_linear.specs.Programs.{Program}
 use Rattle.rob_linear.specs.Paths.{Last}
 use Rattle.rob_linear.specs.WideRows.{HasWideRow}
 use Rattle.rob_number.specs.Counts.{raised}
 use Rattle.rob_simplex.specs.Dictionaries.{columns_of}
 use Rattle.rob_simplex.specs.Endings.{HasSolved, HasAnswered, HasBegun, HasStopped, HasWideWeight}
+use Rattle.rob_simplex.specs.Explicit.{StopsFirst}
 use Rattle.rob_simplex.specs.PathEnds.{EndsWide}
 use Rattle.rob_simplex.specs.Resuming.{CanResume}
 use Rattle.rob_simplex.specs.Solvers.{Solver, positions, HasPoint}
@@ -58,13 +60,17 @@ pub record IsBegun (P : Program) (s : Solver) : Type 0 where
   pub turn : s.state ≡ Halted (Turn row)
   pub begun : HasBegun P s
 
--- what narrow rows come to; of a first phase that stopped nothing is known
+-- the first phase stops over narrow rows
+abbrev pub StopsNarrow : Program → Type 0
+StopsNarrow P = (basis : Columns) × (i : ℕ) × StopsFirst narrow_limit P basis i
+
+-- what narrow rows come to; deep ones begin anew where the first phase stops
 abbrev pub ComesTo : {N : Type 0} → ℕ → Program → Narrow N → Type 0
 ComesTo limit P (Solved solved) = IsSolved P solved
 ComesTo limit P (Told solver stop) =
     (P.m ≡ positions solver) × HasStopped limit P stop solver × TellsWide limit P stop solver
 ComesTo limit P (Begun solver) = IsBegun P solver
-ComesTo limit P Anew = ⊤
+ComesTo limit P Anew = StopsNarrow P
 
 -- wide results were raised once where a row is told to be wide, and else stand
 abbrev pub CountsStopped : {N : Type 0} → ℕ → ℕ → Stopped N → Type 0

@@ -1,7 +1,7 @@
 use Rattle.std.proofs.Common.{◌∙◌, ap, sym}
 use Rattle.rob_rows.specs.LinearPrograms.{program_of}
 use Rattle.rob_simplex.specs.declared.state.State.TheVariants.{Stopped}
-use Rattle.rob_solver.proofs.SolvingLemmas.{solution, stops, tells_wide, begun_nowhere, begun_turn}
+use Rattle.rob_solver.proofs.SolvingLemmas.{solution, stops, stops_narrow, tells_wide, begun_nowhere, begun_turn}
 use Rattle.rob_solver.proofs.solving.solve_narrow.Goals as goal
 
 pub returns-in-Ok-clause-comes : goal.returns-in-Ok-clause-comes
@@ -36,6 +36,13 @@ returns-in-Turn-clause-comes g c =
       turn = c.cause.ensures.cause ∙ ap Stopped c.in-Turn.is;
       begun = begun_turn g.N.Exact.limit P c.in-Err.stop c.solve.new.self c.in-Turn.field-0 (c.in-Err.ensures.halted P c.in_ok-solver.ensures.made) (c.cause.ensures.cause ∙ ap Stopped c.in-Turn.is);
     }
+
+pub returns-in-First-clause-comes : goal.returns-in-First-clause-comes
+returns-in-First-clause-comes g c =
+    let P = program_of (g.R.Rows.lp c.args.source.now) in
+    stops_narrow g.N.Exact.limit P c.in-Err.stop c.solve.new.self
+    (c.in-Err.ensures.halted P c.in_ok-solver.ensures.made) (c.cause.ensures.cause ∙ ap Stopped c.in-First.is)
+    (c.solve.ensures.limit ∙ c.in_ok-solver.ensures.limit)
 
 pub unreachable-requires : goal.unreachable-requires
 unreachable-requires g c =
