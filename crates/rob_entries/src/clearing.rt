@@ -4,7 +4,7 @@
 //! A number that bounds the entries of each row shows where the entries' type suffices. Else the row is put in lowest
 //! terms.
 
-ghost use Rattle.std.specs.Prelude.{◌≡◌, ◌≢◌, ℕ, ◌+◌, ◌^◌, ◌<◌, ◌≤◌, ◌-◌, ◌*ℤ◌, ◌-ℤ◌, ◌<ℤ◌, pos, nat_abs, map, length, take, IfOk, OnOk, OnErr};
+ghost use Rattle.std.specs.Prelude.{◌≡◌, ◌≢◌, ℕ, ◌+◌, ◌<◌, ◌≤◌, ◌-◌, ◌*ℤ◌, ◌-ℤ◌, ◌<ℤ◌, pos, nat_abs, map, length, take, IfOk, OnOk, OnErr};
 ghost use Rattle.rob_algebra.specs.Gcd.{gcd};
 ghost use Rattle.rob_linear.specs.Vectors.{at};
 ghost use Rattle.rob_linear.specs.Multiples.{IsClearedBy};
@@ -79,7 +79,6 @@ impl<E: Entry> PivotRow<E> {
     /// The row, which begins at `start`, p times, less q times this one, with its marks.
     fn apply(&self, row: &mut [E], marks: &mut [bool], start: usize, p: E, q: E)
         requires length { length row.old ≡ length self.now.entries }
-        requires small { start + length row.old < 2 ^ 64 }
         requires marks_in { start + length row.old ≤ length marks.old }
         requires positive { pos 0 <ℤ E.value p }
         requires narrow { IsNarrowBy E.top (length row.old) (E.value p) (E.value q) (at (map E.value row.old))
@@ -111,7 +110,6 @@ impl<E: Entry> PivotRow<E> {
         limit: u128,
     ) -> Result<u128, Wide>
         requires length { length row.old ≡ length self.old.entries }
-        requires small { start + length row.old < 2 ^ 64 }
         requires marks_in { start + length row.old ≤ length marks.old }
         requires limit { limit ≤ E.top }
         requires positive { pos 0 <ℤ E.value p }
@@ -163,7 +161,6 @@ impl<E: Entry> PivotRow<E> {
         limit: u128,
     ) -> Result<u128, Wide>
         requires length { length row.old ≡ length self.old.entries }
-        requires small { start + length row.old < 2 ^ 64 }
         requires marks_in { start + length row.old ≤ length marks.old }
         requires limit { limit ≤ E.top }
         requires row_in { IsBounded limit (map E.value row.old) bound }

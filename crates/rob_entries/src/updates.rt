@@ -1,7 +1,7 @@
 //! A row that is multiplied, and less another row, in place, where the sizes of both show that no entry can leave the
 //! type; and what is then marked.
 
-ghost use Rattle.std.specs.Prelude.{◌≡◌, ◌+◌, ◌*◌, ◌^◌, ◌<◌, ◌≤◌, ◌↔◌, ◌*ℤ◌, ◌-ℤ◌, ◌<ℤ◌, ℕ, pos, nat_abs, map, length, IsFalse};
+ghost use Rattle.std.specs.Prelude.{◌≡◌, ◌+◌, ◌*◌, ◌<◌, ◌≤◌, ◌↔◌, ◌*ℤ◌, ◌-ℤ◌, ◌<ℤ◌, ℕ, pos, nat_abs, map, length, IsFalse};
 ghost use Rattle.rob_linear.specs.Vectors.{at};
 ghost use Rattle.rob_entries.specs.Maps.{AreMarked};
 ghost use Rattle.rob_entries.specs.Updates.{AreListed, IsNarrowBy};
@@ -19,7 +19,6 @@ pub fn subtract<E: Entry>(
     places: &[usize],
 )
     requires lengths { length other.now ≡ length row.old }
-    requires small { start + length row.old < 2 ^ 64 }
     requires marks_in { start + length row.old ≤ length marks.old }
     requires listed { AreListed (length other.now) (at (map E.value other.now)) places.now }
     requires narrow { IsNarrowBy E.top (length row.old) (pos 1) (E.value q) (at (map E.value row.old))
@@ -29,6 +28,7 @@ pub fn subtract<E: Entry>(
     ensures marked { AreMarked start (length row.old) (at (map E.value row.new)) (at (map E.value other.now)) marks.old
         marks.new }
 {
+    let _ = marks.len();
     let once = E::of(1);
     for k in places {
         let entry = E::fused(once, row[*k], q, other[*k]);
@@ -74,12 +74,12 @@ pub fn mark_of<E: Entry>(entry: E) -> bool
 /// Marks the entries of a row, which begins at `start`, in the places where the other one is not 0.
 pub fn mark<E: Entry>(marks: &mut [bool], start: usize, row: &[E], other: &[E], places: &[usize])
     requires lengths { length other.now ≡ length row.now }
-    requires small { start + length row.now < 2 ^ 64 }
     requires marks_in { start + length row.now ≤ length marks.old }
     requires listed { AreListed (length other.now) (at (map E.value other.now)) places.now }
     ensures marked { AreMarked start (length row.now) (at (map E.value row.now)) (at (map E.value other.now)) marks.old
         marks.new }
 {
+    let _ = marks.len();
     for k in places {
         marks[start + *k] = mark_of(row[*k]);
     }

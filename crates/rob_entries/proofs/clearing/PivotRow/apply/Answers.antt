@@ -1,4 +1,4 @@
-use Rattle.std.proofs.Common.{◌≡◌, ◌+◌, ◌*◌, ◌^◌, ◌<◌, ◌≤◌, ◌∙◌, ap, sym, subst, arith, List, map, length, pos, nat_abs, ◌*ℤ◌, ◌-ℤ◌}
+use Rattle.std.proofs.Common.{◌≡◌, ◌+◌, ◌*◌, ◌<◌, ◌≤◌, ◌∙◌, ap, sym, subst, arith, List, map, length, pos, nat_abs, ◌*ℤ◌, ◌-ℤ◌}
 use Rattle.std.proofs.lemmas.List.{length-map}
 use lib.IntN.{ℤ}
 use Rattle.rob_linear.specs.Vectors.{at}
@@ -21,12 +21,6 @@ subtract-requires-clause-lengths g c =
     let same : map g.E.Entry.value c.as_slice.result.now ≡ c.args.self.now.entries =
     ap (map value) c.as_slice.ensures.value ∙ ap (λ (v : Clearing). v.entries) c.self.view_is in
     sym (length-map c.as_slice.result.now value) ∙ ap length same ∙ sym c.requires.length ∙ sym c.scale.auto.row
-
-pub subtract-requires-clause-small : goal.subtract-requires-clause-small
-subtract-requires-clause-small g c =
-    let n : length c.scale.new.row ≡ length c.args.row.now = c.scale.auto.row in
-    let h : c.args.start + length c.args.row.now < 2 ^ 64 = c.requires.small in
-    omega arith
 
 pub subtract-requires-clause-marks_in : goal.subtract-requires-clause-marks_in
 subtract-requires-clause-marks_in g c =

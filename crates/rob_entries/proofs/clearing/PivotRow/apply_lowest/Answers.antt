@@ -1,4 +1,4 @@
-use Rattle.std.proofs.Common.{◌≡◌, ◌+◌, ◌^◌, ◌<◌, ◌≤◌, ◌∙◌, ap, sym, subst, arith, List, map, length}
+use Rattle.std.proofs.Common.{◌≡◌, ◌+◌, ◌<◌, ◌≤◌, ◌∙◌, ap, sym, subst, arith, List, map, length}
 use Rattle.std.proofs.lemmas.List.{length-map}
 use lib.IntN.{ℤ}
 use Rattle.rob_linear.specs.Vectors.{at}
@@ -43,12 +43,6 @@ mark-requires-clause-lengths g c =
     ap (map value) c.as_slice-3.ensures.value ∙ ap (λ (v : Clearing). v.entries) c.self.view_is in
     sym (length-map c.as_slice-3.result.now value) ∙ ap length same ∙ sym c.requires.length
     ∙ sym c.copy_from_slice.auto.self
-
-pub mark-requires-clause-small : goal.mark-requires-clause-small
-mark-requires-clause-small g c =
-    let n : length c.copy_from_slice.new.self ≡ length c.args.row.now = c.copy_from_slice.auto.self in
-    let h : c.args.start + length c.args.row.now < 2 ^ 64 = c.requires.small in
-    omega arith
 
 pub mark-requires-clause-marks_in : goal.mark-requires-clause-marks_in
 mark-requires-clause-marks_in g c =
