@@ -1,13 +1,13 @@
 -- What the lengths of the ranges of an item tell: where there is no setting, and no range with more than 100 values.
-use Rattle.std.proofs.Common.{◌≡◌, Bool, true, false, List, [], ◌∷◌, ◌++◌}
+use Rattle.std.proofs.Common.{◌≡◌, ◌<◌, ◌≤◌, ◌*◌, ℕ, suc, Bool, true, false, List, [], ◌∷◌, ◌++◌, length, get_or, cond}
 use Rattle.std.proofs.Common.{refl, sym, ap, ◌∙◌, subst, Option, Some, None, arith}
-use Rattle.std.specs.Prelude.{ℤ, pos, negsuc, ◌+ℤ◌, ◌*ℤ◌, ◌≤ℤ◌, ◌<ℤ◌, ◌||◌, int_lt, int_le, IfSome, IfOk, Result, Ok, Err}
+use Rattle.std.specs.Prelude.{ℤ, pos, negsuc, nat_abs, ◌+ℤ◌, ◌*ℤ◌, ◌≤ℤ◌, ◌<ℤ◌, ◌||◌, int_lt, int_le, IfSome}
 use Rattle.std.specs.List.{list_any, flat_map}
-use Rattle.std.specs.Int.{w128}
+use Rattle.std.specs.Int.{w128, int_min}
 use Rattle.std.proofs.lemmas.Int.{ints, to_z-of_z}
 use mir.Val.{SFits, to_z, of_z}
 use Rattle.rob_index.specs.Membership.{Among, here, there}
-use Rattle.rob_index.specs.Forms.{Form, Ends, AreWithin, fixed, value_of, values_of, length_form, without, extensions, only, plus_times}
+use Rattle.rob_index.specs.Forms.{Form, Ends, AreWithin, fixed, value_of, values_of, length_form, without, extensions, first_factor, only, plus_times}
 use Rattle.rob_algebra.specs.Integer.{mul_nonneg}
 use Rattle.rob_index.proofs.FormLemmas.{minus_is, plus_times_is}
 use Rattle.rob_index.proofs.ListLemmas.{values_within}
@@ -108,13 +108,31 @@ module _ (rs : List Ends) (vs : List ℤ)
   apart_short k = one_below (first_short rs vs) (second_short rs vs k)
 
 -- ---- a sum of both with factors of at least 0
-pub opposite_size : (a : ℤ) → int_lt a (pos 0) ≡ true → pos 0 ≤ℤ (negsuc 0 *ℤ a)
+pub opposite_size : (a : ℤ) → int_lt a (pos 0) ≡ true → negsuc 0 *ℤ a ≡ pos (nat_abs a)
 opposite_size (pos n) h = let l = lt_from (pos n) (pos 0) h in absurd (omega (arith, ints, l))
-opposite_size (negsuc n) h = omega (arith, ints)
+opposite_size (negsuc n) h = ap pos (let e : 1 * suc n ≡ suc n = omega arith in e)
 
-pub least_if : {E : Type 0} (r : Result ℤ E) (z : ℤ) → pos 0 ≤ℤ z → IfOk r (λ w. w ≡ z) → IfOk r (λ w. pos 0 ≤ℤ w)
-least_if (Ok w) z h is = subst (λ (y : ℤ). pos 0 ≤ℤ y) (sym is) h
-least_if (Err e) z h is = tt
+pub own_size : (a : ℤ) → int_lt a (pos 0) ≡ false → a ≡ pos (nat_abs a)
+own_size (pos n) h = refl
+own_size (negsuc n) h = cc
+
+pub size_low : (a : ℤ) (n : ℕ) → a ≡ pos n → pos 0 ≤ℤ a
+size_low a n is = omega (arith, ints, is)
+
+-- the factor of the innermost value, by the list of factors
+pub innermost_none : (fs gs : List ℤ) → fs ≡ gs → length fs < 1 → pos 0 ≡ first_factor gs
+innermost_none fs gs is none = go fs none ∙ ap first_factor is
+  where
+    go : (hs : List ℤ) → length hs < 1 → pos 0 ≡ first_factor hs
+    go [] n = refl
+    go (h ∷ hs) n = absurd (omega (arith, n))
+
+pub innermost_some : (fs gs : List ℤ) (x : ℤ) → fs ≡ gs → 1 ≤ length fs → x ≡ get_or fs 0 x → x ≡ first_factor gs
+innermost_some fs gs x is some e = go fs some e ∙ ap first_factor is
+  where
+    go : (hs : List ℤ) → 1 ≤ length hs → x ≡ get_or hs 0 x → x ≡ first_factor hs
+    go [] n e = absurd (omega (arith, n))
+    go (h ∷ hs) n e = e
 
 pub sum_least : (f g sum : Form) (a b : ℤ) (vs : List ℤ) → pos 0 ≤ℤ a → pos 0 ≤ℤ b
     → sum ≡ plus_times (plus_times (only (pos 0)) a f) b g → pos 0 ≤ℤ value_of f vs → pos 0 ≤ℤ value_of g vs
@@ -159,6 +177,14 @@ kept_are rs f g s (Some kept) p q h k m least = record {
       (subst (λ (z : Form). pos 0 ≤ℤ value_of z vs) (sym q) b));
 }
 
+-- the lesser one of two numbers of at least 0
+lesser_low : (a b : ℤ) → pos 0 ≤ℤ a → pos 0 ≤ℤ b → pos 0 ≤ℤ int_min a b
+lesser_low a b p q = go (int_lt b a)
+  where
+    go : (less : Bool) → pos 0 ≤ℤ cond less b a
+    go true = q
+    go false = p
+
 -- a number of 128 bits is below 0
 pub seen_below : (z : ℤ) → SFits w128 z → int_lt (to_z w128 (of_z w128 z)) (pos 0) ≡ true → z <ℤ pos 0
 seen_below z f t =
@@ -199,9 +225,9 @@ module _ (rs self : List Ends) (o : Option Lengths) (kept : Lengths) (vs : List 
       let f = to_z-of_z w128 most fits in
       omega (arith, ints, h, e, f)
 
-  -- a number that is at least 0 where the greatest second length and the greatest sum are
+  -- the lesser one of the greatest second length and the greatest sum is at least 0 where both lengths are
   pub most_apart : (most sum least : ℤ) → SFits w128 most → SFits w128 sum → SFits w128 least
-      → (pos 0 ≤ℤ to_z w128 (of_z w128 most) → pos 0 ≤ℤ to_z w128 (of_z w128 sum) → pos 0 ≤ℤ least)
+      → least ≡ int_min (to_z w128 (of_z w128 most)) (to_z w128 (of_z w128 sum))
       → short_value kept.second vs ≤ℤ most → short_value kept.combined vs ≤ℤ sum
       → pos 0 ≤ℤ value_of (first_length self) vs → pos 0 ≤ℤ value_of (second_length self) vs
       → pos 0 ≤ℤ to_z w128 (of_z w128 least)
@@ -211,4 +237,6 @@ module _ (rs self : List Ends) (o : Option Lengths) (kept : Lengths) (vs : List 
       let m = to_z-of_z w128 most f in
       let n = to_z-of_z w128 sum s in
       subst (λ (z : ℤ). pos 0 ≤ℤ z) (sym (to_z-of_z w128 least g))
-      (lesser (omega (arith, ints, h, e, q, m)) (omega (arith, ints, k, c, n)))
+      (subst (λ (z : ℤ). pos 0 ≤ℤ z) (sym lesser)
+      (lesser_low (to_z w128 (of_z w128 most)) (to_z w128 (of_z w128 sum)) (omega (arith, ints, h, e, q, m))
+      (omega (arith, ints, k, c, n))))

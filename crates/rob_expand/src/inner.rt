@@ -1,8 +1,8 @@
 //! The ranges of an item of a list, inside those of its statement.
 
-ghost use Rattle.std.specs.Prelude.{◌≡◌, ◌≤◌, ◌≤ℤ◌, ℤ, [], List as Items, length, pos};
+ghost use Rattle.std.specs.Prelude.{◌≡◌, ◌≤◌, ◌≤ℤ◌, ℤ, [], List as Items, length, nat_abs, pos};
 ghost use Rattle.std.specs.Prelude.{false, IfOk, IfSome, IsTrue, MatchResult};
-ghost use Rattle.rob_index.specs.Forms.{extensions, only, value_of};
+ghost use Rattle.rob_index.specs.Forms.{extensions, first_factor, only, value_of};
 ghost use Rattle.rob_ranges.specs.Shorts.{short_value};
 ghost use Rattle.rob_ranges.specs.Spans.{IsIn};
 ghost use Rattle.rob_expand.specs.Inner.{AreLengths, is_long_in};
@@ -179,19 +179,12 @@ impl Inner {
         let first = span.most(lengths.first);
         let second = span.most(lengths.second);
         let combined = span.most(lengths.combined);
-        let apart = lesser(second, combined);
+        let apart = second.min(combined);
         Some(Sizes {
             first,
             second: apart,
         })
     }
-}
-
-/// The lesser of two numbers.
-fn lesser(a: i128, b: i128) -> i128
-    ensures lesser { pos 0 ≤ℤ a → pos 0 ≤ℤ b → pos 0 ≤ℤ result }
-{
-    if a <= b { a } else { b }
 }
 
 /// The lengths of the first two ranges, where these have few bits.
@@ -222,7 +215,7 @@ fn combination(alloc: Global, first: &Form, second: &Form) -> Result<Form, Memor
 
 /// The factor of the innermost value, without its sign.
 fn weight(alloc: Global, form: &Form) -> Result<Whole, Memory>
-    ensures weight { IfOk result (λ weight. pos 0 ≤ℤ weight) }
+    ensures weight { IfOk result (λ weight. weight ≡ pos (nat_abs (first_factor form.now.factors))) }
 {
     match form.factors() {
         [] => Ok(Whole::small(alloc, 0)),
@@ -232,7 +225,7 @@ fn weight(alloc: Global, form: &Form) -> Result<Whole, Memory>
 
 /// The number without its sign.
 fn size(alloc: Global, number: &Whole) -> Result<Whole, Memory>
-    ensures size { IfOk result (λ size. pos 0 ≤ℤ size) }
+    ensures size { IfOk result (λ size. size ≡ pos (nat_abs number.now)) }
 {
     if number.is_negative() {
         let minus_one = Whole::small(alloc, -1);

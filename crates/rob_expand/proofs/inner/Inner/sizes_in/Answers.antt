@@ -14,8 +14,8 @@ pub returns-clause-apart : goal.returns-clause-apart
 returns-clause-apart c vs within =
     let f : SFits w128 c.most-second.result = search rules in
     let g : SFits w128 c.most-combined.result = search rules in
-    let h : SFits w128 c.lesser-apart.result = search rules in
+    let h : SFits w128 c.min-apart.result = search rules in
     most_apart c.self.inside.ranges c.args.self.now c.self.inside.lengths c.in_ok-lengths.lengths vs
     c.in_ok-lengths.was c.self.view_is c.self.invariant c.most-second.result c.most-combined.result
-    c.lesser-apart.result f g h c.lesser-apart.ensures.lesser (c.most-second.ensures.most vs within)
+    c.min-apart.result f g h c.min-apart.ensures.value (c.most-second.ensures.most vs within)
     (c.most-combined.ensures.most vs within)
