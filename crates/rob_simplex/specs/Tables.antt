@@ -26,14 +26,14 @@ IsUnchangedBut i width rows rows' = (j k : ℕ) → j ≢ i → k < width → ro
 
 -- the row `by` can clear its entry in the rows before `count`: it is as wide as these, within the limit, and positive
 -- there
-pub record IsReady (limit : ℕ) (pivot : Pivot) (rows : List ℤ) (bounds : List ℕ) (by : Clearing)
+pub record CanClearRows (limit : ℕ) (pivot : Pivot) (rows : List ℤ) (bounds : List ℕ) (by : Clearing)
     (count : ℕ) : Type 0 where
   pub bounded : HasBounds limit pivot.width rows bounds
   pub inside : count ≤ length bounds
   pub width : length by.entries ≡ pivot.width
-  pub entry_in : pivot.entry < pivot.width
+  pub place_in : pivot.place < pivot.width
   pub low : by.bound ≤ limit
-  pub positive : pos 0 <ℤ at by.entries pivot.entry
+  pub positive : pos 0 <ℤ at by.entries pivot.place
 
 -- of the rows before `count` but row e, each is cleared of its entry at the place by the row `by`; all others stay
 pub record AreCleared (count width e place : ℕ) (by : Vector) (rows rows' : Matrix) : Type 0 where

@@ -160,7 +160,7 @@ pub fn lower_row<E: Entry, L: Ledger>(
     load_row(rows, bounds, pivot_row, there.row + 1, width);
     let pivot = Pivot {
         row: there.row + 1,
-        entry: there.way,
+        place: there.way,
         width,
     };
     clear_row(rows, bounds, pivot_row, pivot, there.row)?;

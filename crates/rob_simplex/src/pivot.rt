@@ -33,7 +33,7 @@ impl<E: Entry> Dictionary<E> {
         self.rows.load(&mut self.pivot_row, start, self.bounds[row]);
         let pivot = Pivot {
             row,
-            entry: self.places[column],
+            place: self.places[column],
             width,
         };
         clear_rows(

@@ -5,17 +5,17 @@ ghost use Rattle.rob_linear.specs.Vectors.{at, Matrix};
 ghost use Rattle.rob_linear.specs.Multiples.{IsClearedBy};
 ghost use Rattle.rob_entries.specs.Updates.{AreOwn, IsWideCleared};
 ghost use Rattle.rob_simplex.specs.Counting.{CountsRows};
-ghost use Rattle.rob_simplex.specs.Tables.{row_at, HasBounds, AreCleared, IsReady, IsStopped, IsUnchangedBut};
+ghost use Rattle.rob_simplex.specs.Tables.{row_at, HasBounds, AreCleared, CanClearRows, IsStopped, IsUnchangedBut};
 
 use rob_entries::{Cells, Entry, PivotRow};
 use rob_number::{Ledger, Wide};
 
-/// A pivot in a table whose rows have this width: the row that clears the others, and the place in a row of the entry
-/// that it clears. The last number of a row is its own entry.
+/// A pivot in a table whose rows have this width: the row that clears the others, and the place of the entry that it
+/// clears in each. The last number of a row is its own entry.
 #[derive(Clone, Copy, Drop)]
 pub struct Pivot {
     pub row: usize,
-    pub entry: usize,
+    pub place: usize,
     pub width: usize,
 }
 
@@ -27,20 +27,20 @@ pub fn clear_row<E: Entry>(
     pivot: Pivot,
     i: usize,
 ) -> Result<(), Wide>
-    requires ready { IsReady E.top pivot rows.old bounds.old pivot_row.old (suc i) }
+    requires ready { CanClearRows E.top pivot rows.old bounds.old pivot_row.old (suc i) }
     requires own { AreOwn (row_at rows.old pivot.width i) (at pivot_row.old.entries) (pivot.width - 1) }
-    ensures cleared { OnOk result (IsClearedBy pivot.width pivot.entry (row_at rows.old pivot.width i)
+    ensures cleared { OnOk result (IsClearedBy pivot.width pivot.place (row_at rows.old pivot.width i)
         (at pivot_row.old.entries) (row_at rows.new pivot.width i)) }
     ensures others { IsUnchangedBut i pivot.width (row_at rows.old pivot.width) (row_at rows.new pivot.width) }
     ensures bounded { HasBounds E.top pivot.width rows.new bounds.new }
     ensures wide { OnErr result
-        (IsWideCleared E.top pivot.width pivot.entry (row_at rows.old pivot.width i) (at pivot_row.old.entries)) }
+        (IsWideCleared E.top pivot.width pivot.place (row_at rows.old pivot.width i) (at pivot_row.old.entries)) }
     ensures unchanged { OnErr result (rows.new ≡ rows.old) }
     ensures same { pivot_row.new ≡ pivot_row.old }
 {
     let _ = rows.len();
     let start = i * pivot.width;
-    bounds[i] = rows.clear(start, pivot_row, bounds[i], pivot.entry, E::TOP)?;
+    bounds[i] = rows.clear(start, pivot_row, bounds[i], pivot.place, E::TOP)?;
     Ok(())
 }
 
@@ -53,15 +53,15 @@ fn clear_other<E: Entry, L: Ledger>(
     i: usize,
     ledger: &mut L,
 ) -> Result<(), Wide>
-    requires ready { IsReady E.top pivot rows.old bounds.old pivot_row.old (suc i) }
+    requires ready { CanClearRows E.top pivot rows.old bounds.old pivot_row.old (suc i) }
     requires own { i ≢ pivot.row
         → AreOwn (row_at rows.old pivot.width i) (at pivot_row.old.entries) (pivot.width - 1) }
-    ensures cleared { (start : Matrix) → AreCleared i pivot.width pivot.row pivot.entry (at pivot_row.old.entries)
-        start (row_at rows.old pivot.width) → OnOk result (AreCleared (i + 1) pivot.width pivot.row pivot.entry
+    ensures cleared { (start : Matrix) → AreCleared i pivot.width pivot.row pivot.place (at pivot_row.old.entries)
+        start (row_at rows.old pivot.width) → OnOk result (AreCleared (i + 1) pivot.width pivot.row pivot.place
         (at pivot_row.old.entries) start (row_at rows.new pivot.width)) }
     ensures bounded { HasBounds E.top pivot.width rows.new bounds.new }
     ensures wide { OnErr result ((i ≢ pivot.row)
-        × IsWideCleared E.top pivot.width pivot.entry (row_at rows.old pivot.width i) (at pivot_row.old.entries)) }
+        × IsWideCleared E.top pivot.width pivot.place (row_at rows.old pivot.width i) (at pivot_row.old.entries)) }
     ensures unchanged { OnErr result (rows.new ≡ rows.old) }
     ensures same { pivot_row.new ≡ pivot_row.old }
     ensures counted { CountsRows L.ops L.wides ledger.old ledger.new }
@@ -70,7 +70,7 @@ fn clear_other<E: Entry, L: Ledger>(
         return Ok(());
     }
     let _ = rows.len();
-    if rows.get(i * pivot.width + pivot.entry).is_zero() {
+    if rows.get(i * pivot.width + pivot.place).is_zero() {
         return Ok(());
     }
     clear_row(rows, bounds, pivot_row, pivot, i)?;
@@ -88,12 +88,12 @@ pub fn clear_rows<E: Entry, L: Ledger>(
     count: usize,
     ledger: &mut L,
 ) -> Result<(), usize>
-    requires ready { IsReady E.top pivot rows.old bounds.old pivot_row.old count }
+    requires ready { CanClearRows E.top pivot rows.old bounds.old pivot_row.old count }
     requires own { (i : ℕ) → i < count → i ≢ pivot.row
         → AreOwn (row_at rows.old pivot.width i) (at pivot_row.old.entries) (pivot.width - 1) }
-    ensures cleared { OnOk result (AreCleared count pivot.width pivot.row pivot.entry (at pivot_row.old.entries)
+    ensures cleared { OnOk result (AreCleared count pivot.width pivot.row pivot.place (at pivot_row.old.entries)
         (row_at rows.old pivot.width) (row_at rows.new pivot.width)) }
-    ensures stopped { IfErr result (λ i. IsStopped E.top count pivot.width pivot.row pivot.entry
+    ensures stopped { IfErr result (λ i. IsStopped E.top count pivot.width pivot.row pivot.place
         (at pivot_row.old.entries) (row_at rows.old pivot.width) (row_at rows.new pivot.width) i) }
     ensures bounded { HasBounds E.top pivot.width rows.new bounds.new }
     ensures same { pivot_row.new ≡ pivot_row.old }

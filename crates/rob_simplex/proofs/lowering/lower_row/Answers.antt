@@ -25,7 +25,7 @@ clear_row-requires-clause-ready g c =
       bounded = c.write_factor.ensures.bounded c.write_step.ensures.bounded;
       inside = omega (arith, a.inside, c.write_factor.auto.bounds, c.write_step.auto.bounds);
       width = c.load_row.ensures.size;
-      entry_in = wl;
+      place_in = wl;
       low = c.load_row.ensures.bound;
       positive =
           part_positive w way top (at c.load_row.new.pivot_row.entries) c.load_row.ensures.entries way wl

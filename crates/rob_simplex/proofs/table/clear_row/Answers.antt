@@ -12,15 +12,15 @@ pub returns-in_err-bounds-clause-wide : goal.returns-in_err-bounds-clause-wide
 returns-in_err-bounds-clause-wide g c =
     let et : c.TOP.result ≡ g.E.Entry.top = c.TOP.ensures ∙ g.met.E.Entry.top_told in
     on_err c.from_residual.result
-    (subst (λ (l : ℕ). IsWideCleared l c.args.pivot.width c.args.pivot.entry
+    (subst (λ (l : ℕ). IsWideCleared l c.args.pivot.width c.args.pivot.place
     (row_at c.args.rows.now c.args.pivot.width c.args.i) (at c.args.pivot_row.now.entries)) et
-    (subst (λ (n : ℕ). IsWideCleared c.TOP.result n c.args.pivot.entry
+    (subst (λ (n : ℕ). IsWideCleared c.TOP.result n c.args.pivot.place
     (row_at c.args.rows.now c.args.pivot.width c.args.i) (at c.args.pivot_row.now.entries)) c.requires.ready.width
     c.in_err-bounds.ensures.wide))
 
 pub returns-clause-cleared : goal.returns-clause-cleared
 returns-clause-cleared g c =
-    subst (λ (n : ℕ). IsClearedBy n c.args.pivot.entry (row_at c.args.rows.now c.args.pivot.width c.args.i)
+    subst (λ (n : ℕ). IsClearedBy n c.args.pivot.place (row_at c.args.rows.now c.args.pivot.width c.args.i)
     (at c.args.pivot_row.now.entries) (row_at c.clear.new.self c.args.pivot.width c.args.i)) c.requires.ready.width
     c.in_ok-bounds.ensures.cleared
 

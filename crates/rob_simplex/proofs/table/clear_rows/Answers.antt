@@ -10,15 +10,15 @@ use Rattle.rob_simplex.proofs.table.clear_rows.Goals as goal
 pub returns-in-Err-clause-stopped : goal.returns-in-Err-clause-stopped
 returns-in-Err-clause-stopped g c =
     subst (λ (rows : List ℤ).
-    IsStopped g.E.Entry.top c.args.count c.args.pivot.width c.args.pivot.row c.args.pivot.entry
+    IsStopped g.E.Entry.top c.args.count c.args.pivot.width c.args.pivot.row c.args.pivot.place
     (at c.args.pivot_row.now.entries) (row_at c.args.rows.now c.args.pivot.width) (row_at rows c.args.pivot.width)
     c.loop-i.i)
     (sym c.in-Err.ensures.unchanged)
-    (wide_at c.args.pivot.width c.args.pivot.row c.args.pivot.entry (at c.args.pivot_row.now.entries)
-    c.requires.ready.entry_in (row_at c.args.rows.now c.args.pivot.width) g.E.Entry.top c.args.count c.loop-i.i
+    (wide_at c.args.pivot.width c.args.pivot.row c.args.pivot.place (at c.args.pivot_row.now.entries)
+    c.requires.ready.place_in (row_at c.args.rows.now c.args.pivot.width) g.E.Entry.top c.args.count c.loop-i.i
     (row_at c.loop-i.rows c.args.pivot.width) c.loop-i-test.true c.in-Err.ensures.wide.0
     (subst (λ (v : Clearing).
-    IsWideCleared g.E.Entry.top c.args.pivot.width c.args.pivot.entry
+    IsWideCleared g.E.Entry.top c.args.pivot.width c.args.pivot.place
     (row_at c.loop-i.rows c.args.pivot.width c.loop-i.i) (at v.entries)) c.loop-i.invariant.same
     c.in-Err.ensures.wide.1)
     c.loop-i.invariant.cleared)
@@ -31,7 +31,7 @@ clear_other-requires-clause-ready g c =
       bounded = c.loop-i.invariant.bounded;
       inside = omega (arith, c.loop-i.auto.bounds, a.inside, c.loop-i-test.true);
       width = ap (λ (v : Clearing). length v.entries) same ∙ a.width;
-      entry_in = a.entry_in;
+      place_in = a.place_in;
       low = subst (λ (v : Clearing). v.bound ≤ g.E.Entry.top) (sym same) a.low;
-      positive = subst (λ (v : Clearing). pos 0 <ℤ at v.entries c.args.pivot.entry) (sym same) a.positive;
+      positive = subst (λ (v : Clearing). pos 0 <ℤ at v.entries c.args.pivot.place) (sym same) a.positive;
     }

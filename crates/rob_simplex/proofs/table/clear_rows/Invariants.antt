@@ -7,7 +7,7 @@ use Rattle.rob_simplex.proofs.table.clear_rows.Given as goal
 
 abbrev pub invariant-loop-i : goal.invariant-loop-i
 invariant-loop-i g l = record {
-  cleared : AreCleared l.i l.fn.pivot.width l.fn.pivot.row l.fn.pivot.entry (at l.fn.pivot_row.entries)
+  cleared : AreCleared l.i l.fn.pivot.width l.fn.pivot.row l.fn.pivot.place (at l.fn.pivot_row.entries)
       (row_at l.fn.rows l.fn.pivot.width) (row_at l.rows l.fn.pivot.width);
   bounded : HasBounds g.E.Entry.top l.fn.pivot.width l.rows l.bounds;
   same : l.pivot_row ≡ l.fn.pivot_row;

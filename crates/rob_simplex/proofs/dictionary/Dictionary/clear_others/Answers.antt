@@ -57,7 +57,7 @@ clear_rows-requires g c =
             c.self.invariant.bounded;
         inside = omega (arith, a.below, lent, c.self.invariant.count);
         width = c.load.ensures.size ∙ c.self.invariant.workspace_is;
-        entry_in = omega (arith, ex, fp);
+        place_in = omega (arith, ex, fp);
         low = omega (arith, b, low, c.load.ensures.bound);
         positive = positive_entry c.self.invariant a c.load.new.row.entries m c.index-2.result.now ex;
       };
