@@ -5,8 +5,9 @@
 -- Positions 0 to m - 1 are those of the program's rows, position m is the objective's; row m + 1 keeps the row of the
 -- cost while the auxiliary column is basic.
 -- Rows are kept up to positive factors. Chvatal, Linear Programming (1983), chapter 2.
-use Rattle.std.specs.Prelude.{◌≡◌, ◌≢◌, ◌⊎◌, ◌<ℤ◌, ◌≤ℤ◌, ℕ, suc, ◌<◌, ◌≤◌, ◌+◌, ◌^◌, nat_lt, nat_eq, cond, ℤ, pos, neg_ℤ, List, length, set, slice_index_or, Bool, true, false, Option, IfSome}
+use Rattle.std.specs.Prelude.{◌≡◌, ◌≢◌, ◌⊎◌, ◌<ℤ◌, ◌≤ℤ◌, ℕ, suc, ◌<◌, ◌≤◌, ◌+◌, ◌^◌, nat_lt, nat_eq, cond, ℤ, pos, neg_ℤ, List, length, set, Bool, true, false, Option, IfSome}
 use Rattle.rob_linear.specs.Vectors.{Columns, Matrix, Vector}
+pub use Rattle.rob_linear.specs.Vectors.{columns_of}
 use Rattle.rob_linear.specs.Systems.{System}
 use Rattle.rob_linear.specs.Programs.{Program, kept_of}
 use Rattle.rob_linear.specs.Turns.{ComesBefore, key}
@@ -39,11 +40,7 @@ pub record IsSized (before now : Table) : Type 0 where
   pub positions : positions now ≡ positions before
   pub limit : now.limit ≡ before.limit
 
--- the basic column of each position
-abbrev pub columns_of : List ℕ → Columns
-columns_of basis i = slice_index_or basis i 0
-
--- and the objective's column for the last one
+-- the basic column of each position, and the objective's column for the last one
 abbrev pub basic_columns : ℕ → List ℕ → Columns
 basic_columns n basis i = cond (nat_lt i (length basis)) (columns_of basis i) (suc (n + length basis))
 
