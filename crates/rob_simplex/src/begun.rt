@@ -31,9 +31,6 @@ impl<E: Entry> Dictionary<E> {
         self.replace(row, n + m + 3);
         let cleared = self.clear_others(row, column, m + 1, ledger);
         self.replace(row, column);
-        match cleared {
-            Ok(()) => Ok(()),
-            Err(i) => Err(i),
-        }
+        cleared
     }
 }

@@ -1,9 +1,11 @@
-use Rattle.std.proofs.Common.{◌≡◌, ◌+◌, ◌<◌, ◌≤◌, subst, arith}
+use Rattle.std.proofs.Common.{◌≡◌, ℕ, ◌+◌, ◌<◌, ◌≤◌, subst, arith}
+use Rattle.std.proofs.lemmas.Result.{on_ok_weaker}
 use Rattle.rob_linear.specs.WideRows.{HasWideRow}
-use Rattle.rob_simplex.specs.Dictionaries.{positions, columns_of, spare_column}
+use Rattle.rob_simplex.specs.Dictionaries.{positions, columns_of, spare_column, StopsTable}
 use Rattle.rob_simplex.proofs.BrokenPivots.{begun_size, spare_free, opened_free, opened_again, opened_positive, opened_own, cleared_free, basis4, columns4, pivoted4, closed4, wide_again}
 use Rattle.rob_simplex.proofs.BegunTurns.{pivotable_turn, turn_ended, turn_wide}
 use Rattle.rob_simplex.proofs.Sizes.{sized_after}
+use Rattle.rob_simplex.proofs.TableClearing.{err_weaker}
 use Rattle.rob_simplex.proofs.dictionary.Dictionary.end_turn.Goals as goal
 
 pub replace-requires-clause-free : goal.replace-requires-clause-free
@@ -58,8 +60,8 @@ replace-requires-2 g c =
           r2.ensures.basis r2.ensures.sized.columns;
     }
 
-pub returns-in-Ok-clause-turned : goal.returns-in-Ok-clause-turned
-returns-in-Ok-clause-turned g c P h =
+pub returns-clause-turned : goal.returns-clause-turned
+returns-clause-turned g c P h =
     let t = c.args.self.now in
     let em = c.positions-m.ensures.positions in
     let ez : c.columns-n.result + c.positions-m.result + 3 ≡ spare_column t.columns (positions t) =
@@ -75,13 +77,15 @@ returns-in-Ok-clause-turned g c P h =
     let n4 = c.replace-2.ensures.sized.columns in
     let r4 = c.replace-2.ensures.rows in
     let all : positions t < c.positions-m.result + 1 = omega (arith, em) in
-    turn_ended P h t4 (basis4 a h.broken ek ez x r2 b2 n2 t4 b4 n4)
-    (pivoted4 a h.broken ek ez x r2 b2 n2 t4 b4 n4 r4 (c.positions-m.result + 1) all c.in-Ok.ensures.cleared)
-    (closed4 a h.broken ek ez x r2 b2 n2 t4 b4 n4 r4 (c.positions-m.result + 1) all c.in-Ok.ensures.cleared)
-    (columns4 a h.broken ek ez x r2 b2 n2 t4 b4 n4)
+    on_ok_weaker c.clear_others-cleared.result
+    (λ cl. turn_ended P h t4 (basis4 a h.broken ek ez x r2 b2 n2 t4 b4 n4)
+    (pivoted4 a h.broken ek ez x r2 b2 n2 t4 b4 n4 r4 (c.positions-m.result + 1) all cl)
+    (closed4 a h.broken ek ez x r2 b2 n2 t4 b4 n4 r4 (c.positions-m.result + 1) all cl)
+    (columns4 a h.broken ek ez x r2 b2 n2 t4 b4 n4))
+    c.clear_others-cleared.ensures.cleared
 
-pub returns-in-Err-clause-wide : goal.returns-in-Err-clause-wide
-returns-in-Err-clause-wide g c P h =
+pub returns-clause-wide : goal.returns-clause-wide
+returns-clause-wide g c P h =
     let t = c.args.self.now in
     let em = c.positions-m.ensures.positions in
     let ez : c.columns-n.result + c.positions-m.result + 3 ≡ spare_column t.columns (positions t) =
@@ -89,30 +93,37 @@ returns-in-Err-clause-wide g c P h =
     let a = pivotable_turn P h in
     let ek = c.basic-column.ensures.column in
     let x = c.replace.ensures.exchanged in
+    let t1 = c.replace.new.self in
     let r2 = c.clear_others-cleared.new.self in
     let b2 = c.clear_others-cleared.ensures.basis in
     let n2 = c.clear_others-cleared.ensures.sized.columns in
     let t4 = c.replace-2.new.self in
     let b4 = c.replace-2.ensures.basis in
     let n4 = c.replace-2.ensures.sized.columns in
-    let sp = c.in-Err.ensures.stopped in
-    let inside : c.in-Err.i < c.positions-m.result + 1 = sp.inside in
-    let il : c.in-Err.i ≤ positions t = omega (arith, em) in
-    let ib : c.in-Err.i ≤ positions h.before = omega (arith, begun_size a h.broken) in
-    subst (λ l. HasWideRow l P (columns_of t4.basis) c.in-Err.i) c.replace.ensures.sized.limit
-    (turn_wide P h t4 (basis4 a h.broken ek ez x r2 b2 n2 t4 b4 n4) c.replace.new.self.limit c.in-Err.i ib sp.other
-    (wide_again a h.broken ek ez x r2 b2 n2 t4 b4 n4 c.replace.new.self.limit (c.positions-m.result + 1) c.in-Err.i sp
-    il))
+    err_weaker
+    (λ (i : ℕ). StopsTable t1.limit (c.positions-m.result + 1) t1 r2 c.args.row c.basic-column.result i)
+    (λ (i : ℕ). HasWideRow t.limit P (columns_of t4.basis) i)
+    (λ i sp.
+    let inside : i < c.positions-m.result + 1 = sp.inside in
+    let il : i ≤ positions t = omega (arith, em) in
+    let ib : i ≤ positions h.before = omega (arith, begun_size a h.broken) in
+    subst (λ l. HasWideRow l P (columns_of t4.basis) i) c.replace.ensures.sized.limit
+    (turn_wide P h t4 (basis4 a h.broken ek ez x r2 b2 n2 t4 b4 n4) t1.limit i ib sp.other
+    (wide_again a h.broken ek ez x r2 b2 n2 t4 b4 n4 t1.limit (c.positions-m.result + 1) i sp il)))
+    c.clear_others-cleared.result c.clear_others-cleared.ensures.stopped
 
-pub returns-in-Err-clause-position : goal.returns-in-Err-clause-position
-returns-in-Err-clause-position g c =
-    let inside : c.in-Err.i < c.positions-m.result + 1 = c.in-Err.ensures.stopped.inside in
-    omega (arith, c.positions-m.ensures.positions)
+pub returns-clause-position : goal.returns-clause-position
+returns-clause-position g c =
+    let t1 = c.replace.new.self in
+    let r2 = c.clear_others-cleared.new.self in
+    err_weaker
+    (λ (i : ℕ). StopsTable t1.limit (c.positions-m.result + 1) t1 r2 c.args.row c.basic-column.result i)
+    (λ (i : ℕ). i ≤ positions c.args.self.now)
+    (λ i sp.
+    let inside : i < c.positions-m.result + 1 = sp.inside in
+    omega (arith, c.positions-m.ensures.positions))
+    c.clear_others-cleared.result c.clear_others-cleared.ensures.stopped
 
-pub returns-in-Ok-clause-sized : goal.returns-in-Ok-clause-sized
-returns-in-Ok-clause-sized g c =
-    sized_after c.replace.ensures.sized (sized_after c.clear_others-cleared.ensures.sized c.replace-2.ensures.sized)
-
-pub returns-in-Err-clause-sized : goal.returns-in-Err-clause-sized
-returns-in-Err-clause-sized g c =
+pub returns-clause-sized : goal.returns-clause-sized
+returns-clause-sized g c =
     sized_after c.replace.ensures.sized (sized_after c.clear_others-cleared.ensures.sized c.replace-2.ensures.sized)
