@@ -18,6 +18,12 @@ use std::alloc::Global;
 /// The greatest value of an index.
 const GREATEST_INDEX: u64 = 999;
 
+/// The least number that is over it.
+const TOO_GREAT: i64 = 1000;
+
+/// How far the last value of a range is from its first at least where the range has more than 100 values.
+const TOO_LONG: i64 = 100;
+
 /// What is looked for.
 #[derive(Clone, Copy)]
 pub enum Test {
@@ -136,7 +142,7 @@ fn is_sought_long(
     ensures left { OnOk result (left.new ≡ (spec.sought_long_in around.now (seen_range range.now) left.old).left) }
 {
     let length = around.length_of(alloc, range)?;
-    sought(alloc, around, &length, 100, left)
+    sought(alloc, around, &length, TOO_LONG, left)
 }
 
 /// Whether an index is found to be below 0 or over 999.
@@ -155,7 +161,7 @@ fn is_sought_out(
     if sought(alloc, around, &opposite, 1, left)? {
         return Ok(true);
     }
-    sought(alloc, around, &form, 1000, left)
+    sought(alloc, around, &form, TOO_GREAT, left)
 }
 
 /// The opposite of a form.
