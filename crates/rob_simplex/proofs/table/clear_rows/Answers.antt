@@ -1,8 +1,8 @@
-use Rattle.std.proofs.Common.{◌≤◌, ◌∙◌, ap, subst, sym, arith, List, length}
+use Rattle.std.proofs.Common.{◌-◌, ◌≤◌, ◌∙◌, ap, subst, sym, arith, List, length}
 use lib.IntN.{ℤ, pos}
 use lib.Signed.{◌<ℤ◌}
 use Rattle.rob_linear.specs.Vectors.{at}
-use Rattle.rob_entries.specs.Updates.{Clearing, IsWideCleared}
+use Rattle.rob_entries.specs.Updates.{AreOwn, Clearing, IsWideCleared}
 use Rattle.rob_simplex.specs.Tables.{row_at, IsStopped}
 use Rattle.rob_simplex.proofs.Clearing.{wide_at}
 use Rattle.rob_simplex.proofs.table.clear_rows.Goals as goal
@@ -35,3 +35,13 @@ clear_other-requires-clause-ready g c =
       low = subst (λ (v : Clearing). v.bound ≤ g.E.Entry.top) (sym same) a.low;
       positive = subst (λ (v : Clearing). pos 0 <ℤ at v.entries c.args.pivot.place) (sym same) a.positive;
     }
+
+pub clear_other-requires-clause-own : goal.clear_other-requires-clause-own
+clear_other-requires-clause-own g c d =
+    let w = c.args.pivot.width in
+    let i = c.loop-i.i in
+    let before = c.requires.own i c.loop-i-test.true d in
+    let inside = c.requires.ready.place_in in
+    let stays = c.loop-i.invariant.cleared.others i (w - 1) (omega (arith)) (omega (arith, inside)) in
+    subst (λ (v : Clearing). AreOwn (row_at c.loop-i.rows w i) (at v.entries) (w - 1)) (sym c.loop-i.invariant.same)
+    (record { zero = before.zero; some = λ e. before.some (sym stays ∙ e) })

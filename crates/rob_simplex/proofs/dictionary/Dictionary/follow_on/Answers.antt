@@ -11,12 +11,12 @@ follow_second-requires g c =
     let h = subst (λ (x : Cause). HasBegunAt (InSecond P) x c.args.self.now) c.in-Turn.is c.requires.begun.1 in
     record { row_in = turn_row P c.args.self.now c.in-Turn.row h; begun = (P, h); limit = c.requires.limit }
 
-pub returns-in-Turn-clause-told : goal.returns-in-Turn-clause-told
-returns-in-Turn-clause-told g c P h =
+pub returns-clause-told : goal.returns-clause-told
+returns-clause-told g c P h =
     c.follow_second.ensures.told P (subst (λ (x : Cause). HasBegunAt (InSecond P) x c.args.self.now) c.in-Turn.is h)
 
-pub returns-in-Turn-clause-caused : goal.returns-in-Turn-clause-caused
-returns-in-Turn-clause-caused g c P h =
+pub returns-clause-caused : goal.returns-clause-caused
+returns-clause-caused g c P h =
     c.follow_second.ensures.caused P (subst (λ (x : Cause). HasBegunAt (InSecond P) x c.args.self.now) c.in-Turn.is h)
 
 pub unreachable-requires : goal.unreachable-requires

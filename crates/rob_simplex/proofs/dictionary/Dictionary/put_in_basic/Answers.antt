@@ -1,4 +1,4 @@
-use Rattle.std.proofs.Common.{◌≡◌, ◌≢◌, ℕ, ◌+◌, ◌<◌, ◌≤◌, ◌∙◌, ap, sym, subst, arith, List, to_z, of_z, w64}
+use Rattle.std.proofs.Common.{◌≡◌, ◌≢◌, ℕ, ◌+◌, ◌^◌, ◌<◌, ◌≤◌, ◌∙◌, ap, sym, subst, arith, List, nat_abs, to_z, of_z, w64}
 use Rattle.std.proofs.lemmas.Result.{on_ok_weaker, on_err_weaker}
 use Rattle.std.proofs.lemmas.Int.{to_z-of_z}
 use Rattle.std.specs.Prelude.{OnOk, OnErr}
@@ -37,6 +37,7 @@ lower_and_clear-cleared-requires g c =
     let il = c.requires.basic.0 in
     let oi = c.requires.basic.1 in
     let alone = (λ (k : ℕ) (kl : k ≤ positions t) (d : k ≢ c.args.i). ap (rows_of t k) es ∙ h.closed.zero k kl) in
+    let seen : to_z w64 (of_z w64 c.args.factor) ≡ c.args.factor = to_z-of_z w64 c.args.factor c.ranges.factor in
     record {
       ready = clears1 P c.args.column jl h i il oi es t1 r.basis r.sized.columns r.rows
           (keeps_set (positions t1 + 1) i s t t1 r.basis r.sized.columns (r.rows alone) (basics_inside h)
@@ -46,7 +47,7 @@ lower_and_clear-cleared-requires g c =
       way = has_way P c.args.column jl h i il oi es t1 r.basis r.sized.columns r.rows;
       alone = alone1 P c.args.column jl h i il oi es t1 r.basis r.sized.columns r.rows;
       small = r.small;
-      factor = c.requires.factor;
+      factor = subst (λ (z : ℤ). nat_abs z < 2 ^ 62) (sym seen) c.requires.factor;
     }
 
 pub replace-requires-2-clause-free : goal.replace-requires-2-clause-free
