@@ -3,6 +3,7 @@ use Rattle.std.proofs.Common.{◌≡◌, ℕ, ◌+◌, ◌-◌, ◌*◌, ◌/◌
 use Rattle.std.specs.Prelude.{ℤ, pos, negsuc, ◌+ℤ◌, ◌*ℤ◌, ◌≤ℤ◌, true}
 use Rattle.std.specs.Int.{int_rem_euclid}
 use Rattle.std.proofs.lemmas.Int.{ints}
+use Rattle.std.proofs.Math.Nat.{mul_comm}
 use Rattle.rob_algebra.specs.Integer.{products, mul_nonneg}
 use Rattle.rob_index.specs.Statements.{digits}
 use Rattle.rob_index.specs.Forms.{Form, value_of, plus_times}
@@ -19,7 +20,7 @@ rest_is (pos a) n r over is =
     let same : a % n ≡ r = cc in
     let parts : a / n * n + a % n ≡ a = div-add-mod' a n in
     let low : a % n < n = mod-lt a over in
-    let e : pos n *ℤ pos (a / n) ≡ pos (a / n * n) = simp products (omega (arith, ints)) in
+    let e : pos n *ℤ pos (a / n) ≡ pos (a / n * n) = ap pos (mul_comm n (a / n)) in
     record {
       quotient = pos (a / n);
       whole = omega (arith, ints, parts, same, e);
