@@ -1,10 +1,10 @@
 -- Forms with whole values: how great they are at least, wherever they aren't below 0.
-use Rattle.std.proofs.Common.{◌≡◌, ℕ, ◌+◌, ◌-◌, ◌*◌, ◌/◌, ◌%◌, ◌<◌, ◌⊎◌, inl, inr, List, [], refl, sym, ap, ◌∙◌, subst, mod-lt, div-add-mod', arith}
-use Rattle.std.specs.Prelude.{ℤ, pos, negsuc, ◌+ℤ◌, ◌*ℤ◌, ◌≤ℤ◌, true}
+use Rattle.std.proofs.Common.{◌≡◌, ℕ, suc, ◌+◌, ◌-◌, ◌*◌, ◌/◌, ◌%◌, ◌<◌, ◌⊎◌, inl, inr, List, [], refl, sym, ap, ◌∙◌, subst, mod-lt, div-add-mod', arith}
+use Rattle.std.specs.Prelude.{ℤ, nat_abs, pos, negsuc, ◌+ℤ◌, ◌*ℤ◌, ◌≤ℤ◌, true}
 use Rattle.std.specs.Int.{int_rem_euclid}
 use Rattle.std.proofs.lemmas.Int.{ints}
 use Rattle.std.proofs.Math.Nat.{mul_comm}
-use Rattle.rob_algebra.specs.Integer.{products, mul_nonneg}
+use Rattle.rob_algebra.specs.Integer.{products, mul-add, mul_nonneg, mul_left_comm}
 use Rattle.rob_index.specs.Statements.{digits}
 use Rattle.rob_index.specs.Forms.{Form, value_of, plus_times}
 use Rattle.rob_index.specs.Fast.{atom_form, sign_factor}
@@ -15,6 +15,11 @@ use Rattle.rob_ranges.specs.Shorts.{first_of, second_of, short_value}
 use Rattle.rob_expand.specs.Rests.{IsRest}
 
 -- ---- division
+-- a number of at least 0 is its size
+pub size_of : (z : ℤ) → pos 0 ≤ℤ z → z ≡ pos (nat_abs z)
+size_of (pos n) h = refl
+size_of (negsuc n) h = absurd (omega (arith, ints))
+
 pub rest_is : (z : ℤ) (n r : ℕ) → 0 < n → int_rem_euclid z (pos n) ≡ pos r → IsRest z n r
 rest_is (pos a) n r over is =
     let same : a % n ≡ r = cc in
@@ -30,11 +35,16 @@ rest_is (negsuc a) n r over is =
     let same : n - 1 - a % n ≡ r = cc in
     let parts : a / n * n + a % n ≡ a = div-add-mod' a n in
     let low : a % n < n = mod-lt a over in
-    let e : pos n *ℤ negsuc (a / n) ≡ (negsuc 0 *ℤ pos (a / n * n)) +ℤ (negsuc 0 *ℤ pos n) =
-    simp products (omega (arith, ints)) in
+    let q = a / n in
+    let next = pos q +ℤ pos 1 in
+    let turned : negsuc q ≡ negsuc 0 *ℤ next = omega (arith, ints) in
+    let product : pos n *ℤ pos q ≡ pos (q * n) = ap pos (mul_comm n q) in
+    let apart : pos n *ℤ next ≡ (pos n *ℤ pos q) +ℤ (pos n *ℤ pos 1) = mul-add (pos n) (pos q) (pos 1) in
+    let e : pos n *ℤ negsuc q ≡ negsuc 0 *ℤ (pos n *ℤ next) =
+        ap (λ (z : ℤ). pos n *ℤ z) turned ∙ mul_left_comm (pos n) (negsuc 0) next in
     record {
       quotient = negsuc (a / n);
-      whole = omega (arith, ints, parts, same, e, low);
+      whole = omega (arith, ints, parts, same, e, apart, product, low);
       less = omega (arith, low, same);
     }
 

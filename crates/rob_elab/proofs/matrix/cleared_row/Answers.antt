@@ -1,7 +1,8 @@
 use Rattle.std.proofs.Common.{arith, ap, sym, ◌∙◌, subst}
-use Rattle.std.specs.Prelude.{◌≡◌, ◌≤◌, List, ℤ, map, nat_abs}
+use Rattle.std.specs.Prelude.{◌≡◌, ◌≤◌, ◌++◌, ◌∷◌, [], List, ℤ, map, nat_abs}
 use Rattle.rob_algebra.specs.Fraction.{Fraction}
 use Rattle.rob_algebra.specs.Width.{IsWideWhole}
+use Rattle.rob_number.proofs.CastLemmas.{seen_within}
 use Rattle.rob_meaning.specs.Clearing.{whole_at}
 use Rattle.rob_meaning.specs.Places.{Each, tabulate}
 use Rattle.rob_meaning.proofs.EachLemmas.{each_push}
@@ -26,12 +27,15 @@ returns-in-None-clause-wide g c =
 pub loop-column-preserved : goal.loop-column-preserved
 loop-column-preserved g c =
     let f = numbers_of g.N.Exact.value c.args.table.now c.args.row in
+    let seen = seen_within g.N.Exact.limit c.in-Some.entry g.met.N.Exact.limit_high c.in-Some.ensures.whole.1 in
+    let grown : c.push.new.self ≡ c.loop-column.list ++ c.in-Some.entry ∷ [] =
+        c.in_ok-push-in-Some.ensures.appended ∙ ap (λ (z : ℤ). c.loop-column.list ++ z ∷ []) seen in
     record {
       cleared = mapped_more (whole_at c.args.common) c.loop-column.list c.push.new.self c.in-Some.entry
-          c.loop-column.column f c.loop-column.invariant.cleared c.in_ok-push-in-Some.ensures.appended
+          c.loop-column.column f c.loop-column.invariant.cleared grown
           (c.in-Some.ensures.whole.0 ∙ ap (whole_at c.args.common) c.number-number.ensures.value);
       fits = subst (λ (xs : List ℤ). Each (λ a. nat_abs a ≤ g.N.Exact.limit) xs)
-          (sym c.in_ok-push-in-Some.ensures.appended)
+          (sym grown)
           (each_push (λ a. nat_abs a ≤ g.N.Exact.limit) c.loop-column.list c.in-Some.entry
           c.loop-column.invariant.fits c.in-Some.ensures.whole.1);
       counted = record {

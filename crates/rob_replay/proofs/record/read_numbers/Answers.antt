@@ -34,7 +34,7 @@ loop-i-preserved g c =
     let x = c.in-Some-read_number.number in
     let left = map (number_in g.N.Exact.limit) (drop (c.loop-i.i + 1) fields) in
     record {
-      rest = ap (λ l. gathered l left) (ap (map value) c.in_ok-push.ensures.appended
+      rest = ap (λ l. gathered l left) (ap (map value) c.in_ok-push-in-Some-read_number.ensures.appended
           ∙ map-append value c.loop-i.numbers (x ∷ []))
           ∙ sym (left_more (number_in g.N.Exact.limit) fields c.loop-i.i f split (map value c.loop-i.numbers) (value x)
           (sym c.in-Some-read_number.ensures.number))

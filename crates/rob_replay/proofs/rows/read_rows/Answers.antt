@@ -42,7 +42,7 @@ loop-row-preserved c =
       m.1,
       inv.6 ++ fields_of row ∷ [],
       m.2,
-      c.in_ok-keep.ensures.kept inv.6 inv.8,
+      c.in_ok-keep-in-Ok.ensures.kept inv.6 inv.8,
     )
 
 pub returns : goal.returns
