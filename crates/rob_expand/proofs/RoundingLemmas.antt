@@ -1,7 +1,7 @@
 -- Forms with whole values: how great they are at least, wherever they aren't below 0.
 use Rattle.std.proofs.Common.{◌≡◌, ℕ, suc, ◌+◌, ◌-◌, ◌*◌, ◌/◌, ◌%◌, ◌<◌, ◌⊎◌, inl, inr, List, [], refl, sym, ap, ◌∙◌, subst, mod-lt, div-add-mod', arith}
 use Rattle.std.specs.Prelude.{ℤ, nat_abs, pos, negsuc, ◌+ℤ◌, ◌*ℤ◌, ◌≤ℤ◌, true}
-use Rattle.std.specs.Int.{int_rem_euclid}
+use Rattle.std.specs.Int.{int_rem_euclid, IsNonNegative}
 use Rattle.std.proofs.lemmas.Int.{ints}
 use Rattle.std.proofs.Math.Nat.{mul_comm}
 use Rattle.rob_algebra.specs.Integer.{products, mul-add, mul_nonneg, mul_left_comm}
@@ -16,9 +16,9 @@ use Rattle.rob_expand.specs.Rests.{IsRest}
 
 -- ---- division
 -- a number of at least 0 is its size
-pub size_of : (z : ℤ) → pos 0 ≤ℤ z → z ≡ pos (nat_abs z)
+pub size_of : (z : ℤ) → IsNonNegative z → z ≡ pos (nat_abs z)
 size_of (pos n) h = refl
-size_of (negsuc n) h = absurd (omega (arith, ints))
+size_of (negsuc n) h = absurd h
 
 pub rest_is : (z : ℤ) (n r : ℕ) → 0 < n → int_rem_euclid z (pos n) ≡ pos r → IsRest z n r
 rest_is (pos a) n r over is =

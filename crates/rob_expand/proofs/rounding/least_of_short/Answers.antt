@@ -1,7 +1,10 @@
-use Rattle.std.proofs.Common.{◌≡◌, ◌∙◌, subst, to_z, of_z}
+use Rattle.std.proofs.Common.{◌≡◌, sym, subst, arith, rules, to_z, of_z}
+use mir.Syntax.{w32}
+use mir.Val.{SFits}
 use Rattle.std.specs.Int.{w128}
 use Rattle.std.specs.Prelude.{ℤ}
-use Rattle.std.proofs.lemmas.Int.{to_z-of_z}
+use Rattle.std.proofs.lemmas.Int.{ints}
+use Rattle.rob_number.proofs.CastLemmas.{seen_wide}
 use Rattle.rob_expand.specs.Rests.{IsRest}
 use Rattle.rob_expand.proofs.RoundingLemmas.{least_is}
 use Rattle.rob_expand.proofs.rounding.least_of_short.Goals as goal
@@ -9,10 +12,14 @@ use Rattle.rob_expand.proofs.rounding.least_of_short.Goals as goal
 pub returns : goal.returns
 returns c =
     let divisor = c.divisor_of-divisor.result in
+    let first_fits : SFits w32 c.args.form.first = search rules in
+    let second_fits : SFits w32 c.args.form.second = search rules in
     let first : to_z w128 (of_z w128 c.from.result) ≡ c.args.form.first =
-        to_z-of_z w128 c.from.result c.from.type_inv ∙ c.from.ensures in
+        subst (λ (z : ℤ). to_z w128 (of_z w128 z) ≡ c.args.form.first) (sym c.from.ensures)
+            (seen_wide c.args.form.first (omega (arith, ints, first_fits))) in
     let second : to_z w128 (of_z w128 c.from-2.result) ≡ c.args.form.second =
-        to_z-of_z w128 c.from-2.result c.from-2.type_inv ∙ c.from-2.ensures in
+        subst (λ (z : ℤ). to_z w128 (of_z w128 z) ≡ c.args.form.second) (sym c.from-2.ensures)
+            (seen_wide c.args.form.second (omega (arith, ints, second_fits))) in
     record {
       least = λ vs.
           least_is c.args.form vs divisor c.rest-first.result c.rest-second.result c.rest-constant.result
