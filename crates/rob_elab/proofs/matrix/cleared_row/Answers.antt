@@ -29,7 +29,7 @@ loop-column-preserved g c =
     let f = numbers_of g.N.Exact.value c.args.table.now c.args.row in
     let seen = seen_within g.N.Exact.limit c.in-Some.entry g.met.N.Exact.limit_high c.in-Some.ensures.whole.1 in
     let grown : c.push.new.self ≡ c.loop-column.list ++ c.in-Some.entry ∷ [] =
-        c.in_ok-push-in-Some.ensures.appended ∙ ap (λ (z : ℤ). c.loop-column.list ++ z ∷ []) seen in
+    c.in_ok-push-in-Some.ensures.appended ∙ ap (λ (z : ℤ). c.loop-column.list ++ z ∷ []) seen in
     record {
       cleared = mapped_more (whole_at c.args.common) c.loop-column.list c.push.new.self c.in-Some.entry
           c.loop-column.column f c.loop-column.invariant.cleared grown

@@ -12,12 +12,12 @@ returns c =
     let r = c.rem_euclid.result in
     let number : to_z w128 (of_z w128 c.args.number) ≡ c.args.number = to_z-of_z w128 c.args.number c.ranges.number in
     let divisor : to_z w128 (of_z w128 c.from.result) ≡ pos c.args.divisor =
-        subst (λ (z : ℤ). to_z w128 (of_z w128 z) ≡ z) (sym c.from.ensures)
-            (seen_wide (pos c.args.divisor) (omega (arith, c.ranges.divisor)))
-        ∙ c.from.ensures in
+    subst (λ (z : ℤ). to_z w128 (of_z w128 z) ≡ z) (sym c.from.ensures)
+    (seen_wide (pos c.args.divisor) (omega (arith, c.ranges.divisor)))
+    ∙ c.from.ensures in
     let value : r ≡ int_rem_euclid c.args.number (pos c.args.divisor) =
-        c.rem_euclid.ensures.value ∙ ap₂ int_rem_euclid number divisor in
+    c.rem_euclid.ensures.value ∙ ap₂ int_rem_euclid number divisor in
     let known = rest_is c.args.number c.args.divisor (nat_abs r) c.requires.divisor
-        (sym value ∙ size_of r c.rem_euclid.ensures.lower_bound) in
+    (sym value ∙ size_of r c.rem_euclid.ensures.lower_bound) in
     let back : to_z w128 (of_z w128 r) ≡ r = seen_wide r (omega (arith, known.less, c.ranges.divisor)) in
     record { rest = subst (λ (z : ℤ). IsRest c.args.number c.args.divisor (nat_abs z)) (sym back) known }
