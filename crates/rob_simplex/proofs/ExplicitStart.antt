@@ -161,8 +161,7 @@ module _ {P : Program} {q : ℕ} {t : Table} (h : IsOpenBeside P q t) where
             → IsClearedBy (suc (suc (suc (P.n + P.m)))) (P.n + P.m) low' (rows_of t q) new
         told low low' new el c =
             cleared_same (width_of t2) (suc (suc (suc (P.n + P.m)))) (P.n + P.m) low low' (rows_of t2 q) (rows_of t q)
-            new
-            new (omega (arith, w2)) (omega arith) el (λ k l. p.rows q k q_low) (λ k l. refl)
+            new new (omega (arith, w2)) (omega arith) el (λ k l. p.rows q k q_low) (λ k l. refl)
             (subst (λ v. IsClearedBy (width_of t2) v low (rows_of t2 q) new) x_is c)
 
         -- ---- all rows are cleared

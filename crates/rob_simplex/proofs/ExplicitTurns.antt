@@ -29,7 +29,7 @@ use Rattle.rob_linear.proofs.MultiplePhases.{kept_multiple}
 use Rattle.rob_entries.specs.Updates.{IsWideCleared}
 use Rattle.rob_simplex.specs.Dictionaries.{Table, positions, width_of, columns_of, basic_columns, spare_column, shape, rows_of, kept_row_of, IsFree, IsClosed, IsPivoted, FirstNegative}
 use Rattle.rob_simplex.specs.Pivots.{KeepsSpare}
-use Rattle.rob_simplex.specs.Explicit.{HoldsExplicit, InExplicit, EndsExplicit, HasTurnedExplicit, FollowsFirst, StopsFirst, turn_after, turns_left_explicit}
+use Rattle.rob_simplex.specs.Explicit.{HoldsExplicit, HasTurnedExplicit, FollowsFirst, StopsFirst, turn_after, turns_left_explicit}
 use Rattle.rob_simplex.proofs.ReadRows.{basic_low, basic_high}
 use Rattle.rob_simplex.proofs.SpareColumns.{wide_cleared, wide_primitive, wide_entry}
 use Rattle.rob_simplex.proofs.PivotLemmas.{zero_stays}
@@ -397,13 +397,3 @@ module _ {P : Program} {t : Table} (h : HoldsExplicit P t) where
             → (i ≡ suc (positions t) → IsWideCleared limit (width_of t) column (kept_row_of t) (rows_of t row))
             → StopsFirst limit P (columns_of (set t.basis row column)) (min i (positions t))
         explicit_refused i il d w k = record { row = refused_row i il d w k; phase = inr follows }
-
--- ---- the ends
-pub explicit_ends : (P : Program) (t : Table) → InExplicit P t
-    → ((c : ℕ) → c < t.columns + positions t → pos 0 ≤ℤ rows_of t (positions t) c) → EndsExplicit P t
-explicit_ends P t h none = record {
-  stands = h;
-  none =
-      λ k l. subst (λ i. pos 0 ≤ℤ rows_of t i k) h.holds.rows_are
-      (none k (omega (arith, h.holds.rows_are, h.holds.columns_are)));
-}

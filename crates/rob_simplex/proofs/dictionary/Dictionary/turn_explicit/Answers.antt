@@ -3,11 +3,11 @@ use Rattle.std.specs.Prelude.{◌≢◌}
 use Rattle.std.proofs.lemmas.Bool.Decides.{nat_tests}
 use lib.Signed.{◌≤ℤ◌}
 use Rattle.rob_simplex.specs.Dictionaries.{Table, positions, columns_of, basic_columns, rows_of, FirstNegative}
-use Rattle.rob_simplex.specs.Explicit.{HasTurnedExplicit, StopsFirst}
+use Rattle.rob_simplex.specs.Explicit.{EndsExplicit, HasTurnedExplicit, StopsFirst}
 use Rattle.rob_simplex.proofs.Ranks.{IsSmall}
 use Rattle.rob_simplex.proofs.EntryLemmas.{small_entries}
 use Rattle.rob_simplex.proofs.OwnEntries.{keeps_explicit}
-use Rattle.rob_simplex.proofs.ExplicitTurns.{explicit_own, explicit_free, explicit_not_spare, explicit_bounded, explicit_turned, explicit_refused, explicit_ends, kept_spare}
+use Rattle.rob_simplex.proofs.ExplicitTurns.{explicit_own, explicit_free, explicit_not_spare, explicit_bounded, explicit_turned, explicit_refused, kept_spare}
 use Rattle.rob_simplex.proofs.dictionary.Dictionary.turn_explicit.Goals as goal
 
 pub first_negative-requires-clause-own : goal.first_negative-requires-clause-own
@@ -23,8 +23,16 @@ returns-in_default-clause-turned g c P h =
     let t = c.args.self.now in
     let em : c.len-m.result ≡ positions t =
     c.len-m.ensures ∙ c.self.inside.basis.ok.0 ∙ ap (λ (t : Table). positions t) c.self.view_is in
-    explicit_ends P t h (subst (λ (i : ℕ). (k : ℕ) → k < t.columns + positions t → pos 0 ≤ℤ rows_of t i k) em
-    c.in_default.ensures.first)
+    let none : (k : ℕ) → k < t.columns + positions t → pos 0 ≤ℤ rows_of t (positions t) k =
+    subst (λ (i : ℕ). (k : ℕ) → k < t.columns + positions t → pos 0 ≤ℤ rows_of t i k) em
+    c.in_default.ensures.first in
+    let ends : EndsExplicit P t = record {
+      stands = h;
+      none =
+          λ k l. subst (λ i. pos 0 ≤ℤ rows_of t i k) h.holds.rows_are
+          (none k (omega (arith, h.holds.rows_are, h.holds.columns_are)));
+    } in
+    ends
 
 pub returns-in_default-leaving-clause-turned : goal.returns-in_default-leaving-clause-turned
 returns-in_default-leaving-clause-turned g c P h =
