@@ -1,8 +1,14 @@
 use Rattle.std.proofs.Common.{rules, map, refl, string_bytes, sym}
+use Rattle.rob_words.specs.Commands.{words_of}
 use Rattle.rob_words.specs.Values.{greatest_of}
 use Rattle.rob_words.specs.Verbs.{own_of}
 use Rattle.rob_words.proofs.Readings.{line-admitted, line-kinds, line-route, line-width, of_kinds_again, passed-no_line, passed-texts, spelled-line}
 use Rattle.rob_words.proofs.reader.read_words.Goals as goal
+
+pub returns-in_err-verb-clause-cause : goal.returns-in_err-verb-clause-cause
+returns-in_err-verb-clause-cause c =
+    passed-no_line (map string_bytes c.args.words.now) c.from_residual.result
+    (λ line. c.in_err-verb.ensures.named line.0.verb (words_of line.1.0) line.1.1.spelled)
 
 pub returns-then-not-are_admitted-clause-cause : goal.returns-then-not-are_admitted-clause-cause
 returns-then-not-are_admitted-clause-cause c = λ line.
