@@ -1,9 +1,9 @@
 -- A range that is too long, where the ends show it: a search that may spend nothing finds it, so one that may spend more
 -- finds it too, and the line is refused for it whether it fits or not.
-use Rattle.std.proofs.Common.{◌≡◌, ℕ, ◌-◌, ◌<◌, Bool, true, false, List, [], ◌∷◌, length, Option, Some, None, refl, sym, ap, ◌∙◌, mul-pos, arith}
+use Rattle.std.proofs.Common.{◌≡◌, ℕ, ◌-◌, ◌*◌, ◌<◌, Bool, true, false, List, [], ◌∷◌, length, Option, Some, None, refl, sym, ap, ◌∙◌, mul-pos, arith}
 use Rattle.std.specs.Prelude.{ℤ, pos, ◌||◌, nat_lt, if◌then◌else◌}
 use Rattle.std.specs.List.{list_any}
-use Rattle.std.proofs.lemmas.Bool.{lt-ltb}
+use Rattle.std.proofs.lemmas.Bool.{false≢true, lt-ltb}
 use Rattle.rob_index.specs.Statements.{Name, Tree, Indexed, Range}
 use Rattle.rob_index.specs.Forms.{Form, Ends, length_form, from_ends, fixed, onto, values_of}
 use Rattle.rob_index.specs.Fast.{ends_of, nest_of, names_in}
@@ -39,7 +39,8 @@ module _ (price : ℕ) (f : Form) (bound : ℤ) where
       go None h =
           let none : false ≡ true =
           sym (ap (λ (s : Searched). s.found)
-          (each_missed (λ v left. search price rs (v ∷ vs) f bound left) price (values_of r vs) paid)) ∙ h in cc
+          (each_missed (λ v left. search price rs (v ∷ vs) f bound left) price (values_of r vs) paid)) ∙ h in
+          absurd (false≢true none)
       go (Some b) h = h
 
   inside_left : (r : Ends) (rs : List Ends) (vs : List ℤ) → nat_lt 0 price ≡ true
@@ -57,11 +58,11 @@ module _ (price : ℕ) (f : Form) (bound : ℤ) where
       go (Some b) = refl
 
 -- a range inside others has a price
+cube_positive : (n : ℕ) → 0 < n → nat_lt 0 (n * (n * n)) ≡ true
+cube_positive n some = lt-ltb 0 (n * (n * n)) (mul-pos some (mul-pos some some))
+
 has_price : (r : Range) (rs : List Range) → nat_lt 0 (price_of (r ∷ rs)) ≡ true
-has_price r rs =
-    let n = length (r ∷ rs) in
-    let some : 0 < n = omega arith in
-    lt-ltb 0 (price_of (r ∷ rs)) (mul-pos some (mul-pos some some))
+has_price r rs = cube_positive (length (r ∷ rs)) (omega arith)
 
 length_shown : (around : List Range) (r : Range) (left : ℕ)
     → (search_long (record { around = around; place = of_range r }) 0).found ≡ true
@@ -126,7 +127,7 @@ places_shown (i ∷ is) left h = go (places_shown is) (search_long i 0).found re
 -- what is found is there
 either_first : (a b : Bool) → a ≡ true → (a || b) ≡ true
 either_first true b h = refl
-either_first false b h = cc
+either_first false b h = absurd (false≢true h)
 
 either_last : (a b : Bool) → b ≡ true → (a || b) ≡ true
 either_last true b h = refl
