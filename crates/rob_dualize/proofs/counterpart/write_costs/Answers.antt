@@ -5,6 +5,6 @@ use Rattle.rob_dualize.proofs.counterpart.write_costs.Goals as goal
 
 pub returns : goal.returns
 returns c = record {
-  costs = written_out c.loop-k.numbers (length c.args.numbers.old) (cost_of c.args.forms.now) c.loop-k.auto.numbers
+  costs = written_out c.loop-k.numbers (length c.args.numbers.now) (cost_of c.args.forms.now) c.loop-k.auto.numbers
       (λ k l. c.loop-k.invariant k (omega (arith, c.loop-k-test.false)));
 }

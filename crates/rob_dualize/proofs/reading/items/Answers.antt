@@ -1,4 +1,4 @@
-use Rattle.std.proofs.Common.{◌≡◌, ◌+◌, ◌*◌, ◌<◌, map, length, sym, ap, subst, ◌∙◌, arith}
+use Rattle.std.proofs.Common.{ℕ, ◌≡◌, ◌+◌, ◌*◌, ◌<◌, map, length, sym, ap, subst, ◌∙◌, arith}
 use Rattle.rob_meaning.specs.Places.{1ℚ}
 use Rattle.rob_cert.specs.View.{item_of}
 use Rattle.rob_counterpart.specs.RobustProgram.{RobustProgram}
@@ -60,3 +60,15 @@ loop-i-preserved g c =
           ∙ ap all_zero (sym c.in_ok-vector.ensures.vector) ∙ ap (λ xs. all_zero (map value xs))
           (sym w.items.ensures.list) ∙ sym w.are_zero.ensures.zero ∙ w.if-not-are_zero.false))
     ]
+
+pub returns : goal.returns
+returns g c =
+    let count : length c.items-i-end.result.now ≡ length c.args.model.forms.now.matrices =
+    ap length c.items-i-end.ensures.list in
+    let all : c.loop-i.i ≡ length c.args.model.forms.now.matrices =
+    omega (arith, count, c.loop-i-test.false, c.loop-i.auto.i-end) in
+    record {
+      items = subst (λ (n : ℕ). map (item_of g.N.Exact.value) c.loop-i.all ≡ items_to
+          (wholes c.args.model.forms.now c.args.model.set.now) n (told g.N.Exact.value c.args.numbers.now)) all
+          c.loop-i.invariant;
+    }
