@@ -8,7 +8,7 @@ use Rattle.rob_model.specs.declared.place.Program.TheVariants as named
 use Rattle.rob_number.specs.Counts.{raised}
 use Rattle.rob_cert.specs.View.{certificate_of}
 use Rattle.rob_solver.specs.Solving.{CountsStopped}
-use Rattle.rob_dualize.specs.Ending.{HasEnded, IsStoppedAt, IsStoppedAs, position_of, read_from}
+use Rattle.rob_dualize.specs.Ending.{HasEnded, IsStoppedAt, IsStoppedAs, StopsAt, position_of, read_from}
 use Rattle.rob_dualize.specs.Refusals.{IsRefusedAt}
 use Rattle.rob_dualize.specs.Wholes.{counterpart_of}
 use Rattle.rob_dualize.proofs.EndingLemmas.{solution}
@@ -63,7 +63,10 @@ returns-in-Err-Wide-clause-solves g c = λ m model f st.
     let h : IsStoppedAt g.N.Exact.limit (counterpart_of c.args.forms.now c.args.set.now) s c.in-Err-Wide.stop =
     subst (IsStoppedAs g.N.Exact.limit (counterpart_of c.args.forms.now c.args.set.now)) c.in-Err-Wide.field-0-is
     c.in-Err-Wide.ensures.stopped in
-    let position : c.position.result ≡ position_of c.in-Err-Wide.stop = c.position.ensures.position in
+    let position : c.position.result ≡ position_of c.in-Err-Wide.stop =
+    rw c.in-Err-Wide.field-0-is at c.position.ensures.position in
+    let stopped : StopsAt s.basis named.Reform c.position.result c.wide.result =
+    rw c.in-Err-Wide.field-0-is at c.wide.ensures.stop in
     let counted : g.L.Ledger.wides c.solve_counterpart.new.ledger ≡ raised (g.L.Ledger.wides c.scenario.new.ledger) =
     subst (CountsStopped (g.L.Ledger.wides c.scenario.new.ledger) (g.L.Ledger.wides c.solve_counterpart.new.ledger))
     c.in-Err-Wide.field-0-is c.in-Err-Wide.ensures.counted.wides in
@@ -73,7 +76,7 @@ returns-in-Err-Wide-clause-solves g c = λ m model f st.
     (scenario_of g.N.Exact.value c.in_ok-inside.inside) found.found.0
     (subst (λ (i : ℕ). IsRefusedAt g.N.Exact.limit (counterpart m) s.basis i) (sym position)
     (counterpart_refused c.args.forms.now c.args.set.now m f st g.N.Exact.limit s c.in-Err-Wide.stop h))
-    c.wide.ensures.stop)
+    stopped)
     (wide_counted (g.L.Ledger.wides c.args.ledger.now) (g.L.Ledger.wides c.solve_counterpart.new.ledger) s.basis
     named.Reform c.position.result c.wide.result
-    (counted ∙ ap raised found.counted) c.wide.ensures.stop)
+    (counted ∙ ap raised found.counted) stopped)
