@@ -18,8 +18,7 @@ use Rattle.rob_pieces.proofs.ColumnLemmas.{rule_is_some, variables_count, writte
 use Rattle.rob_pieces.specs.Cuts.{Cut, IsCell, cell_numbers}
 use Rattle.rob_pieces.specs.SplitModel.{as_side, cells_worst, copy_in, rule_in, side_of_sign, split_model}
 use Rattle.rob_round_trip.proofs.WithoutSets.SetlessTexts.{in_no_sets}
-pub use Rattle.rob_round_trip.proofs.Written.ReadableLemmas.{negated_fits}
-use Rattle.rob_round_trip.proofs.Written.ReadableLemmas.{not_below}
+use Rattle.rob_round_trip.proofs.Written.ReadableLemmas.{negated_fits, not_below}
 use Rattle.rob_round_trip.specs.Readable.{FactorsReadable, HasReadableParts, IsBound, IsPlaced, IsReadable, IsReadableMember, IsReadableModel, IsReadableSetLine, IsRealProduct, IsRealSum, TermsReadable}
 use Rattle.rob_split_text.proofs.FormedSplits.{each_bound_written}
 use Rattle.rob_split_text.proofs.WrittenSplits.{bounds_written, factors_renamed, line_renamed, lines_written, renamed, row_renamed, rows_written, side_written, sides_written, terms_renamed, written_split}

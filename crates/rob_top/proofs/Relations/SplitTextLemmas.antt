@@ -15,9 +15,9 @@ use Rattle.rob_parse.proofs.Building.PlacedLemmas.{well_formed}
 use Rattle.rob_parse.proofs.Degrees.NumberLemmas.{pair_fits}
 use Rattle.rob_parse.specs.Modelled.{ReadsModel}
 use Rattle.rob_pieces.specs.Cuts.{AreCuts, Cut}
+use Rattle.rob_round_trip.proofs.Written.ReadableLemmas.{negated_fits}
 use Rattle.rob_rules.specs.Texts.{Breaks}
 use Rattle.rob_sets.specs.FirstWide.{NothingWide}
-use Rattle.rob_split_text.proofs.ReadableSplits.{negated_fits}
 use Rattle.rob_split_text.proofs.SplitReading.{split_text_few, split_text_reads}
 use Rattle.rob_split_text.specs.SplitTexts.{HasFewTokens, HaveFittingLevels}
 use Rattle.rob_top.proofs.Coming.CompletenessLemmas.{proved_then_checked}
