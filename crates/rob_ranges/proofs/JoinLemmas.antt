@@ -1,5 +1,5 @@
 -- Factors that are added from a place on, one after the other.
-use Rattle.std.proofs.Common.{◌≡◌, ◌≢◌, ◌<◌, ◌≤◌, ◌+◌, ◌==◌, ℕ, zero, suc, Bool, false, List, [], ◌∷◌, ◌++◌, length, set, drop, get_or, inl, inr, refl, sym, ap, ◌∙◌, arith}
+use Rattle.std.proofs.Common.{◌≡◌, ◌≢◌, ◌<◌, ◌≤◌, ◌+◌, ◌-◌, ◌==◌, ℕ, zero, suc, Bool, false, List, [], ◌∷◌, ◌++◌, length, set, drop, get_or, inl, inr, refl, sym, ap, ◌∙◌, arith}
 use Rattle.std.specs.Prelude.{ℤ, pos, ◌+ℤ◌, ◌*ℤ◌, if◌then◌else◌}
 use Rattle.std.proofs.lemmas.Bool.Decides.{eqb_tells}
 use Rattle.std.proofs.lemmas.Int.{ints}
@@ -66,6 +66,25 @@ pub joined_none : (p : ℕ) (c : ℤ) (fs : List ℤ) → joined_from p c [] fs 
 joined_none zero c fs = refl
 joined_none (suc p) c [] = refl
 joined_none (suc p) c (f ∷ fs) = ap (λ (ds : List ℤ). f ∷ ds) (joined_none p c fs)
+
+-- nothing times as many as there are, or fewer
+joined_by_zero : (bs fs : List ℤ) → length bs ≤ length fs → joined (pos 0) bs fs ≡ fs
+joined_by_zero [] fs h = refl
+joined_by_zero (b ∷ bs) [] h = absurd (omega (arith, h))
+joined_by_zero (b ∷ bs) (f ∷ fs) h =
+    let e : (pos 0 *ℤ b) +ℤ f ≡ f = omega (arith, ints) in
+    λ i. e i ∷ joined_by_zero bs fs (omega (arith, h)) i
+
+joined_zero_from : (p : ℕ) (bs fs : List ℤ) → p + length bs ≤ length fs → fs ≡ joined_from p (pos 0) bs fs
+joined_zero_from zero bs fs h = sym (joined_by_zero bs fs (omega (arith, h)))
+joined_zero_from (suc p) bs [] h = absurd (omega (arith, h))
+joined_zero_from (suc p) bs (f ∷ fs) h = ap (λ (ds : List ℤ). f ∷ ds) (joined_zero_from p bs fs (omega (arith, h)))
+
+pub joined_zero : (p : ℕ) (c : ℤ) (bs fs : List ℤ) → p ≤ length fs → c ≡ pos 0 → length bs ≤ length fs - p
+    → fs ≡ joined_from p c bs fs
+joined_zero p c bs fs within nothing enough =
+    joined_zero_from p bs fs (omega (arith, within, enough))
+    ∙ ap (λ (z : ℤ). joined_from p z bs fs) (sym nothing)
 
 -- ---- the factors from the place on
 pub drop-joined_from : (p : ℕ) (c : ℤ) (bs fs : List ℤ) → p ≤ length fs

@@ -12,9 +12,9 @@ returns c =
     record {
       sum =
           on_ok_weaker c.add_products.result
-          (λ added. sum_is own.constant c.args.factor.now other.constant c.in_ok-self-inside.field-0 own.front
+          (λ added. sum_is own.constant c.args.factor.now other.constant c.add_times.new.self own.front
           c.factors.result.now own.factors.items c.add_products.new.factors.items c.args.self.now c.args.other.now
-          c.self.view_is c.self.invariant c.in_ok-self-inside.ensures.sum
+          c.self.view_is c.self.invariant c.in_ok-add_times.ensures.sum
           (ap (λ (f : Form). f.constant) c.other.view_is) c.factors.ensures.factors added)
           c.add_products.ensures.added;
     }
