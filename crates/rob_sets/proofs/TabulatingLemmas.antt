@@ -16,7 +16,7 @@ use Rattle.rob_sets.specs.FirstWide.{Some_of}
 use Rattle.rob_sets.specs.Stops.{StopsFor}
 use Rattle.rob_sets.specs.Subexpressions.{subexpressions, HasWideCoefficient}
 use Rattle.rob_sets.specs.Tables.{numbers_of}
-use Rattle.rob_sets.specs.Tabulating.{IsTableOf, IsWideOnWay, Tabulates}
+use Rattle.rob_sets.specs.Tabulating.{IsTableOf, IsWideWithin, Tabulates}
 use Rattle.rob_sets.specs.declared.error.Stop.{Stop}
 use Rattle.rob_sets.specs.declared.error.Stop.TheVariants as Stopped
 use Rattle.rob_sets.specs.declared.table.Table.{Table}
@@ -33,19 +33,19 @@ IsLeft limit m e left = Judging (HasWideCoefficient limit m) (subexpressions e) 
 module _ {N : Type 0} (value : N → Fraction) (limit : ℕ) (m : RobustModel) where
   -- ---- a stop
   pub tabulates_err : (e : Expression) (first last : ℕ) (r : Result (Table N) Stop) (stop : Stop)
-      → StopsFor (IsWideOnWay limit m e first last) stop → IsErrAnd r (λ d. d ≡ stop)
+      → StopsFor (IsWideWithin limit m e first last) stop → IsErrAnd r (λ d. d ≡ stop)
       → Tabulates value limit m e first last r
   tabulates_err e first last r stop h is =
       let q = err_from_is_err_and r is in
       subst (λ (x : Result (Table N) Stop). Tabulates value limit m e first last x) (sym q.1)
-      (subst (λ (x : Stop). StopsFor (IsWideOnWay limit m e first last) x) (sym q.2) h)
+      (subst (λ (x : Stop). StopsFor (IsWideWithin limit m e first last) x) (sym q.2) h)
 
   -- for memory
   pub memory_stops : (e : Expression) (first last : ℕ) (r : Result (Table N) Stop) (stop : Stop)
       → stop ≡ Stopped.Memory → IsErrAnd r (λ d. d ≡ stop) → Tabulates value limit m e first last r
   memory_stops e first last r stop memory is =
       tabulates_err e first last r stop
-      (subst (λ (s : Stop). StopsFor (IsWideOnWay limit m e first last) s) (sym memory) tt) is
+      (subst (λ (s : Stop). StopsFor (IsWideWithin limit m e first last) s) (sym memory) tt) is
 
   -- on the way to a part
   pub part_stops : {left here more : List Expression} (e : Expression) (first before last : ℕ)
@@ -104,7 +104,7 @@ module _ {N : Type 0} (value : N → Fraction) (limit : ℕ) (fits : (x : N) →
   leaf y x first last (Ok t) e alone h k =
       subst (λ (z : Expression). IsTableOf value limit m z t) (sym e) (leaf_is x t alone h)
   leaf y x first last (Err stop) e alone h k =
-      subst (λ (s : Stop). StopsFor (IsWideOnWay limit m y first last) s) (sym k) tt
+      subst (λ (s : Stop). StopsFor (IsWideWithin limit m y first last) s) (sym k) tt
 
   -- an adaptive variable in the default set
   pub default_leaf : (x : Expression) (y first last : ℕ) (r : Result (Table N) Stop) → x ≡ adaptive y
@@ -113,7 +113,7 @@ module _ {N : Type 0} (value : N → Fraction) (limit : ℕ) (fits : (x : N) →
       subst (λ (z : Expression). IsTableOf value limit m z t) (sym e)
       (leaf_is (adaptive y) t refl (λ k j. h.coefficients k j ∙ default_table m y k j))
   default_leaf x y first last (Err stop) e h =
-      stop_weaker stop (λ (w : IsWideOnWay limit m (adaptive_in y 0) first last). (
+      stop_weaker stop (λ (w : IsWideWithin limit m (adaptive_in y 0) first last). (
         w.0,
         subst (λ (z : Expression). Some_of (HasWideCoefficient limit m) (subexpressions z)) (sym e) (by w.1),
       )) h

@@ -20,11 +20,11 @@ pub record IsTableOf {N : Type 0} (value : N → Fraction) (limit : ℕ) (m : Ro
   pub none_wide : Each (λ s. HasWideCoefficient limit m s → ⊥) (subexpressions e)
 
 -- why there is no such table: a coefficient of a subexpression is wide, which the ledger counted
-abbrev pub IsWideOnWay : ℕ → RobustModel → Expression → ℕ → ℕ → Type 0
-IsWideOnWay limit m e before now = Rose before now × Some_of (HasWideCoefficient limit m) (subexpressions e)
+abbrev pub IsWideWithin : ℕ → RobustModel → Expression → ℕ → ℕ → Type 0
+IsWideWithin limit m e before now = Rose before now × Some_of (HasWideCoefficient limit m) (subexpressions e)
 
 -- the call answers the table of the expression, or says why not
 abbrev pub Tabulates : {N : Type 0} → (N → Fraction) → ℕ → RobustModel → Expression → ℕ → ℕ → Result (Table N) Stop
     → Type 0
 Tabulates value limit m e before now (Ok t) = IsTableOf value limit m e t
-Tabulates value limit m e before now (Err stop) = StopsFor (IsWideOnWay limit m e before now) stop
+Tabulates value limit m e before now (Err stop) = StopsFor (IsWideWithin limit m e before now) stop

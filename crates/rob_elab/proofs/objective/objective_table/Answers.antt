@@ -3,7 +3,7 @@ use Rattle.rob_meaning.specs.Forms.{difference, objective_form, tau_column}
 use Rattle.rob_meaning.proofs.NameLemmas.{length-column_names}
 use Rattle.rob_model.specs.View.{robust, sense_of}
 use Rattle.rob_sets.specs.Subexpressions.{HasWideCoefficient}
-use Rattle.rob_sets.specs.Tabulating.{IsWideOnWay}
+use Rattle.rob_sets.specs.Tabulating.{IsWideWithin}
 use Rattle.rob_sets.proofs.DifferenceLemmas.{difference_tabulates}
 use Rattle.rob_sets.proofs.StopLemmas.{stop_weaker}
 use Rattle.rob_sets.proofs.TabulatingLemmas.{memory_stops, tabulates_as, tabulates_err}
@@ -25,7 +25,7 @@ returns-in_err-goal-clause-table g c =
     let r = c.from_residual in
     tabulates_err value limit m (objective_form m.sense m.objective (tau_column m)) first last r.result
     c.in_err-goal.field-0.0
-    (stop_weaker c.in_err-goal.field-0.0 (λ (w : IsWideOnWay limit m m.objective first last).
+    (stop_weaker c.in_err-goal.field-0.0 (λ (w : IsWideWithin limit m m.objective first last).
     (w.0, in_objective (HasWideCoefficient limit m) m.sense m.objective (tau_column m) w.1))
     c.in_err-goal.ensures.table)
     r.ensures.1
