@@ -82,6 +82,7 @@ impl<E: Entry> Cells<E> {
     }
 
     /// The number at a place. Its mark is looked at first, so a scan of one column touches few of the numbers.
+    #[inline(always)]
     pub fn get(&self, k: usize) -> E
         requires inside { k < length self.now }
         ensures entry { E.value result ≡ at self.now k }

@@ -8,6 +8,7 @@ use rob_entries::Entry;
 
 impl<E: Entry> Dictionary<E> {
     /// The entry of the row of position i in a column.
+    #[inline(always)]
     pub fn entry(&self, i: usize, column: usize) -> E
         requires row_in { i ≤ positions self.now }
         requires column_in { column < width_of self.now }

@@ -13,6 +13,7 @@ use rob_entries::Entry;
 use std::cmp::Ordering;
 
 /// Whether a number is below 0; none for 0.
+#[inline(always)]
 fn is_below<E: Entry>(a: E) -> Option<bool>
     ensures sign { MatchOption result (E.value a ≡ pos 0) (λ below. Decided below (neg_ℤ (E.value a))) }
 {
@@ -25,6 +26,7 @@ fn is_below<E: Entry>(a: E) -> Option<bool>
 
 impl<E: Entry> Dictionary<E> {
     /// Whether the first number of a row's right side and slack entries that is not 0 is negative.
+    #[inline(never)]
     fn is_negative(&self, i: usize) -> bool
         requires row_in { i < positions self.now }
         ensures decides { IsTrue result ↔ IsLexNegative (suc (positions self.now))
@@ -45,6 +47,7 @@ impl<E: Entry> Dictionary<E> {
     }
 
     /// Minus the entry of a row in a column.
+    #[inline(always)]
     fn minus_entry(&self, i: usize, column: usize) -> E
         requires row_in { i ≤ positions self.now }
         requires column_in { column < width_of self.now }

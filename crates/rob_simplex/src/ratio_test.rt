@@ -10,6 +10,7 @@ use rob_entries::Entry;
 use std::cmp::Ordering;
 
 /// Whether a number is above 0.
+#[inline(always)]
 pub fn is_positive<E: Entry>(a: E) -> bool
     ensures positive { IsTrue result ↔ (pos 0 <ℤ E.value a) }
 {
@@ -18,6 +19,7 @@ pub fn is_positive<E: Entry>(a: E) -> bool
 
 /// Whether a over p is less than b over q, for positive divisors; none where they are the same. Most entries are 0, so
 /// that is looked at first.
+#[inline(always)]
 fn is_less<E: Entry>(a: E, p: E, b: E, q: E) -> Option<bool>
     ensures order { MatchOption result
         ((E.value p *ℤ E.value b) -ℤ (E.value q *ℤ E.value a) ≡ pos 0)
@@ -37,6 +39,7 @@ fn is_less<E: Entry>(a: E, p: E, b: E, q: E) -> Option<bool>
 
 impl<E: Entry> Dictionary<E> {
     /// Whether entries in a column, over the rows' divisors, decide which of two rows comes first.
+    #[inline(always)]
     fn is_less_at(&self, column: usize, i: usize, p: E, e: usize, q: E) -> Option<bool>
         requires column_in { column < width_of self.now }
         requires i_in { i < positions self.now }
@@ -50,6 +53,7 @@ impl<E: Entry> Dictionary<E> {
 
     /// Whether row i comes before row e, each over its divisor. Slack entries count only where the right sides are in
     /// the same ratio.
+    #[inline(never)]
     pub fn comes_before(&self, i: usize, p: E, e: usize, q: E) -> bool
         requires i_in { i < positions self.now }
         requires e_in { e < positions self.now }
