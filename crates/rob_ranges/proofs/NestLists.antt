@@ -1,9 +1,9 @@
 -- Nests that grow and shrink at their inner end.
-use Rattle.std.proofs.Common.{◌≡◌, ◌<◌, ◌≤◌, ◌-◌, ℕ, Bool, true, false, List, [], ◌∷◌, ◌++◌, length, take, get_or, refl, sym, ap, ◌∙◌, subst, arith}
+use Rattle.std.proofs.Common.{◌≡◌, ◌<◌, ◌≤◌, ◌+◌, ◌-◌, ℕ, Bool, true, false, List, [], ◌∷◌, ◌++◌, length, take, get_or, refl, sym, ap, ◌∙◌, subst, arith}
 use Rattle.std.specs.Prelude.{◌&&◌, ◌||◌, pos, int_le, int_lt}
 use Rattle.rob_index.specs.Forms.{Ends, onto, fixed, all_run, is_dead, greatest, lack_form, length_form}
 use Rattle.rob_ranges.specs.declared.nest.Told.{Told}
-use Rattle.rob_ranges.specs.Nests.{IsTold, AreTold, all_but_last}
+use Rattle.rob_ranges.specs.Nests.{IsTold, AreTold, all_but_last, last_told}
 use Rattle.rob_ranges.proofs.NestLemmas.{onto_last, front_last}
 use Rattle.std.proofs.lemmas.List.{take_all}
 
@@ -14,42 +14,55 @@ all_but_last_is (y ∷ []) x = refl
 all_but_last_is {A} (y ∷ z ∷ xs) x = ap (λ (ys : List A). y ∷ ys) (all_but_last_is (z ∷ xs) x)
 
 -- ---- what is told of a nest
-abbrev pub nothing_told : Told
-nothing_told = record { runs = true; dead = false }
-
-abbrev last_told : List Told → Told
-last_told [] = nothing_told
-last_told (t ∷ []) = t
-last_told (t ∷ u ∷ ts) = last_told (u ∷ ts)
-
 pub last_is : (ts : List Told) (t : Told) → last_told (ts ++ t ∷ []) ≡ t
 last_is [] t = refl
 last_is (u ∷ []) t = refl
 last_is (u ∷ v ∷ ts) t = last_is (v ∷ ts) t
 
+pub last_at : (ts : List Told) (d : Told) → 1 ≤ length ts → get_or ts (length ts - 1) d ≡ last_told ts
+last_at ts d n =
+    sym (last_is (take (length ts - 1) ts) (get_or ts (length ts - 1) d)) ∙ ap last_told (front_last ts d n)
+
+-- of no more ranges than there are
+pub told_few : (nest rs : List Ends) (ts : List Told) → AreTold nest rs ts → length ts ≤ length rs
+told_few nest rs [] h = omega arith
+told_few nest [] (t ∷ ts) h = absurd h
+told_few nest (r ∷ rs) (t ∷ ts) h = omega (arith, told_few (r ∷ nest) rs ts h.1)
+
 -- the last is told of the whole nest
-told_of_all : (nest rs : List Ends) (ts : List Told) → AreTold nest rs ts → 1 ≤ length ts
+told_of_all : (nest rs : List Ends) (ts : List Told) → AreTold nest rs ts → length ts ≡ length rs → 1 ≤ length ts
     → IsTold (onto rs nest) (last_told ts)
-told_of_all nest [] [] h n = absurd (omega (arith, n))
-told_of_all nest [] (t ∷ ts) h n = absurd h
-told_of_all nest (r ∷ rs) [] h n = absurd h
-told_of_all nest (r ∷ []) (t ∷ []) h n = h.0
-told_of_all nest (r ∷ []) (t ∷ u ∷ ts) h n = absurd h.1
-told_of_all nest (r ∷ q ∷ rs) (t ∷ []) h n = absurd h.1
-told_of_all nest (r ∷ q ∷ rs) (t ∷ u ∷ ts) h n = told_of_all (r ∷ nest) (q ∷ rs) (u ∷ ts) h.1 (omega arith)
+told_of_all nest rs [] h e n = absurd (omega (arith, n))
+told_of_all nest [] (t ∷ ts) h e n = absurd h
+told_of_all nest (r ∷ []) (t ∷ []) h e n = h.0
+told_of_all nest (r ∷ q ∷ rs) (t ∷ []) h e n = absurd (omega (arith, e))
+told_of_all nest (r ∷ []) (t ∷ u ∷ ts) h e n = absurd h.1
+told_of_all nest (r ∷ q ∷ rs) (t ∷ u ∷ ts) h e n =
+    told_of_all (r ∷ nest) (q ∷ rs) (u ∷ ts) h.1 (omega (arith, e)) (omega arith)
 
-pub told_at : (rs : List Ends) (ts : List Told) (d : Told) → AreTold [] rs ts → 1 ≤ length ts
-    → IsTold (onto rs []) (get_or ts (length ts - 1) d)
-told_at rs ts d h n =
-    subst (IsTold (onto rs []))
-    (ap last_told (sym (front_last ts d n)) ∙ last_is (take (length ts - 1) ts) (get_or ts (length ts - 1) d))
-    (told_of_all [] rs ts h n)
+pub told_kept : (rs : List Ends) (ts : List Told) → AreTold [] rs ts → length ts ≡ length rs
+    → IsTold (onto rs []) (last_told ts)
+told_kept [] [] h e = record { runs = refl; dead = refl }
+told_kept (r ∷ rs) [] h e = absurd (omega (arith, e))
+told_kept rs (t ∷ ts) h e = told_of_all [] rs (t ∷ ts) h e (omega arith)
 
--- where no range is open
-pub told_none : (rs : List Ends) (ts : List Told) → AreTold [] rs ts → length ts < 1 → IsTold (onto rs []) nothing_told
-told_none [] ts h n = record { runs = refl; dead = refl }
-told_none (r ∷ rs) [] h n = absurd h
-told_none (r ∷ rs) (t ∷ ts) h n = absurd (omega (arith, n))
+-- of those around the innermost, where it isn't told of that
+one_longer : (front : List Ends) (r : Ends) → length (front ++ r ∷ []) ≡ length front + 1
+one_longer [] r = refl
+one_longer (q ∷ front) r = omega (arith, one_longer front r)
+
+told_front : (nest front : List Ends) (r : Ends) (ts : List Told) → AreTold nest (front ++ r ∷ []) ts
+    → length ts ≤ length front → AreTold nest front ts × (length ts ≡ length front)
+told_front nest [] r [] h n = (omega arith, refl)
+told_front nest (q ∷ front) r [] h n = absurd (omega (arith, h, one_longer front r))
+told_front nest [] r (t ∷ ts) h n = absurd (omega (arith, n))
+told_front nest (q ∷ front) r (t ∷ ts) h n =
+    let k = told_front (q ∷ nest) front r ts h.1 (omega (arith, n)) in ((h.0, k.0), omega (arith, k.1))
+
+pub told_around : (front : List Ends) (r : Ends) (ts : List Told) → AreTold [] (front ++ r ∷ []) ts
+    → length ts < length (front ++ r ∷ []) → IsTold (onto front []) (last_told ts)
+told_around front r ts h n =
+    let k = told_front [] front r ts h (omega (arith, n, one_longer front r)) in told_kept front ts k.0 k.1
 
 -- with one range more
 pub told_inside_is : (rs : List Ends) (r : Ends) (around : Told) (a d : Bool) → IsTold (onto rs []) around
@@ -61,24 +74,41 @@ told_inside_is rs r around a d h e f = record {
   dead = (λ i. f i || h.dead i) ∙ ap is_dead (sym (onto_last rs r []));
 }
 
+-- of the innermost too
+pub told_last : (nest rs : List Ends) (ts : List Told) (t : Told) → AreTold nest rs ts → length ts < length rs
+    → IsTold (onto rs nest) t → AreTold nest rs (ts ++ t ∷ []) × (length (ts ++ t ∷ []) ≡ length rs)
+told_last nest [] ts t h n k = absurd (omega (arith, n))
+told_last nest (r ∷ []) [] t h n k = ((k, omega arith), refl)
+told_last nest (r ∷ q ∷ rs) [] t h n k = absurd (omega (arith, h))
+told_last nest (r ∷ rs) (u ∷ ts) t h n k =
+    let m = told_last (r ∷ nest) rs ts t h.1 (omega (arith, n)) k in ((h.0, m.0), omega (arith, m.1))
+
 -- one range more
-pub told_more : (nest rs : List Ends) (ts : List Told) (r : Ends) (t : Told) → AreTold nest rs ts
-    → IsTold (onto (rs ++ r ∷ []) nest) t → AreTold nest (rs ++ r ∷ []) (ts ++ t ∷ [])
-told_more nest [] [] r t h k = (k, tt)
-told_more nest [] (u ∷ ts) r t h k = absurd h
-told_more nest (q ∷ rs) [] r t h k = absurd h
-told_more nest (q ∷ rs) (u ∷ ts) r t h k = (h.0, told_more (q ∷ nest) rs ts r t h.1 k)
+pub told_entered : (nest rs : List Ends) (ts : List Told) (r : Ends) → AreTold nest rs ts → length ts ≡ length rs
+    → AreTold nest (rs ++ r ∷ []) ts
+told_entered nest [] [] r h e = omega arith
+told_entered nest (q ∷ rs) [] r h e = absurd (omega (arith, e))
+told_entered nest [] (t ∷ ts) r h e = absurd h
+told_entered nest (q ∷ rs) (t ∷ ts) r h e = (h.0, told_entered (q ∷ nest) rs ts r h.1 (omega (arith, e)))
 
 -- one fewer
-pub told_fewer : (nest rs : List Ends) (ts : List Told) → AreTold nest rs ts
+pub told_fewer : (nest rs : List Ends) (ts : List Told) → AreTold nest rs ts → length (all_but_last rs) < length ts
     → AreTold nest (all_but_last rs) (all_but_last ts)
-told_fewer nest [] [] h = tt
-told_fewer nest [] (t ∷ ts) h = absurd h
-told_fewer nest (r ∷ rs) [] h = absurd h
-told_fewer nest (r ∷ []) (t ∷ []) h = tt
-told_fewer nest (r ∷ []) (t ∷ u ∷ ts) h = absurd h.1
-told_fewer nest (r ∷ q ∷ rs) (t ∷ []) h = absurd h.1
-told_fewer nest (r ∷ q ∷ rs) (t ∷ u ∷ ts) h = (h.0, told_fewer (r ∷ nest) (q ∷ rs) (u ∷ ts) h.1)
+told_fewer nest rs [] h n = absurd (omega (arith, n))
+told_fewer nest [] (t ∷ ts) h n = absurd h
+told_fewer nest (r ∷ []) (t ∷ []) h n = omega arith
+told_fewer nest (r ∷ []) (t ∷ u ∷ ts) h n = absurd h.1
+told_fewer nest (r ∷ q ∷ rs) (t ∷ []) h n = absurd (omega (arith, n))
+told_fewer nest (r ∷ q ∷ rs) (t ∷ u ∷ ts) h n = (h.0, told_fewer (r ∷ nest) (q ∷ rs) (u ∷ ts) h.1 (omega (arith, n)))
+
+pub told_stays : (nest rs : List Ends) (ts : List Told) → AreTold nest rs ts → length ts ≤ length (all_but_last rs)
+    → AreTold nest (all_but_last rs) ts
+told_stays nest [] [] h n = omega arith
+told_stays nest (r ∷ []) [] h n = omega arith
+told_stays nest (r ∷ q ∷ rs) [] h n = absurd (omega (arith, h))
+told_stays nest [] (t ∷ ts) h n = absurd h
+told_stays nest (r ∷ []) (t ∷ ts) h n = absurd (omega (arith, n))
+told_stays nest (r ∷ q ∷ rs) (t ∷ ts) h n = (h.0, told_stays (r ∷ nest) (q ∷ rs) ts h.1 (omega (arith, n)))
 
 -- what is left where the last is taken, if there is one
 pub front_is : {A : Type 0} (xs : List A) (n : ℕ) → n ≡ length xs → take (n - 1) xs ≡ all_but_last xs

@@ -1,10 +1,10 @@
 //! Nested ranges that are open, the outermost first. What their ends tell, whatever is asked, is worked out once for
-//! each range that is entered.
+//! each range in which another one is entered; for the innermost where it is asked for.
 
-ghost use Rattle.std.specs.Prelude.{◌≡◌, ◌++◌, ◌∷◌, ◌||◌, ◌&&◌, [], true, false, if◌then◌else◌, IfOk, OnOk};
+ghost use Rattle.std.specs.Prelude.{◌≡◌, ◌++◌, ◌∷◌, ◌||◌, ◌&&◌, [], true, false, if◌then◌else◌, length, IfOk, OnOk, OnErr};
 ghost use Rattle.rob_index.specs.Forms.{from_ends, onto};
 ghost use Rattle.rob_index.specs.Search.{search};
-ghost use Rattle.rob_ranges.specs.Nests.{IsTold, all_but_last};
+ghost use Rattle.rob_ranges.specs.Nests.{AreTold, IsTold, all_but_last, last_told};
 
 use crate::form::{Ends, Form};
 use crate::reach::{always_runs, greatest, never_runs};
@@ -57,15 +57,9 @@ impl Nest {
     pub fn enter(&mut self, alloc: Global, ends: Ends) -> Result<(), Memory>
         ensures entered { OnOk result (self.new ≡ self.old ++ ends ∷ []) }
     {
-        let told = self.told_inside(alloc, &ends)?;
-        self.told.push(told)?;
-        match self.ranges.push(ends) {
-            Ok(()) => Ok(()),
-            Err(_) => {
-                self.told.pop();
-                Err(Memory)
-            }
-        }
+        tell_innermost(alloc, self.ranges.as_slice(), &mut self.told)?;
+        self.ranges.push(ends)?;
+        Ok(())
     }
 
     /// Closes the innermost range.
@@ -73,40 +67,21 @@ impl Nest {
         ensures left { self.new ≡ all_but_last self.old }
     {
         self.ranges.pop();
-        self.told.pop();
-    }
-
-    /// What the ends tell.
-    fn told(&self) -> Told
-        ensures told { IsTold (onto self.now []) result }
-    {
-        match self.told.as_slice() {
-            [] => Told {
-                runs: true,
-                dead: false,
-            },
-            [.., told] => *told,
+        if self.told.len() > self.ranges.len() {
+            self.told.pop();
         }
-    }
-
-    /// What they tell with one range more.
-    fn told_inside(&self, alloc: Global, ends: &Ends) -> Result<Told, Memory>
-        ensures told { IfOk result (λ told. IsTold (onto (self.now ++ ends.now ∷ []) []) told) }
-    {
-        let around = self.told();
-        let runs = always_runs(alloc, self.ranges.as_slice(), &[], ends)?;
-        let dead = never_runs(alloc, self.ranges.as_slice(), &[], ends)?;
-        Ok(told_with(around, runs, dead))
     }
 
     /// Whether the form reaches the bound somewhere, where that is seen from the ends alone.
     fn from_ends(&self, alloc: Global, form: &Form, bound: &Whole) -> Result<Option<bool>, Memory>
         ensures seen { IfOk result (λ seen. seen ≡ from_ends (onto self.now []) form.now bound.now) }
     {
-        let told = self.told();
         let most = greatest(alloc, self.ranges.as_slice(), &[], form)?;
-        let below = most.is_less(alloc, bound)?;
-        Ok(seen_of(below, told))
+        if most.is_less(alloc, bound)? {
+            return Ok(Some(false));
+        }
+        let told = told_of(alloc, self.ranges.as_slice(), self.told.as_slice())?;
+        Ok(seen_of(told))
     }
 
     /// Whether the form is found to reach the bound at some values of the ranges, for what may be spent.
@@ -135,6 +110,58 @@ impl Nest {
     }
 }
 
+/// What the ends of all ranges tell, where that of the innermost may not be kept.
+fn told_of(alloc: Global, ranges: &[Ends], told: &[Told]) -> Result<Told, Memory>
+    requires told { AreTold [] ranges.now told.now }
+    ensures told { IfOk result (λ told. IsTold (onto ranges.now []) told) }
+{
+    let kept = last_told(told);
+    if told.len() == ranges.len() {
+        return Ok(kept);
+    }
+    match ranges {
+        [] => Ok(kept),
+        [around @ .., innermost] => told_inside(alloc, around, kept, innermost),
+    }
+}
+
+/// Keeps what the ends of all ranges tell.
+fn tell_innermost(alloc: Global, ranges: &[Ends], told: &mut Vec<Told>) -> Result<(), Memory>
+    requires told { AreTold [] ranges.now told.old.items }
+    ensures told { AreTold [] ranges.now told.new.items }
+    ensures all { OnOk result (length told.new.items ≡ length ranges.now) }
+{
+    if told.len() == ranges.len() {
+        return Ok(());
+    }
+    let innermost = told_of(alloc, ranges, told.as_slice())?;
+    told.push(innermost)?;
+    Ok(())
+}
+
+/// The last that is told; where nothing is, no range is open.
+fn last_told(told: &[Told]) -> Told
+    ensures last { result ≡ last_told told.now }
+{
+    match told {
+        [] => Told {
+            runs: true,
+            dead: false,
+        },
+        [.., last] => *last,
+    }
+}
+
+/// What the ends tell with one range more.
+fn told_inside(alloc: Global, around: &[Ends], told: Told, innermost: &Ends) -> Result<Told, Memory>
+    requires told { IsTold (onto around.now []) told }
+    ensures told { IfOk result (λ told. IsTold (onto (around.now ++ innermost.now ∷ []) []) told) }
+{
+    let runs = always_runs(alloc, around, &[], innermost)?;
+    let dead = never_runs(alloc, around, &[], innermost)?;
+    Ok(told_with(told, runs, dead))
+}
+
 /// What the ends tell with those of one range more.
 fn told_with(around: Told, runs: bool, dead: bool) -> Told
     ensures told { result ≡ record { runs = runs && around.runs; dead = dead || around.dead } }
@@ -145,11 +172,11 @@ fn told_with(around: Told, runs: bool, dead: bool) -> Told
     }
 }
 
-/// What is seen where the greatest value is below the bound or not, and the ends tell this.
-fn seen_of(below: bool, told: Told) -> Option<bool>
-    ensures seen { result ≡ (if below || told.dead then Some false else (if told.runs then Some true else None)) }
+/// What is seen where the greatest value isn't below the bound, and the ends tell this.
+fn seen_of(told: Told) -> Option<bool>
+    ensures seen { result ≡ (if told.dead then Some false else (if told.runs then Some true else None)) }
 {
-    if below || told.dead {
+    if told.dead {
         Some(false)
     } else if told.runs {
         Some(true)
