@@ -20,6 +20,9 @@ pub fn greatest(
 ) -> Result<Whole, Memory>
     ensures greatest { IfOk result (λ value. value ≡ greatest (onto ranges.now (fixed values.now)) form.now) }
 {
+    if ranges.is_empty() {
+        return form.value(alloc, values);
+    }
     let mut rest = form.copy(alloc)?;
     let mut left = ranges.len();
     'outwards: while left > 0 {
