@@ -44,8 +44,12 @@ pub far_upto : (c : ℤ) (r : Ends) → int_lt c (pos 0) ≡ false → far_end c
 far_upto (pos n) r h = refl
 far_upto (negsuc n) r h = absurd (omega (arith, ints, lt_not (negsuc n) (pos 0) h))
 
-pub one_times : (z : ℤ) → pos 1 *ℤ z ≡ z
-one_times z = omega (arith, ints)
+-- ---- a sum that more is added to
+pub plus_none : (a : ℤ) → a ≡ a +ℤ pos 0
+plus_none a = omega (arith, ints)
+
+pub plus_on : (a p w : ℤ) → (a +ℤ p) +ℤ w ≡ a +ℤ (p +ℤ w)
+plus_on a p w = omega (arith, ints)
 
 -- ---- ranges of one value
 far_one : (c v : ℤ) (vs : List ℤ) → value_of (far_end c (at_one v)) vs ≡ v

@@ -8,14 +8,15 @@ loop-own-preserved c =
     let here = c.loop-own in
     let longer = joined_longer here.place (pos 0) (pos 0) here.factors.items here.invariant.within in
     let within : here.place < length c.pad.new.factors.items =
-    subst (λ fs. here.place < length fs) (sym c.in_ok-pad.ensures.padded) longer in
+    subst (λ fs. here.place < length fs) (sym c.pad.ensures.padded) longer in
     record {
       place = omega (arith, here.invariant.place);
       within = omega (arith, within);
+      room = omega (arith, c.pad.ensures.capacity, here.invariant.room);
       so_far =
           units_more here.place here.own-index c.args.sign.now here.factors.items c.pad.new.factors.items
           here.invariant.within c.args.names.now c.args.name c.loop-own-test.true c.if-own-name.false
-          c.in_ok-pad.ensures.padded here.invariant.so_far;
+          c.pad.ensures.padded here.invariant.so_far;
     }
 
 pub returns : goal.returns
