@@ -1,9 +1,9 @@
 -- What the lengths of the ranges of an item tell: where there is no setting, and no range with more than 100 values.
-use Rattle.std.proofs.Common.{◌≡◌, ◌<◌, ◌≤◌, ◌*◌, ℕ, suc, Bool, true, false, List, [], ◌∷◌, ◌++◌, length, get_or, cond}
+use Rattle.std.proofs.Common.{◌≡◌, ◌<◌, ◌≤◌, ◌*◌, ℕ, suc, Bool, true, false, List, [], ◌∷◌, ◌++◌, length, get_or}
 use Rattle.std.proofs.Common.{refl, sym, ap, ◌∙◌, subst, Option, Some, None, arith}
 use Rattle.std.specs.Prelude.{ℤ, pos, negsuc, nat_abs, ◌+ℤ◌, ◌*ℤ◌, ◌≤ℤ◌, ◌<ℤ◌, ◌||◌, int_lt, int_le, IfSome}
 use Rattle.std.specs.List.{list_any, flat_map}
-use Rattle.std.specs.Int.{w128, int_min}
+use Rattle.std.specs.Int.{w128}
 use Rattle.std.proofs.lemmas.Int.{ints, to_z-of_z}
 use mir.Val.{SFits, to_z, of_z}
 use Rattle.rob_index.specs.Membership.{Among, here, there}
@@ -177,14 +177,6 @@ kept_are rs f g s (Some kept) p q h k m least = record {
       (subst (λ (z : Form). pos 0 ≤ℤ value_of z vs) (sym q) b));
 }
 
--- the lesser one of two numbers of at least 0
-lesser_low : (a b : ℤ) → pos 0 ≤ℤ a → pos 0 ≤ℤ b → pos 0 ≤ℤ int_min a b
-lesser_low a b p q = go (int_lt b a)
-  where
-    go : (less : Bool) → pos 0 ≤ℤ cond less b a
-    go true = q
-    go false = p
-
 -- a number of 128 bits is below 0
 pub seen_below : (z : ℤ) → SFits w128 z → int_lt (to_z w128 (of_z w128 z)) (pos 0) ≡ true → z <ℤ pos 0
 seen_below z f t =
@@ -225,18 +217,12 @@ module _ (rs self : List Ends) (o : Option Lengths) (kept : Lengths) (vs : List 
       let f = to_z-of_z w128 most fits in
       omega (arith, ints, h, e, f)
 
-  -- the lesser one of the greatest second length and the greatest sum is at least 0 where both lengths are
-  pub most_apart : (most sum least : ℤ) → SFits w128 most → SFits w128 sum → SFits w128 least
-      → least ≡ int_min (to_z w128 (of_z w128 most)) (to_z w128 (of_z w128 sum))
-      → short_value kept.second vs ≤ℤ most → short_value kept.combined vs ≤ℤ sum
+  -- what is at least 0 where the second length and the sum are is so where both lengths are
+  pub kept_apart : (least : ℤ) → SFits w128 least
+      → (pos 0 ≤ℤ short_value kept.second vs → pos 0 ≤ℤ short_value kept.combined vs → pos 0 ≤ℤ least)
       → pos 0 ≤ℤ value_of (first_length self) vs → pos 0 ≤ℤ value_of (second_length self) vs
       → pos 0 ≤ℤ to_z w128 (of_z w128 least)
-  most_apart most sum least f s g lesser h k p q =
+  kept_apart least fits apart p q =
       let e = lengths_are.second vs in
-      let c = lengths_are.combined vs p q in
-      let m = to_z-of_z w128 most f in
-      let n = to_z-of_z w128 sum s in
-      subst (λ (z : ℤ). pos 0 ≤ℤ z) (sym (to_z-of_z w128 least g))
-      (subst (λ (z : ℤ). pos 0 ≤ℤ z) (sym lesser)
-      (lesser_low (to_z w128 (of_z w128 most)) (to_z w128 (of_z w128 sum)) (omega (arith, ints, h, e, q, m))
-      (omega (arith, ints, k, c, n))))
+      subst (λ (z : ℤ). pos 0 ≤ℤ z) (sym (to_z-of_z w128 least fits))
+      (apart (omega (arith, ints, e, q)) (lengths_are.combined vs p q))

@@ -177,14 +177,28 @@ impl Inner {
     {
         let lengths = self.lengths?;
         let first = span.most(lengths.first);
-        let second = span.most(lengths.second);
-        let combined = span.most(lengths.combined);
-        let apart = second.min(combined);
-        Some(Sizes {
-            first,
-            second: apart,
-        })
+        if first < SHORTEST {
+            return Some(Sizes {
+                first,
+                second: SHORTEST,
+            });
+        }
+        let second = apart_in(span, lengths);
+        Some(Sizes { first, second })
     }
+}
+
+/// A number that is below 0 only if at each place in a span one of both lengths is. Their sum is asked for only where
+/// the second length doesn't tell it.
+fn apart_in(span: Span, lengths: Lengths) -> i128
+    ensures apart { (vs : Items ℤ) → IsIn span vs → pos 0 ≤ℤ short_value lengths.second vs
+        → pos 0 ≤ℤ short_value lengths.combined vs → pos 0 ≤ℤ result }
+{
+    let second = span.most(lengths.second);
+    if second < SHORTEST {
+        return second;
+    }
+    span.most(lengths.combined)
 }
 
 /// The lengths of the first two ranges, where these have few bits.

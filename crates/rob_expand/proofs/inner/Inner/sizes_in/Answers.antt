@@ -1,7 +1,7 @@
 use Rattle.std.proofs.Common.{rules}
 use Rattle.std.specs.Int.{w128}
 use mir.Val.{SFits}
-use Rattle.rob_expand.proofs.InnerLemmas.{most_first, most_apart}
+use Rattle.rob_expand.proofs.InnerLemmas.{most_first, kept_apart}
 use Rattle.rob_expand.proofs.inner.Inner.sizes_in.Goals as goal
 
 pub returns-clause-first : goal.returns-clause-first
@@ -12,10 +12,7 @@ returns-clause-first c vs within =
 
 pub returns-clause-apart : goal.returns-clause-apart
 returns-clause-apart c vs within =
-    let f : SFits w128 c.most-second.result = search rules in
-    let g : SFits w128 c.most-combined.result = search rules in
-    let h : SFits w128 c.min-apart.result = search rules in
-    most_apart c.self.inside.ranges c.args.self.now c.self.inside.lengths c.in_ok-lengths.lengths vs
-    c.in_ok-lengths.was c.self.view_is c.self.invariant c.most-second.result c.most-combined.result
-    c.min-apart.result f g h c.min-apart.ensures.value (c.most-second.ensures.most vs within)
-    (c.most-combined.ensures.most vs within)
+    let f : SFits w128 c.apart_in-second.result = search rules in
+    kept_apart c.self.inside.ranges c.args.self.now c.self.inside.lengths c.in_ok-lengths.lengths vs
+    c.in_ok-lengths.was c.self.view_is c.self.invariant c.apart_in-second.result f
+    (c.apart_in-second.ensures.apart vs within)
