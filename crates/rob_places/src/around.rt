@@ -40,12 +40,12 @@ impl Around {
         }
     }
 
-    /// One range more.
-    pub fn enter(&mut self, alloc: Global, range: &Range) -> Result<(), Memory>
+    /// One range more. `asked`: whether much is asked inside it.
+    pub fn enter(&mut self, alloc: Global, asked: bool, range: &Range) -> Result<(), Memory>
         ensures entered { OnOk result (self.new ≡ inside self.old (seen_range range.now)) }
     {
         let ends = ends_of(alloc, self.names.as_slice(), range)?;
-        self.nest.enter(alloc, ends)?;
+        self.nest.enter(alloc, asked, ends)?;
         self.names.insert(0, range.name)?;
         Ok(())
     }

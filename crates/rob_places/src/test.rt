@@ -37,6 +37,16 @@ pub enum Test {
     SoughtOut,
 }
 
+impl Test {
+    /// Whether what the ends of the ranges around a place tell is asked.
+    pub fn asks(self) -> bool {
+        match self {
+            Test::Unknown | Test::GreatDigits => false,
+            Test::SoughtLong | Test::SoughtOut => true,
+        }
+    }
+}
+
 /// What is looked for, and whether each word is declared, by its number.
 #[derive(Clone, Copy)]
 pub struct Task<'a> {

@@ -96,7 +96,7 @@ fn ranged(
     if at_range(alloc, task, around, range, left)? {
         return Ok(true);
     }
-    around.enter(alloc, range)?;
+    around.enter(alloc, task.test.asks(), range)?;
     let found = tree(alloc, task, around, inner, left)?;
     around.leave();
     Ok(found)
@@ -148,12 +148,13 @@ fn factors(
     Ok(false)
 }
 
-/// An item with its ranges: these, then its name inside them.
+/// An item with its ranges: these, then its name inside them. `asked`: whether much is asked inside the first.
 #[tactic(auto, using(crate::proofs::AroundLemmas::outside_is, rob_ranges::proofs::NestLists::all_but_last_is))]
 fn item(
     alloc: Global,
     task: &Task,
     around: &mut Around,
+    asked: bool,
     own: &[Range],
     name: &Ref,
     left: &mut u32,
@@ -170,8 +171,9 @@ fn item(
             if at_range(alloc, task, around, outermost, left)? {
                 return Ok(true);
             }
-            around.enter(alloc, outermost)?;
-            let found = item(alloc, task, around, others, name, left)?;
+            around.enter(alloc, asked, outermost)?;
+            let many = task.test.asks() && others.len() > 1;
+            let found = item(alloc, task, around, many, others, name, left)?;
             around.leave();
             Ok(found)
         }
@@ -197,6 +199,7 @@ fn members(
             alloc,
             task,
             around,
+            task.test.asks(),
             member.ranges.items(),
             &member.item.name,
             left,
@@ -222,7 +225,15 @@ fn entries(
     ensures around { OnOk result (around.new ≡ around.old) }
 {
     for entry in own {
-        if item(alloc, task, around, entry.ranges.items(), &entry.item, left)? {
+        if item(
+            alloc,
+            task,
+            around,
+            task.test.asks(),
+            entry.ranges.items(),
+            &entry.item,
+            left,
+        )? {
             return Ok(true);
         }
     }
@@ -364,7 +375,7 @@ fn inside(
             if at_range(alloc, task, around, outermost, left)? {
                 return Ok(true);
             }
-            around.enter(alloc, outermost)?;
+            around.enter(alloc, task.test.asks(), outermost)?;
             inside(alloc, task, around, others, statement, left)
         }
     }

@@ -52,17 +52,17 @@ one_longer [] r = refl
 one_longer (q ∷ front) r = omega (arith, one_longer front r)
 
 told_front : (nest front : List Ends) (r : Ends) (ts : List Told) → AreTold nest (front ++ r ∷ []) ts
-    → length ts ≤ length front → AreTold nest front ts × (length ts ≡ length front)
-told_front nest [] r [] h n = (omega arith, refl)
-told_front nest (q ∷ front) r [] h n = absurd (omega (arith, h, one_longer front r))
+    → length ts ≤ length front → AreTold nest front ts
+told_front nest front r [] h n = tt
 told_front nest [] r (t ∷ ts) h n = absurd (omega (arith, n))
-told_front nest (q ∷ front) r (t ∷ ts) h n =
-    let k = told_front (q ∷ nest) front r ts h.1 (omega (arith, n)) in ((h.0, k.0), omega (arith, k.1))
+told_front nest (q ∷ front) r (t ∷ ts) h n = (h.0, told_front (q ∷ nest) front r ts h.1 (omega (arith, n)))
 
-pub told_around : (front : List Ends) (r : Ends) (ts : List Told) → AreTold [] (front ++ r ∷ []) ts
-    → length ts < length (front ++ r ∷ []) → IsTold (onto front []) (last_told ts)
-told_around front r ts h n =
-    let k = told_front [] front r ts h (omega (arith, n, one_longer front r)) in told_kept front ts k.0 k.1
+pub told_around : (rs front : List Ends) (r : Ends) (ts : List Told) → front ++ r ∷ [] ≡ rs → AreTold [] rs ts
+    → length ts < length rs → AreTold [] front ts
+told_around rs front r ts apart h n =
+    let e = ap length apart in
+    told_front [] front r ts (subst (λ (qs : List Ends). AreTold [] qs ts) (sym apart) h)
+    (omega (arith, n, e, one_longer front r))
 
 -- with one range more
 pub told_inside_is : (rs : List Ends) (r : Ends) (around : Told) (a d : Bool) → IsTold (onto rs []) around
@@ -75,37 +75,50 @@ told_inside_is rs r around a d h e f = record {
 }
 
 -- of the innermost too
-pub told_last : (nest rs : List Ends) (ts : List Told) (t : Told) → AreTold nest rs ts → length ts < length rs
-    → IsTold (onto rs nest) t → AreTold nest rs (ts ++ t ∷ []) × (length (ts ++ t ∷ []) ≡ length rs)
-told_last nest [] ts t h n k = absurd (omega (arith, n))
-told_last nest (r ∷ []) [] t h n k = ((k, omega arith), refl)
-told_last nest (r ∷ q ∷ rs) [] t h n k = absurd (omega (arith, h))
-told_last nest (r ∷ rs) (u ∷ ts) t h n k =
-    let m = told_last (r ∷ nest) rs ts t h.1 (omega (arith, n)) k in ((h.0, m.0), omega (arith, m.1))
+told_last : (nest front : List Ends) (r : Ends) (ts : List Told) (t : Told) → AreTold nest front ts
+    → length ts ≡ length front → IsTold (onto (front ++ r ∷ []) nest) t → AreTold nest (front ++ r ∷ []) (ts ++ t ∷ [])
+told_last nest [] r [] t h e k = (k, tt)
+told_last nest (q ∷ front) r [] t h e k = absurd (omega (arith, e))
+told_last nest [] r (u ∷ ts) t h e k = absurd h
+told_last nest (q ∷ front) r (u ∷ ts) t h e k = (h.0, told_last (q ∷ nest) front r ts t h.1 (omega (arith, e)) k)
+
+told_longer : (ts : List Told) (t : Told) → length (ts ++ t ∷ []) ≡ length ts + 1
+told_longer [] t = refl
+told_longer (u ∷ ts) t = omega (arith, told_longer ts t)
+
+module _ (rs front : List Ends) (r : Ends) (ts : List Told) (t : Told) (apart : front ++ r ∷ [] ≡ rs)
+    (all : length ts ≡ length front) where
+  pub told_too : AreTold [] front ts → IsTold (onto (front ++ r ∷ []) []) t → AreTold [] rs (ts ++ t ∷ [])
+  told_too h k = subst (λ (qs : List Ends). AreTold [] qs (ts ++ t ∷ [])) apart (told_last [] front r ts t h all k)
+
+  pub told_each : length (ts ++ t ∷ []) ≡ length rs
+  told_each = omega (arith, told_longer ts t, all, one_longer front r, ap length apart)
 
 -- one range more
-pub told_entered : (nest rs : List Ends) (ts : List Told) (r : Ends) → AreTold nest rs ts → length ts ≡ length rs
+pub told_entered : (nest rs : List Ends) (ts : List Told) (r : Ends) → AreTold nest rs ts
     → AreTold nest (rs ++ r ∷ []) ts
-told_entered nest [] [] r h e = omega arith
-told_entered nest (q ∷ rs) [] r h e = absurd (omega (arith, e))
-told_entered nest [] (t ∷ ts) r h e = absurd h
-told_entered nest (q ∷ rs) (t ∷ ts) r h e = (h.0, told_entered (q ∷ nest) rs ts r h.1 (omega (arith, e)))
+told_entered nest rs [] r h = tt
+told_entered nest [] (t ∷ ts) r h = absurd h
+told_entered nest (q ∷ rs) (t ∷ ts) r h = (h.0, told_entered (q ∷ nest) rs ts r h.1)
+
+pub told_wider : (rs front : List Ends) (r : Ends) (ts : List Told) → front ++ r ∷ [] ≡ rs → AreTold [] front ts
+    → AreTold [] rs ts
+told_wider rs front r ts apart h =
+    subst (λ (qs : List Ends). AreTold [] qs ts) apart (told_entered [] front ts r h)
 
 -- one fewer
 pub told_fewer : (nest rs : List Ends) (ts : List Told) → AreTold nest rs ts → length (all_but_last rs) < length ts
     → AreTold nest (all_but_last rs) (all_but_last ts)
 told_fewer nest rs [] h n = absurd (omega (arith, n))
 told_fewer nest [] (t ∷ ts) h n = absurd h
-told_fewer nest (r ∷ []) (t ∷ []) h n = omega arith
+told_fewer nest (r ∷ []) (t ∷ []) h n = tt
 told_fewer nest (r ∷ []) (t ∷ u ∷ ts) h n = absurd h.1
 told_fewer nest (r ∷ q ∷ rs) (t ∷ []) h n = absurd (omega (arith, n))
 told_fewer nest (r ∷ q ∷ rs) (t ∷ u ∷ ts) h n = (h.0, told_fewer (r ∷ nest) (q ∷ rs) (u ∷ ts) h.1 (omega (arith, n)))
 
 pub told_stays : (nest rs : List Ends) (ts : List Told) → AreTold nest rs ts → length ts ≤ length (all_but_last rs)
     → AreTold nest (all_but_last rs) ts
-told_stays nest [] [] h n = omega arith
-told_stays nest (r ∷ []) [] h n = omega arith
-told_stays nest (r ∷ q ∷ rs) [] h n = absurd (omega (arith, h))
+told_stays nest rs [] h n = tt
 told_stays nest [] (t ∷ ts) h n = absurd h
 told_stays nest (r ∷ []) (t ∷ ts) h n = absurd (omega (arith, n))
 told_stays nest (r ∷ q ∷ rs) (t ∷ ts) h n = (h.0, told_stays (r ∷ nest) (q ∷ rs) ts h.1 (omega (arith, n)))

@@ -1,5 +1,5 @@
 -- What the ends of nested ranges tell, whatever is asked of them.
-use Rattle.std.specs.Prelude.{◌≡◌, ◌≤◌, List, [], ◌∷◌, true, false, length}
+use Rattle.std.specs.Prelude.{◌≡◌, List, [], ◌∷◌, true, false}
 use Rattle.rob_index.specs.Forms.{Ends, all_run, is_dead}
 use Rattle.rob_ranges.specs.declared.nest.Told.{Told}
 
@@ -14,9 +14,9 @@ last_told [] = record { runs = true; dead = false }
 last_told (t ∷ []) = t
 last_told (t ∷ u ∷ ts) = last_told (u ∷ ts)
 
--- the same of each range of some, the outermost first, inside a nest; of the innermost it may be missing
+-- the same of each range of some, the outermost first, inside a nest; of the inner ones it may be missing
 abbrev pub AreTold : List Ends → List Ends → List Told → Type 0
-AreTold nest rs [] = length rs ≤ 1
+AreTold nest rs [] = Unit {0}
 AreTold nest [] (t ∷ ts) = ⊥
 AreTold nest (r ∷ rs) (t ∷ ts) = IsTold (r ∷ nest) t × AreTold (r ∷ nest) rs ts
 

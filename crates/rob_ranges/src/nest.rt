@@ -1,5 +1,5 @@
 //! Nested ranges that are open, the outermost first. What their ends tell, whatever is asked, is worked out once for
-//! each range in which another one is entered; for the innermost where it is asked for.
+//! the ranges in which another one is entered, where much is asked inside that; else where it is asked for.
 
 ghost use Rattle.std.specs.Prelude.{◌≡◌, ◌++◌, ◌∷◌, ◌||◌, ◌&&◌, [], true, false, if◌then◌else◌, length, IfOk, OnOk, OnErr};
 ghost use Rattle.rob_index.specs.Forms.{from_ends, onto};
@@ -53,11 +53,12 @@ impl Nest {
         }
     }
 
-    /// Opens a range inside the others.
-    pub fn enter(&mut self, alloc: Global, ends: Ends) -> Result<(), Memory>
+    /// Opens a range inside the others. `asked`: whether much is asked inside it, so that what the ends of the others
+    /// tell is kept.
+    pub fn enter(&mut self, alloc: Global, asked: bool, ends: Ends) -> Result<(), Memory>
         ensures entered { OnOk result (self.new ≡ self.old ++ ends ∷ []) }
     {
-        tell_innermost(alloc, self.ranges.as_slice(), &mut self.told)?;
+        tell_where(alloc, asked, self.ranges.as_slice(), &mut self.told)?;
         self.ranges.push(ends)?;
         Ok(())
     }
@@ -110,23 +111,42 @@ impl Nest {
     }
 }
 
-/// What the ends of all ranges tell, where that of the innermost may not be kept.
+/// What the ends of all ranges tell, where that of the inner ones may not be kept.
 fn told_of(alloc: Global, ranges: &[Ends], told: &[Told]) -> Result<Told, Memory>
     requires told { AreTold [] ranges.now told.now }
     ensures told { IfOk result (λ told. IsTold (onto ranges.now []) told) }
 {
-    let kept = last_told(told);
     if told.len() == ranges.len() {
-        return Ok(kept);
+        return Ok(last_told(told));
     }
     match ranges {
-        [] => Ok(kept),
-        [around @ .., innermost] => told_inside(alloc, around, kept, innermost),
+        [] => Ok(last_told(told)),
+        [around @ .., innermost] => {
+            let outer = told_of(alloc, around, told)?;
+            told_inside(alloc, around, outer, innermost)
+        }
+    }
+}
+
+/// Keeps what the ends of all ranges tell, where much is asked.
+fn tell_where(
+    alloc: Global,
+    asked: bool,
+    ranges: &[Ends],
+    told: &mut Vec<Told>,
+) -> Result<(), Memory>
+    requires told { AreTold [] ranges.now told.old.items }
+    ensures told { AreTold [] ranges.now told.new.items }
+{
+    if asked {
+        tell_all(alloc, ranges, told)
+    } else {
+        Ok(())
     }
 }
 
 /// Keeps what the ends of all ranges tell.
-fn tell_innermost(alloc: Global, ranges: &[Ends], told: &mut Vec<Told>) -> Result<(), Memory>
+fn tell_all(alloc: Global, ranges: &[Ends], told: &mut Vec<Told>) -> Result<(), Memory>
     requires told { AreTold [] ranges.now told.old.items }
     ensures told { AreTold [] ranges.now told.new.items }
     ensures all { OnOk result (length told.new.items ≡ length ranges.now) }
@@ -134,9 +154,16 @@ fn tell_innermost(alloc: Global, ranges: &[Ends], told: &mut Vec<Told>) -> Resul
     if told.len() == ranges.len() {
         return Ok(());
     }
-    let innermost = told_of(alloc, ranges, told.as_slice())?;
-    told.push(innermost)?;
-    Ok(())
+    match ranges {
+        [] => Ok(()),
+        [around @ .., innermost] => {
+            tell_all(alloc, around, told)?;
+            let outer = last_told(told.as_slice());
+            let inner = told_inside(alloc, around, outer, innermost)?;
+            told.push(inner)?;
+            Ok(())
+        }
+    }
 }
 
 /// The last that is told; where nothing is, no range is open.

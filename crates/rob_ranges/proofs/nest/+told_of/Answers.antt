@@ -1,21 +1,21 @@
-use Rattle.std.proofs.Common.{◌≡◌, ◌<◌, ◌-◌, ◌++◌, ◌∷◌, [], List, length, take, subst, sym, arith}
-use Rattle.rob_index.specs.Forms.{Ends, onto}
-use Rattle.rob_ranges.specs.Nests.{IsTold, AreTold}
+use Rattle.std.proofs.Common.{◌≡◌, ◌<◌, ◌-◌, ◌++◌, ◌∷◌, [], length, take, subst, sym, arith}
+use Rattle.rob_index.specs.Forms.{onto}
+use Rattle.rob_ranges.specs.Nests.{IsTold}
 use Rattle.rob_ranges.proofs.NestLemmas.{last_apart}
 use Rattle.rob_ranges.proofs.NestLists.{told_few, told_kept, told_around}
-use Rattle.rob_ranges.proofs.nest.told_of.Goals as goal
+use Rattle.rob_ranges.proofs.nest.+told_of.Goals as goal
 
 pub returns-then-told-ranges : goal.returns-then-told-ranges
-returns-then-told-ranges c =
+returns-then-told-ranges t c =
     let all : length c.args.told.now ≡ length c.args.ranges.now = omega (arith, c.if-told-ranges.true) in
     record {
       told =
-          subst (IsTold (onto c.args.ranges.now [])) (sym c.last_told-kept.ensures.last)
+          subst (IsTold (onto c.args.ranges.now [])) (sym c.last_told.ensures.last)
           (told_kept c.args.ranges.now c.args.told.now c.requires.told all);
     }
 
-pub told_inside-requires : goal.told_inside-requires
-told_inside-requires c =
+pub told_of-requires : goal.told_of-requires
+told_of-requires t c =
     let ranges = c.args.ranges.now in
     let told = c.args.told.now in
     let around = take (length ranges - 1) ranges in
@@ -23,20 +23,14 @@ told_inside-requires c =
     last_apart ranges c.innermost-item.result c.in-len1-up.len_at_least c.innermost-item.is in
     let fewer : length told < length ranges =
     omega (arith, told_few [] ranges told c.requires.told, c.if-told-ranges.false) in
-    record {
-      told =
-          subst (IsTold (onto around [])) (sym c.last_told-kept.ensures.last)
-          (told_around around c.innermost-item.result told
-          (subst (λ (rs : List Ends). AreTold [] rs told) (sym apart) c.requires.told)
-          (subst (λ (rs : List Ends). length told < length rs) (sym apart) fewer));
-    }
+    record { told = told_around ranges around c.innermost-item.result told apart c.requires.told fewer; }
 
 pub returns-in-empty : goal.returns-in-empty
-returns-in-empty c =
+returns-in-empty t c =
     let all : length c.args.told.now ≡ length c.args.ranges.now =
     omega (arith, told_few [] c.args.ranges.now c.args.told.now c.requires.told, c.in-empty.len_below) in
     record {
       told =
-          subst (IsTold (onto c.args.ranges.now [])) (sym c.last_told-kept.ensures.last)
+          subst (IsTold (onto c.args.ranges.now [])) (sym c.last_told.ensures.last)
           (told_kept c.args.ranges.now c.args.told.now c.requires.told all);
     }
