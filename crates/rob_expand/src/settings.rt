@@ -94,6 +94,9 @@ fn append_values(
     let mut left = room;
     let mut value = from;
     'values: loop {
+        if upto.is_less(alloc, &value)? {
+            return Ok(left);
+        }
         let Some(live) = first_live(alloc, &value, inner, values)? else {
             return Ok(left);
         };

@@ -9,6 +9,7 @@ use Rattle.std.proofs.Math.IntN.{*ℤ-zero, zero-*ℤ}
 use Rattle.rob_index.specs.Forms.{Form, value_of, weighed}
 use Rattle.rob_ranges.specs.declared.digits.Wide.{Wide}
 use Rattle.rob_ranges.specs.DigitLists.{wide_of}
+use Rattle.rob_ranges.specs.Digits.{base}
 use Rattle.rob_ranges.specs.Shorts.{first_of, second_of, short_value}
 
 -- ---- a form by its numbers
@@ -87,6 +88,12 @@ seen z h = omega (arith, ints)
 
 small_fits : (z : ℤ) → nat_abs z ≤ 2 ^ 113 → FitsSigned w128 z
 small_fits z h = omega (arith, ints)
+
+-- a number whose second digit is 0 is the first
+pub low_alone : (w : Wide) → w.high ≡ pos 0 → w.low ≡ wide_of w
+low_alone w h =
+    let e : pos base *ℤ w.high ≡ pos 0 = ap (λ (z : ℤ). pos base *ℤ z) h ∙ *ℤ-zero (pos base) in
+    omega (arith, ints, e)
 
 -- a factor as it is passed
 pub passed : (a p w : ℤ) → SFits w32 a → p ≡ to_z w32 (of_z w32 a) *ℤ w → p ≡ a *ℤ w

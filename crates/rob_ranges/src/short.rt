@@ -1,6 +1,6 @@
 //! Forms over two values at most, whose factors have few bits, and whose other numbers have at most 79.
 
-ghost use Rattle.std.specs.Prelude.{◌≡◌, ◌≤◌, ◌^◌, ◌+ℤ◌, ◌*ℤ◌, ℤ, List as Items, nat_abs, IfSome};
+ghost use Rattle.std.specs.Prelude.{◌≡◌, ◌≤◌, ◌^◌, ◌+ℤ◌, ◌*ℤ◌, ℤ, pos, List as Items, nat_abs, IfSome};
 ghost use Rattle.rob_index.specs.Forms.{value_of};
 ghost use Rattle.rob_ranges.specs.DigitLists.{wide_of};
 ghost use Rattle.rob_ranges.specs.Shorts.{first_of, second_of, short_value};
@@ -93,8 +93,30 @@ impl Short {
     }
 }
 
-/// `a * b`.
+/// `a * b`. Where the second digit of `b` is 0, the first alone is multiplied.
 fn product(a: i32, b: Wide) -> i128
+    ensures value { result ≡ a *ℤ wide_of b }
+    ensures size { nat_abs result ≤ 2 ^ 111 }
+{
+    if b.high == 0 {
+        low_product(a, b)
+    } else {
+        wide_product(a, b)
+    }
+}
+
+/// `a * b`, where the second digit of `b` is 0.
+#[tactic(auto, using(crate::proofs::ShortLemmas::low_alone))]
+fn low_product(a: i32, b: Wide) -> i128
+    requires low { b.high ≡ pos 0 }
+    ensures value { result ≡ a *ℤ wide_of b }
+    ensures size { nat_abs result ≤ 2 ^ 111 }
+{
+    a as i128 * b.low as i128
+}
+
+/// `a * b`, whatever digits `b` has.
+fn wide_product(a: i32, b: Wide) -> i128
     ensures value { result ≡ a *ℤ wide_of b }
     ensures size { nat_abs result ≤ 2 ^ 111 }
 {

@@ -6,7 +6,7 @@ use Rattle.rob_index.proofs.NestLemmas.{lt_from, lt_not}
 use Rattle.rob_expand.specs.Room.{left_of}
 use Rattle.rob_expand.specs.Settings.{between}
 use Rattle.rob_expand.proofs.StepLemmas.{refused, moved}
-use Rattle.rob_expand.proofs.SettingsLemmas.{walk_none, walk_some, walk_fewer, walk_appended, walk_left, walk_stop, walk_over, walk_made, walk_ended, first_range}
+use Rattle.rob_expand.proofs.SettingsLemmas.{between_none, walk_none, walk_some, walk_fewer, walk_appended, walk_left, walk_stop, walk_over, walk_made, walk_ended, first_range}
 use Rattle.rob_expand.proofs.settings.+walk.Goals as goal
 
 pub append_settings-returns-in_ok-upto-in-len1-up-clause-left :
@@ -22,6 +22,20 @@ append_settings-returns-in_ok-upto-in-len1-up-clause-left t c =
     c.args.room c.in-len1-up.len_at_least c.range-item.is start last)
     c.append_values.ensures.left
 
+pub append_values-returns-then-branch-clause-appended : goal.append_values-returns-then-branch-clause-appended
+append_values-returns-then-branch-clause-appended t c =
+    let none = between_none c.args.upto.now c.args.inner.now c.args.values.now c.values.value
+    (lt_from c.args.upto.now c.values.value (sym c.in_ok-is_less.ensures.less ∙ c.if-branch.true)) in
+    walk_made c.args.upto.now c.args.inner.now c.args.values.now c.values.value c.values.settings none
+    c.values.invariant.appended
+
+pub append_values-returns-then-branch-clause-left : goal.append_values-returns-then-branch-clause-left
+append_values-returns-then-branch-clause-left t c =
+    let none = between_none c.args.upto.now c.args.inner.now c.args.values.now c.values.value
+    (lt_from c.args.upto.now c.values.value (sym c.in_ok-is_less.ensures.less ∙ c.if-branch.true)) in
+    walk_ended c.args.upto.now c.args.inner.now c.args.values.now c.values.value c.values.left none
+    c.values.invariant.left
+
 pub append_values-returns-in_default-clause-appended : goal.append_values-returns-in_default-clause-appended
 append_values-returns-in_default-clause-appended t c =
     let none = walk_none c.args.upto.now c.args.inner.now c.args.values.now c.values.value c.in_ok-live.field-0
@@ -36,21 +50,21 @@ append_values-returns-in_default-clause-left t c =
     walk_ended c.args.upto.now c.args.inner.now c.args.values.now c.values.value c.values.left none
     c.values.invariant.left
 
-pub append_values-returns-then-branch-clause-appended : goal.append_values-returns-then-branch-clause-appended
-append_values-returns-then-branch-clause-appended t c =
+pub append_values-returns-then-branch-2-clause-appended : goal.append_values-returns-then-branch-2-clause-appended
+append_values-returns-then-branch-2-clause-appended t c =
     let some = walk_some c.args.upto.now c.args.inner.now c.args.values.now c.values.value c.in-Some.live
     c.in_ok-live.field-0 c.in-Some.is c.in_ok-live.ensures.live in
     let none = walk_over c.args.upto.now c.args.inner.now c.args.values.now c.values.value c.in-Some.live some.0 some.1
-    (lt_from c.args.upto.now c.in-Some.live (sym c.in_ok-is_less.ensures.less ∙ c.if-branch.true)) in
+    (lt_from c.args.upto.now c.in-Some.live (sym c.in_ok-is_less-2.ensures.less ∙ c.if-branch-2.true)) in
     walk_made c.args.upto.now c.args.inner.now c.args.values.now c.values.value c.values.settings none
     c.values.invariant.appended
 
-pub append_values-returns-then-branch-clause-left : goal.append_values-returns-then-branch-clause-left
-append_values-returns-then-branch-clause-left t c =
+pub append_values-returns-then-branch-2-clause-left : goal.append_values-returns-then-branch-2-clause-left
+append_values-returns-then-branch-2-clause-left t c =
     let some = walk_some c.args.upto.now c.args.inner.now c.args.values.now c.values.value c.in-Some.live
     c.in_ok-live.field-0 c.in-Some.is c.in_ok-live.ensures.live in
     let none = walk_over c.args.upto.now c.args.inner.now c.args.values.now c.values.value c.in-Some.live some.0 some.1
-    (lt_from c.args.upto.now c.in-Some.live (sym c.in_ok-is_less.ensures.less ∙ c.if-branch.true)) in
+    (lt_from c.args.upto.now c.in-Some.live (sym c.in_ok-is_less-2.ensures.less ∙ c.if-branch-2.true)) in
     walk_ended c.args.upto.now c.args.inner.now c.args.values.now c.values.value c.values.left none
     c.values.invariant.left
 
@@ -58,7 +72,7 @@ pub append_values-returns-in_err-left-clause-left : goal.append_values-returns-i
 append_values-returns-in_err-left-clause-left t c =
     let some = walk_some c.args.upto.now c.args.inner.now c.args.values.now c.values.value c.in-Some.live
     c.in_ok-live.field-0 c.in-Some.is c.in_ok-live.ensures.live in
-    let within = lt_not c.args.upto.now c.in-Some.live (sym c.in_ok-is_less.ensures.less ∙ c.if-branch.false) in
+    let within = lt_not c.args.upto.now c.in-Some.live (sym c.in_ok-is_less-2.ensures.less ∙ c.if-branch-2.false) in
     let inside : (c.in-Some.live ∷ c.args.values.now) ≡ c.items.result.now =
     sym (c.items.ensures.list ∙ c.in_ok-inside.ensures.values) in
     let p = err_from_is_err_and c.from_residual-in_err-left.result c.from_residual-in_err-left.ensures.1 in
@@ -77,14 +91,14 @@ append_values-values-smaller t c =
     c.in_ok-live.field-0 c.in-Some.is c.in_ok-live.ensures.live in
     walk_fewer c.args.upto.now c.args.inner.now c.args.values.now c.values.value c.in-Some.live c.in_ok-value.value
     some.0
-    (lt_not c.args.upto.now c.in-Some.live (sym c.in_ok-is_less.ensures.less ∙ c.if-branch.false))
+    (lt_not c.args.upto.now c.in-Some.live (sym c.in_ok-is_less-2.ensures.less ∙ c.if-branch-2.false))
     c.in_ok-value.ensures.next
 
 pub append_values-values-preserved : goal.append_values-values-preserved
 append_values-values-preserved t c =
     let some = walk_some c.args.upto.now c.args.inner.now c.args.values.now c.values.value c.in-Some.live
     c.in_ok-live.field-0 c.in-Some.is c.in_ok-live.ensures.live in
-    let within = lt_not c.args.upto.now c.in-Some.live (sym c.in_ok-is_less.ensures.less ∙ c.if-branch.false) in
+    let within = lt_not c.args.upto.now c.in-Some.live (sym c.in_ok-is_less-2.ensures.less ∙ c.if-branch-2.false) in
     let inside = c.items.ensures.list ∙ c.in_ok-inside.ensures.values in
     record {
       appended =
