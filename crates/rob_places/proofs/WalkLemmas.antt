@@ -1,17 +1,17 @@
 -- What is found on the walk through a statement is what a search of its places finds.
 use Rattle.std.proofs.Common.{◌≡◌, ℕ, ◌*◌, Bool, true, false, List, [], ◌∷◌, ◌++◌, Option, Some, None, map, refl, sym, ap, ◌∙◌, append_assoc}
 use Rattle.std.proofs.lemmas.List.{append-nil}
-use Rattle.std.specs.Prelude.{pos, ◌||◌}
+use Rattle.std.specs.Prelude.{pos, ◌||◌, if◌then◌else◌}
 use Rattle.std.specs.List.{list_any}
 use Rattle.rob_index.specs.Statements.{Index, Ref, Range, Tree, TreeParts, TreeFactors, Ranged, Sides, Indexed, uncertain, over, set, budget, variable, adaptive, goal, row}
 use Rattle.rob_index.specs.Statements as stated
 use Rattle.rob_index.specs.Expansion.{ranges_of}
 use Rattle.rob_index.specs.Forms.{minus, length_form}
-use Rattle.rob_index.specs.Rules.{Inside, of_index, ref_places, optional_places, range_place, under, range_places, tree_places, part_places, factor_places, each_places, sides_places, inner_places, places, is_unknown}
-use Rattle.rob_index.specs.Search.{Searched, search_on, search, search_places, price_of, search_out}
+use Rattle.rob_index.specs.Rules.{Inside, of_index, ref_places, optional_places, range_place, under, range_places, tree_places, part_places, factor_places, each_places, sides_places, inner_places, places, is_unknown, has_great}
+use Rattle.rob_index.specs.Search.{Searched, search_on, search, search_places, price_of, search_out, missed}
 use Rattle.rob_index.specs.Fast.{nothing, index_form, ends_of, nest_of, names_in}
 use Rattle.rob_places.specs.declared.test.Test.{Test}
-use Rattle.rob_places.specs.declared.test.Test.TheVariants.{Unknown, GreatDigits, SoughtLong, SoughtOut}
+use Rattle.rob_places.specs.declared.test.Test.TheVariants.{Unknown, GreatDigits, SoughtLong, Out}
 use Rattle.rob_places.specs.Around.{Around, nothing_around, around_of}
 use Rattle.rob_places.specs.Tests.{told, test_of, price, sought_out_in, at_index, is_unknown_in, at_range}
 use Rattle.rob_places.specs.Walk.{walk_indices, walk_optional, walk_tree, walk_parts, walk_factors, walk_item, walk_each, walk_sides, walk_inner, walk_inside}
@@ -46,7 +46,34 @@ told_any test (i ∷ is) left = go (test i) (told_any test is left)
     go true h = refl
     go false h = h
 
+-- a search behind a test that costs nothing
+module _ (test : Inside → Bool) (seek : Inside → ℕ → Searched) where
+  abbrev pub either : Inside → ℕ → Searched
+  either i left = if test i then told true left else seek i left
+
+  pub found_either : (is : List Inside) (left : ℕ)
+      → (search_places either is left).found ≡ (list_any test is || (search_places seek is left).found)
+  found_either [] left = refl
+  found_either (i ∷ is) left = go (test i) (seek i left).found (seek i left).left (found_either is)
+    where
+      go : (b f : Bool) (next : ℕ)
+          → ((left : ℕ) → (search_places either is left).found ≡ (list_any test is || (search_places seek is left).found))
+          → (search_on (if b then told true left else record { found = f; left = next }) (search_places either is)).found
+          ≡ ((b || list_any test is)
+          || (search_on (record { found = f; left = next }) (search_places seek is)).found)
+      go true f next h = refl
+      go false true next h = by (list_any test is)
+        where
+          by : (b : Bool) → true ≡ (b || true)
+          by true = refl
+          by false = refl
+      go false false next h = h next
+
 -- ---- at a place
+told_or_missed : (left : ℕ) (b : Bool) → told b left ≡ (if b then told true left else missed left)
+told_or_missed left true = refl
+told_or_missed left false = refl
+
 price_is : (above : List Range) → price (around_of above) ≡ price_of above
 price_is above = ap (λ (n : ℕ). n * (n * n)) (names_length above)
 
@@ -62,7 +89,8 @@ pub index_is : (is_declared : ℕ → Bool) (test : Test) (above : List Range) (
 index_is d Unknown above x left = ap (λ (b : Bool). told b left) (has_loose_is d above x)
 index_is d GreatDigits above x left = refl
 index_is d SoughtLong above x left = refl
-index_is d SoughtOut above x left = sought_out_is above x left
+index_is d Out above x left =
+    ap (λ (s : Searched). if has_great x then told true left else s) (sought_out_is above x left)
 
 unknown_is : (is_declared : ℕ → Bool) (above : List Range) (r : Range)
     → is_unknown_in is_declared (around_of above) r ≡ is_unknown is_declared (range_place above r)
@@ -76,7 +104,7 @@ range_is d Unknown above r left = ap (λ (b : Bool). told b left) (unknown_is d 
 range_is d GreatDigits above r left = refl
 range_is d SoughtLong above r left = λ i.
     search (price_is above i) (nest_of [] above) [] (length_form (ends_of (names_in [] above) r)) (pos 100) left
-range_is d SoughtOut above r left = refl
+range_is d Out above r left = told_or_missed left (has_great r.from || has_great r.upto)
 
 -- ---- along a statement
 module _ (is_declared : ℕ → Bool) (test : Test) where

@@ -1,6 +1,6 @@
 //! The rules 25, 26 and 27: whether some place of a statement breaks them.
 
-ghost use Rattle.std.specs.Prelude.{◌≡◌, IfOk, OnOk};
+ghost use Rattle.std.specs.Prelude.{◌≡◌, ◌||◌, IfOk, OnOk};
 ghost use Rattle.std.specs.List.{list_any};
 ghost use Rattle.rob_index.specs.Rules.{has_great_digits, is_unknown, places};
 ghost use Rattle.rob_index.specs.Search.{search_long, search_out, search_places};
@@ -43,18 +43,17 @@ pub fn search_long(alloc: Global, statement: &Indexed, left: &mut u32) -> Result
     walk::statement(alloc, &task, statement, left)
 }
 
-/// Whether an index is found to be below 0 or over 999, for what is left to be spent.
-pub fn search_out(alloc: Global, statement: &Indexed, left: &mut u32) -> Result<bool, Memory>
-    ensures found { IfOk result (λ found.
-        found ≡ (search_places search_out (places (seen_statement statement.now)) left.old).found) }
-    ensures left { OnOk result
-        (left.new ≡ (search_places search_out (places (seen_statement statement.now)) left.old).left) }
+/// Whether digits in an index are over 999, or an index is found to be below 0 or over 999, for what may be spent.
+pub fn some_out(alloc: Global, statement: &Indexed, effort: u32) -> Result<bool, Memory>
+    ensures found { IfOk result (λ found. found ≡ (list_any has_great_digits (places (seen_statement statement.now))
+        || (search_places search_out (places (seen_statement statement.now)) effort).found)) }
 {
+    let mut left = effort;
     let task = Task {
-        test: Test::SoughtOut,
+        test: Test::Out,
         declared: &[],
     };
-    walk::statement(alloc, &task, statement, left)
+    walk::statement(alloc, &task, statement, &mut left)
 }
 
 /// Whether some place is so, by a test that costs nothing.

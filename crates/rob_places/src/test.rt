@@ -6,7 +6,7 @@ ghost use Rattle.rob_index.specs.Fast.{nothing};
 ghost use Rattle.rob_index.specs.Rules.{has_great, is_great_atom};
 ghost use Rattle.rob_index.specs.Search.{search};
 ghost use Rattle.rob_syntax.specs.Seen.{seen_atom, seen_index, seen_range};
-ghost use Rattle.rob_places.specs.Tests.{is_set, is_unknown_in, sought_out_in};
+ghost use Rattle.rob_places.specs.Tests.{is_set, is_unknown_in, out_in, sought_out_in};
 ghost use Rattle.rob_places.specs.Tests as spec;
 
 use crate::around::Around;
@@ -33,8 +33,8 @@ pub enum Test {
     GreatDigits,
     /// A range that is found to be too long, for what may be spent.
     SoughtLong,
-    /// An index that is found to be out of bounds, for what may be spent.
-    SoughtOut,
+    /// Digits over the greatest index, or an index that is found to be out of bounds, for what may be spent.
+    Out,
 }
 
 impl Test {
@@ -42,7 +42,7 @@ impl Test {
     pub fn asks(self) -> bool {
         match self {
             Test::Unknown | Test::GreatDigits => false,
-            Test::SoughtLong | Test::SoughtOut => true,
+            Test::SoughtLong | Test::Out => true,
         }
     }
 }
@@ -70,7 +70,7 @@ pub fn at_index(
         Test::Unknown => Ok(around.has_loose(index)),
         Test::GreatDigits => Ok(has_great(index)),
         Test::SoughtLong => Ok(false),
-        Test::SoughtOut => is_sought_out(alloc, around, index, left),
+        Test::Out => is_out(alloc, around, index, left),
     }
 }
 
@@ -89,9 +89,8 @@ pub fn at_range(
 {
     match task.test {
         Test::Unknown => Ok(is_unknown(task.declared, around, range)),
-        Test::GreatDigits => Ok(has_great(&range.from) || has_great(&range.upto)),
+        Test::GreatDigits | Test::Out => Ok(has_great(&range.from) || has_great(&range.upto)),
         Test::SoughtLong => is_sought_long(alloc, around, range, left),
-        Test::SoughtOut => Ok(false),
     }
 }
 
@@ -153,6 +152,23 @@ fn is_sought_long(
 {
     let length = around.length_of(alloc, range)?;
     sought(alloc, around, &length, TOO_LONG, left)
+}
+
+/// Whether digits in an index are over 999, or it is found to be below 0 or over 999.
+fn is_out(
+    alloc: Global,
+    around: &Around,
+    index: &Index,
+    left: &mut u32,
+) -> Result<bool, Memory>
+    ensures found { IfOk result (λ found. found ≡ (out_in around.now (seen_index index.now) left.old).found) }
+    ensures left { OnOk result (left.new ≡ (out_in around.now (seen_index index.now) left.old).left) }
+{
+    if has_great(index) {
+        Ok(true)
+    } else {
+        is_sought_out(alloc, around, index, left)
+    }
 }
 
 /// Whether an index is found to be below 0 or over 999.

@@ -110,17 +110,11 @@ module _ (limit : ℕ) (words : List Name) (is_declared : ℕ → Bool) (total :
         else named_out limit words is_declared total s searched.left)
 
     module _ (h : searched.found ≡ false) where
-      pub crowded_great : great ≡ true → crowded ≡ index_out
-      crowded_great g =
+      pub crowded_last : (b : Bool) → b ≡ (great || (search_places search_out (places s) searched.left).found)
+          → crowded ≡ (if b then index_out else too_much)
+      crowded_last b o =
           λ i. if u i then index_unknown else (if h i then range_too_long
-          else (if g i || (search_places search_out (places s) searched.left).found then index_out else too_much))
-
-      module _ (g : great ≡ false) (b : Bool)
-          (o : b ≡ (search_places search_out (places s) searched.left).found) where
-        pub crowded_last : crowded ≡ (if b then index_out else too_much)
-        crowded_last =
-            λ i. if u i then index_unknown else (if h i then range_too_long
-            else (if g i || sym o i then index_out else too_much))
+          else (if sym o i then index_out else too_much))
 
   -- ---- of a line of which nothing is named but for what goes by its plain statements
   abbrev IsEarly : IndexFault → Type 0

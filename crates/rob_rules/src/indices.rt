@@ -14,7 +14,7 @@ ghost use Rattle.rob_rules.specs.Indices as rules;
 
 use rob_expand::{has_room, judge};
 use rob_number::Memory;
-use rob_places::fault::{search_long, search_out, some_great_digits, some_unknown};
+use rob_places::fault::{search_long, some_great_digits, some_out, some_unknown};
 use rob_syntax::syntax::Indexed;
 use std::alloc::Global;
 
@@ -133,11 +133,7 @@ fn judge_crowded(
     if long {
         return Ok(IndexFault::TooLong);
     }
-    let great = some_great_digits(alloc, statement)?;
-    if great {
-        return Ok(IndexFault::Out);
-    }
-    let out = search_out(alloc, statement, &mut left)?;
+    let out = some_out(alloc, statement, left)?;
     if out {
         return Ok(IndexFault::Out);
     }
