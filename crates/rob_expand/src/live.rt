@@ -4,7 +4,7 @@ ghost use Rattle.std.specs.Prelude.{ℤ, pos, negsuc, ◌≡◌, ◌+ℤ◌, ◌
 ghost use Rattle.rob_expand.specs.Live.{lack_at, IsDead};
 
 use crate::divide::steps_to;
-use crate::setting::{next, with_value};
+use crate::setting::next;
 use rob_number::Memory;
 use rob_ranges::{Ends, Whole};
 use std::alloc::Global;
@@ -66,7 +66,7 @@ fn first_behind(
         × ((w : ℤ) → from.now ≤ℤ w → w <ℤ v → pos 0 <ℤ lack_at range.now values.now w))) }
     ensures alive { IfOk result (λ live. IfSome live (λ v. pos 0 <ℤ lack_at range.now values.now v → ⊥)) }
 {
-    let step = fall(alloc, range, from, values)?;
+    let step = fall(alloc, range, from, values, here)?;
     if is_positive(alloc, &step)? {
         let steps = steps_to(alloc, here, &step)?;
         let live = sum(alloc, from, &steps)?;
@@ -92,12 +92,19 @@ fn sum(alloc: Global, first: &Whole, second: &Whole) -> Result<Whole, Memory>
     first.plus_times(alloc, &one, second)
 }
 
-/// By how much a range's start comes nearer to its end with the next value of the range around it.
-fn fall(alloc: Global, range: &Ends, value: &Whole, values: &[Whole]) -> Result<Whole, Memory>
+/// By how much a range's start comes nearer to its end with the next value of the range around it. `here` is how far
+/// it is behind it at this one.
+fn fall(
+    alloc: Global,
+    range: &Ends,
+    value: &Whole,
+    values: &[Whole],
+    here: &Whole,
+) -> Result<Whole, Memory>
+    requires here { here.now ≡ lack_at range.now values.now value.now }
     ensures fall { IfOk result (λ fall. fall ≡ lack_at range.now values.now value.now
         +ℤ (negsuc 0 *ℤ lack_at range.now values.now (value.now +ℤ pos 1))) }
 {
-    let here = lack(alloc, range, value, values)?;
     let after = next(alloc, value)?;
     let behind = lack(alloc, range, &after, values)?;
     let minus_one = Whole::small(alloc, -1);
@@ -108,9 +115,8 @@ fn fall(alloc: Global, range: &Ends, value: &Whole, values: &[Whole]) -> Result<
 fn lack(alloc: Global, range: &Ends, value: &Whole, values: &[Whole]) -> Result<Whole, Memory>
     ensures lack { IfOk result (λ lack. lack ≡ lack_at range.now values.now value.now) }
 {
-    let inside = with_value(alloc, value, values)?;
-    let from = range.from().value(alloc, inside.items())?;
-    let upto = range.upto().value(alloc, inside.items())?;
+    let from = range.from().value_inside(alloc, value, values)?;
+    let upto = range.upto().value_inside(alloc, value, values)?;
     let minus_one = Whole::small(alloc, -1);
     from.plus_times(alloc, &minus_one, &upto)
 }

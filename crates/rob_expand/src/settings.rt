@@ -104,7 +104,31 @@ fn append_values(
             return Ok(left);
         }
         let inside = with_value(alloc, &live, values)?;
-        left = append_settings(settings, alloc, inner, inside.items(), left)?;
+        left = append_inside(settings, alloc, inner, inside, left)?;
         value = next(alloc, &live)?;
+    }
+}
+
+/// The same inside a setting, which is the only one where no range is left.
+#[cycle(walk)]
+fn append_inside(
+    settings: &mut List<Setting>,
+    alloc: Global,
+    inner: &[Ends],
+    inside: Setting,
+    room: u32,
+) -> Result<u32, Stop>
+    ensures appended { OnOk result (settings.new ≡ settings.old ++ extensions inner.now inside) }
+    ensures left { MatchResult result
+        (λ left. left_of (length (extensions inner.now inside)) room ≡ Some left)
+        (λ e. HasStop (left_of (length (extensions inner.now inside)) room) e) }
+{
+    match inner {
+        [] => {
+            let left = spend(1, room)?;
+            settings.push(inside)?;
+            Ok(left)
+        }
+        _ => append_settings(settings, alloc, inner, inside.items(), room),
     }
 }

@@ -73,11 +73,10 @@ append_values-returns-in_err-left-clause-left t c =
     let some = walk_some c.args.upto.now c.args.inner.now c.args.values.now c.values.value c.in-Some.live
     c.in_ok-live.field-0 c.in-Some.is c.in_ok-live.ensures.live in
     let within = lt_not c.args.upto.now c.in-Some.live (sym c.in_ok-is_less-2.ensures.less ∙ c.if-branch-2.false) in
-    let inside : (c.in-Some.live ∷ c.args.values.now) ≡ c.items.result.now =
-    sym (c.items.ensures.list ∙ c.in_ok-inside.ensures.values) in
+    let inside : (c.in-Some.live ∷ c.args.values.now) ≡ c.in_ok-inside.inside = sym c.in_ok-inside.ensures.values in
     let p = err_from_is_err_and c.from_residual-in_err-left.result c.from_residual-in_err-left.ensures.1 in
     refused c.from_residual-in_err-left.result _
-    (left_of (length (extensions c.args.inner.now c.items.result.now)) c.values.left)
+    (left_of (length (extensions c.args.inner.now c.in_ok-inside.inside)) c.values.left)
     (left_of (length (between c.args.from c.args.upto.now c.args.inner.now c.args.values.now)) c.args.room)
     c.in_err-left.field-0.0 p.0 p.1 p.2
     (λ none. walk_stop c.args.upto.now c.args.inner.now c.args.values.now c.values.value c.in-Some.live some.0 some.1
@@ -99,11 +98,11 @@ append_values-values-preserved t c =
     let some = walk_some c.args.upto.now c.args.inner.now c.args.values.now c.values.value c.in-Some.live
     c.in_ok-live.field-0 c.in-Some.is c.in_ok-live.ensures.live in
     let within = lt_not c.args.upto.now c.in-Some.live (sym c.in_ok-is_less-2.ensures.less ∙ c.if-branch-2.false) in
-    let inside = c.items.ensures.list ∙ c.in_ok-inside.ensures.values in
+    let inside = c.in_ok-inside.ensures.values in
     record {
       appended =
           walk_appended c.args.upto.now c.args.inner.now c.args.values.now c.values.value c.in-Some.live some.0 some.1
-          c.values.settings c.append_settings.new.settings c.in_ok-value.value within c.in_ok-value.ensures.next
+          c.values.settings c.append_inside.new.settings c.in_ok-value.value within c.in_ok-value.ensures.next
           (c.in_ok-left.ensures.appended
           ∙ ap (λ (vs : List ℤ). c.values.settings ++ extensions c.args.inner.now vs) inside)
           c.values.invariant.appended;

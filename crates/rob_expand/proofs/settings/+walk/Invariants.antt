@@ -18,7 +18,10 @@ abbrev pub decreases-append_values-values : goal.decreases-append_values-values
 decreases-append_values-values l = span l.value l.upto
 
 abbrev pub decreases-append_settings : goal.decreases-append_settings
-decreases-append_settings l = 2 * length l.ranges.now
+decreases-append_settings l = 3 * length l.ranges.now
 
 abbrev pub decreases-append_values : goal.decreases-append_values
-decreases-append_values l = 2 * length l.inner.now + 1
+decreases-append_values l = 3 * length l.inner.now + 2
+
+abbrev pub decreases-append_inside : goal.decreases-append_inside
+decreases-append_inside l = 3 * length l.inner.now + 1
