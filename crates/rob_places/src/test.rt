@@ -37,16 +37,6 @@ pub enum Test {
     Out,
 }
 
-impl Test {
-    /// Whether what the ends of the ranges around a place tell is asked.
-    pub fn asks(self) -> bool {
-        match self {
-            Test::Unknown | Test::GreatDigits => false,
-            Test::SoughtLong | Test::Out => true,
-        }
-    }
-}
-
 /// What is looked for, and whether each word is declared, by its number.
 #[derive(Clone, Copy)]
 pub struct Task<'a> {
@@ -155,12 +145,7 @@ fn is_sought_long(
 }
 
 /// Whether digits in an index are over 999, or it is found to be below 0 or over 999.
-fn is_out(
-    alloc: Global,
-    around: &Around,
-    index: &Index,
-    left: &mut u32,
-) -> Result<bool, Memory>
+fn is_out(alloc: Global, around: &Around, index: &Index, left: &mut u32) -> Result<bool, Memory>
     ensures found { IfOk result (λ found. found ≡ (out_in around.now (seen_index index.now) left.old).found) }
     ensures left { OnOk result (left.new ≡ (out_in around.now (seen_index index.now) left.old).left) }
 {

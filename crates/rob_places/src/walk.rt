@@ -16,6 +16,14 @@ use rob_number::Memory;
 use rob_syntax::syntax::{Index, Indexed, Part, Range, Ranged, Ref, Share, Sides, Target, Tree};
 use std::alloc::Global;
 
+/// Whether what the ends of the ranges around a place tell is asked.
+fn asks(test: Test) -> bool {
+    match test {
+        Test::Unknown | Test::GreatDigits => false,
+        Test::SoughtLong | Test::Out => true,
+    }
+}
+
 /// Indices of a name.
 pub fn indices(
     alloc: Global,
@@ -96,7 +104,7 @@ fn ranged(
     if at_range(alloc, task, around, range, left)? {
         return Ok(true);
     }
-    around.enter(alloc, task.test.asks(), range)?;
+    around.enter(alloc, asks(task.test), range)?;
     let found = tree(alloc, task, around, inner, left)?;
     around.leave();
     Ok(found)
@@ -172,7 +180,7 @@ fn item(
                 return Ok(true);
             }
             around.enter(alloc, asked, outermost)?;
-            let many = task.test.asks() && others.len() > 1;
+            let many = asks(task.test) && others.len() > 1;
             let found = item(alloc, task, around, many, others, name, left)?;
             around.leave();
             Ok(found)
@@ -199,7 +207,7 @@ fn members(
             alloc,
             task,
             around,
-            task.test.asks(),
+            asks(task.test),
             member.ranges.items(),
             &member.item.name,
             left,
@@ -229,7 +237,7 @@ fn entries(
             alloc,
             task,
             around,
-            task.test.asks(),
+            asks(task.test),
             entry.ranges.items(),
             &entry.item,
             left,
@@ -375,7 +383,7 @@ fn inside(
             if at_range(alloc, task, around, outermost, left)? {
                 return Ok(true);
             }
-            around.enter(alloc, task.test.asks(), outermost)?;
+            around.enter(alloc, asks(task.test), outermost)?;
             inside(alloc, task, around, others, statement, left)
         }
     }

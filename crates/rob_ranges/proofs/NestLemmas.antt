@@ -51,6 +51,8 @@ plus_none a = omega (arith, ints)
 pub plus_on : (a p w : ℤ) → (a +ℤ p) +ℤ w ≡ a +ℤ (p +ℤ w)
 plus_on a p w = omega (arith, ints)
 
+pub ruleset sums_on = (plus_none, plus_on)
+
 -- ---- ranges of one value
 far_one : (c v : ℤ) (vs : List ℤ) → value_of (far_end c (at_one v)) vs ≡ v
 far_one (pos c) v vs = omega (arith, ints)

@@ -12,4 +12,4 @@ tell_all-requires t c =
     last_apart ranges c.innermost-item.result c.in-len1-up.len_at_least c.innermost-item.is in
     let fewer : length told < length ranges =
     omega (arith, told_few [] ranges told c.requires.told, c.len.ensures, c.if-told-ranges.false) in
-    record { told = told_around ranges around c.innermost-item.result told apart c.requires.told fewer; }
+    record { told = told_around ranges around c.innermost-item.result told apart c.requires.told fewer }

@@ -23,7 +23,7 @@ told_of-requires t c =
     last_apart ranges c.innermost-item.result c.in-len1-up.len_at_least c.innermost-item.is in
     let fewer : length told < length ranges =
     omega (arith, told_few [] ranges told c.requires.told, c.if-told-ranges.false) in
-    record { told = told_around ranges around c.innermost-item.result told apart c.requires.told fewer; }
+    record { told = told_around ranges around c.innermost-item.result told apart c.requires.told fewer }
 
 pub returns-in-empty : goal.returns-in-empty
 returns-in-empty t c =
