@@ -26,7 +26,7 @@ mod spot;
 mod tokens;
 
 pub use expansion::expand;
-pub use fits::{has_room, spend_statement};
+pub use fits::has_room;
 pub use judging::{Judged, judge};
 pub use name::Refusal;
 pub use room::Stop;

@@ -2,7 +2,9 @@
 //! stands for fits, then place by place. A line with `for s = 1 to 3900` is refused for it whether it fits or not, and
 //! nothing is counted.
 
-ghost use Rattle.std.specs.Prelude.{◌≡◌, ℕ, ◌≤◌, List, IfOk, MatchOption, Some};
+ghost use Rattle.std.specs.Prelude.{◌≡◌, ℕ, ◌+◌, ◌≤◌, List, IfOk, MatchOption, None, Some};
+ghost use Rattle.rob_index.specs.Counting.{lines_tokens};
+ghost use Rattle.rob_index.specs.Expansion.{expand};
 ghost use Rattle.rob_index.specs.Rules.{most_tokens, places, rule_of};
 ghost use Rattle.rob_index.specs.Search.{named, named_crowded, search_places};
 ghost use Rattle.rob_index.specs.Search as spec;
@@ -52,12 +54,14 @@ impl IndexFault {
 }
 
 /// The rule of indices that a line breaks, but for the part that is judged on its plain statements. `declared` says of
-/// each word whether it is declared on an earlier line, `total` how many canonical tokens the lines before have.
+/// each word whether it is declared on an earlier line, `total` how many canonical tokens the lines before have. Where
+/// the line breaks none, `behind` is written: how many they have with those of the line.
 pub fn judge_indices(
     alloc: Global,
     limit: u64,
     declared: &[bool],
     total: u32,
+    behind: &mut u32,
     statement: &Indexed,
 ) -> Result<Option<IndexFault>, Memory>
     requires total { total ≤ most_tokens }
@@ -65,13 +69,16 @@ pub fn judge_indices(
         (named limit words (is_set declared.now) total (seen_statement statement.now)
         ≡ late_fault words (seen_statement statement.now))
         (λ f. named limit words (is_set declared.now) total (seen_statement statement.now) ≡ Some (seen_fault f))) }
+    ensures behind { IfOk result (λ o. o ≡ None → (words : List Name)
+        → behind.new ≡ total + lines_tokens limit (expand words (seen_statement statement.now))) }
 {
     let shown = shows_long(alloc, statement)?;
     if shown {
         let early = some_unknown(alloc, declared, statement)?;
         return Ok(Some(long_fault(early)));
     }
-    let fits = has_room(alloc, limit, statement, MOST_TOKENS - total)?;
+    let mut left = MOST_TOKENS - total;
+    let fits = has_room(alloc, limit, statement, &mut left)?;
     if !fits {
         let fault = judge_crowded(alloc, declared, statement)?;
         return Ok(Some(fault));
@@ -91,6 +98,7 @@ pub fn judge_indices(
     if judged.out {
         return Ok(Some(IndexFault::Out));
     }
+    *behind = MOST_TOKENS - left;
     Ok(None)
 }
 

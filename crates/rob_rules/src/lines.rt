@@ -1,10 +1,7 @@
 //! The statements of a text of either version, in one pass over its lines.
 
 ghost use Rattle.std.specs.Prelude.{◌≡◌, ◌≤◌, ◌<◌, ◌+◌, ◌^◌, [], ◌∷◌, List as Items, false, length, map, drop, IfOk, IfErr, MatchResult, OnOk};
-ghost use Rattle.rob_index.specs.Counting.{lines_tokens};
-ghost use Rattle.rob_index.specs.Expansion.{expand as expanded};
 ghost use Rattle.rob_index.specs.Reading.{IsOf};
-ghost use Rattle.rob_index.specs.Rules.{most_tokens};
 ghost use Rattle.rob_index.specs.Statements.{Name};
 ghost use Rattle.rob_rules.specs.declared.lines.Stop.TheVariants.{Memory};
 ghost use Rattle.rob_rules.specs.Scopes.{earlier_of};
@@ -20,7 +17,7 @@ use crate::fault::{Fault, first_fault};
 use crate::indices::judge_indices;
 use crate::scope::{Scope, declared_by};
 use crate::sort::Sort;
-use rob_expand::{Refusal, Stop as Full, expand, spend_statement};
+use rob_expand::{Refusal, expand};
 use rob_lex::{LexErr, Token, tokens};
 use rob_number::List;
 use rob_syntax::indexed::{is_plain, read_statement};
@@ -29,9 +26,6 @@ use rob_syntax::{
     ParseErr, Symbol, Version, Words, body_line, collect_words, front_line, read_version, symbols,
 };
 use std::alloc::Global;
-
-/// The canonical tokens that the lines of a text may have together.
-const MOST_TOKENS: u32 = 20_000;
 
 /// The rule of a line that is no statement.
 const NO_STATEMENT: u8 = 11;
@@ -242,17 +236,18 @@ impl Reader {
             (λ _. IsExpanded limit (texts self.old.own.keys) (seen_statement statement.now) self.old self.new)
             (λ e. HasIndexStop limit (texts self.old.own.keys) (seen_statement statement.now) self.old e) }
     {
+        let mut total = self.total;
         let fault = judge_indices(
             alloc,
             limit,
             self.declared.as_slice(),
             self.total,
+            &mut total,
             statement,
         )?;
         if let Some(fault) = fault {
             return Err(Stop::Rule(fault.rule()));
         }
-        let total = total_behind(alloc, limit, self.total, statement)?;
         match expand(
             alloc,
             limit,
@@ -312,25 +307,6 @@ fn statement_of(alloc: Global, version: Version, symbols: &[Symbol]) -> Result<I
             }
         }
         Version::Two => Ok(statement),
-    }
-}
-
-/// The canonical tokens of the lines so far, with those of one more, for which there is room.
-fn total_behind(
-    alloc: Global,
-    limit: u64,
-    total: u32,
-    statement: &Indexed,
-) -> Result<u32, rob_number::Memory>
-    requires room { (words : Items Name)
-        → total + lines_tokens limit (expanded words (seen_statement statement.now)) ≤ most_tokens }
-    ensures total { IfOk result (λ t. (words : Items Name)
-        → t ≡ total + lines_tokens limit (expanded words (seen_statement statement.now))) }
-{
-    match spend_statement(alloc, limit, statement, MOST_TOKENS - total) {
-        Ok(left) => Ok(MOST_TOKENS - left),
-        Err(Full::TooMuch) => unreachable!(),
-        Err(Full::Memory) => Err(rob_number::Memory),
     }
 }
 

@@ -10,15 +10,17 @@ use Rattle.rob_expand.proofs.fits.has_room.Goals as goal
 pub returns-in-Ok : goal.returns-in-Ok
 returns-in-Ok c = record {
   room = λ words.
-      sym (some_fits (lines_tokens c.args.limit (expand words (seen_statement c.args.statement.now))) c.args.room
-      c.in-Ok.field-0 (c.in-Ok.ensures.left words));
+      sym (some_fits (lines_tokens c.args.limit (expand words (seen_statement c.args.statement.now))) c.args.room.now
+      c.in-Ok.left (c.in-Ok.ensures.left words));
+  left = λ t words. c.in-Ok.ensures.left words;
 }
 
 pub returns-in-Err-TooMuch : goal.returns-in-Err-TooMuch
 returns-in-Err-TooMuch c = record {
   room = λ words.
       let tokens = lines_tokens c.args.limit (expand words (seen_statement c.args.statement.now)) in
-      sym (none_fits tokens c.args.room
-      (subst (λ (e : Stop). HasStop (left_of tokens c.args.room) e) c.in-Err-TooMuch.field-0-is
+      sym (none_fits tokens c.args.room.now
+      (subst (λ (e : Stop). HasStop (left_of tokens c.args.room.now) e) c.in-Err-TooMuch.field-0-is
       (c.in-Err-TooMuch.ensures.left words)));
+  left = λ t. cc;
 }

@@ -3,18 +3,8 @@ use Rattle.rob_places.specs.Tests.{is_set}
 use Rattle.rob_syntax.specs.Known.{texts}
 use Rattle.rob_syntax.specs.Seen.{seen_statement}
 use Rattle.rob_rules.proofs.ExpandedLemmas.{stops_early, stops_late, late_only, expanded}
-use Rattle.rob_rules.proofs.IndicesLemmas.{room_named, within_named}
+use Rattle.rob_rules.proofs.IndicesLemmas.{within_named}
 use Rattle.rob_rules.proofs.lines.Reader.expand_line.Goals as goal
-
-pub total_behind-requires : goal.total_behind-requires
-total_behind-requires c =
-    let own = texts c.args.self.now.own.keys in
-    let s = seen_statement c.args.statement.now in
-    record {
-      room = λ words. room_named c.args.limit words (is_set c.args.self.now.declared.items) c.args.self.now.total s
-          (late_only c.args.limit own s c.args.self.now c.requires.between c.as_slice.result.now c.as_slice.ensures.value
-          c.in_ok-fault.fault c.in_default.is c.in_ok-fault.ensures.named words);
-    }
 
 pub expand-requires : goal.expand-requires
 expand-requires c =
@@ -59,7 +49,7 @@ returns c =
             scope = refl;
             front = refl;
             declared = refl;
-            total = c.in_ok-total.ensures.total own;
+            total = c.in_ok-fault.ensures.behind c.in_default.is own;
             all_are = c.in-Ok.ensures.refused;
           });
     }
