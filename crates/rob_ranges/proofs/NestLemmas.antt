@@ -66,6 +66,11 @@ greatest_fixed (v ∷ vs) f =
     ∙ ap (λ (z : ℤ). value_of (outer f) vs +ℤ (first_factor f.factors *ℤ z)) (far_one (first_factor f.factors) v vs)
     ∙ sym (outer_is f v vs)
 
+pub greatest_none : (vs : List ℤ) (rs : List Ends) (f : Form) → length rs ≡ 0
+    → value_of f vs ≡ greatest (onto rs (fixed vs)) f
+greatest_none vs [] f h = sym (greatest_fixed vs f)
+greatest_none vs (r ∷ rs) f h = absurd (omega (arith, h))
+
 -- how far such a range goes is nothing
 no_way : (v : ℤ) (vs : List ℤ) → greatest (fixed vs) (minus (only v) (only v)) ≡ pos 0
 no_way v vs = greatest_fixed vs (minus (only v) (only v)) ∙ minus_is (only v) (only v) vs ∙ omega (arith, ints)

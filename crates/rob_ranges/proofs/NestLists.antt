@@ -47,7 +47,7 @@ told_kept (r ∷ rs) [] h e = absurd (omega (arith, e))
 told_kept rs (t ∷ ts) h e = told_of_all [] rs (t ∷ ts) h e (omega arith)
 
 -- of those around the innermost, where it isn't told of that
-one_longer : (front : List Ends) (r : Ends) → length (front ++ r ∷ []) ≡ length front + 1
+pub one_longer : (front : List Ends) (r : Ends) → length (front ++ r ∷ []) ≡ length front + 1
 one_longer [] r = refl
 one_longer (q ∷ front) r = omega (arith, one_longer front r)
 

@@ -12,6 +12,7 @@ use std::alloc::Global;
 
 /// The greatest value of a form, by back substitution. It is never passed; where a range may be empty it may not be
 /// reached.
+#[tactic(auto, using(crate::proofs::NestLemmas::greatest_none))]
 pub fn greatest(
     alloc: Global,
     ranges: &[Ends],

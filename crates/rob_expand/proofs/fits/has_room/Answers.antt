@@ -22,5 +22,5 @@ returns-in-Err-TooMuch c = record {
       sym (none_fits tokens c.args.room.now
       (subst (λ (e : Stop). HasStop (left_of tokens c.args.room.now) e) c.in-Err-TooMuch.field-0-is
       (c.in-Err-TooMuch.ensures.left words)));
-  left = λ t. cc;
+  left = λ t words. cc;
 }

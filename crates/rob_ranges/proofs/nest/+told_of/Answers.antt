@@ -1,8 +1,8 @@
-use Rattle.std.proofs.Common.{◌≡◌, ◌<◌, ◌-◌, ◌++◌, ◌∷◌, [], length, take, subst, sym, arith}
+use Rattle.std.proofs.Common.{◌≡◌, ◌<◌, ◌-◌, ◌++◌, ◌∷◌, [], length, take, ap, subst, sym, arith}
 use Rattle.rob_index.specs.Forms.{onto}
 use Rattle.rob_ranges.specs.Nests.{IsTold}
 use Rattle.rob_ranges.proofs.NestLemmas.{last_apart}
-use Rattle.rob_ranges.proofs.NestLists.{told_few, told_kept, told_around}
+use Rattle.rob_ranges.proofs.NestLists.{one_longer, told_few, told_kept, told_around}
 use Rattle.rob_ranges.proofs.nest.+told_of.Goals as goal
 
 pub returns-then-told-ranges : goal.returns-then-told-ranges
@@ -23,7 +23,10 @@ told_of-requires t c =
     last_apart ranges c.innermost-item.result c.in-len1-up.len_at_least c.innermost-item.is in
     let fewer : length told < length ranges =
     omega (arith, told_few [] ranges told c.requires.told, c.if-told-ranges.false) in
-    record { told = told_around ranges around c.innermost-item.result told apart c.requires.told fewer }
+    (
+      omega (arith, one_longer around c.innermost-item.result, ap length apart, c.decreases),
+      told_around ranges around c.innermost-item.result told apart c.requires.told fewer,
+    )
 
 pub returns-in-empty : goal.returns-in-empty
 returns-in-empty t c =
@@ -31,6 +34,6 @@ returns-in-empty t c =
     omega (arith, told_few [] c.args.ranges.now c.args.told.now c.requires.told, c.in-empty.len_below) in
     record {
       told =
-          subst (IsTold (onto c.args.ranges.now [])) (sym c.last_told.ensures.last)
+          subst (IsTold (onto c.args.ranges.now [])) (sym c.last_told-in-empty.ensures.last)
           (told_kept c.args.ranges.now c.args.told.now c.requires.told all);
     }

@@ -18,8 +18,8 @@ returns c =
     let here = c.outwards in
     record {
       greatest =
-          as_well c.value.result
+          as_well c.value-2.result
           (put_in_all c.args.values.now c.args.ranges.now here.left here.rest c.outwards-test.false
           here.invariant.so_far)
-          c.value.ensures.value;
+          c.value-2.ensures.value;
     }
