@@ -1,4 +1,4 @@
-use Rattle.std.proofs.Common.{◌≤◌, ◌-◌, Bool, Some, ap, sym, ◌∙◌, arith}
+use Rattle.std.proofs.Common.{◌≤◌, ◌-◌, [], Bool, Some, ap, sym, ◌∙◌, arith}
 use Rattle.std.proofs.lemmas.Bool.{leb-true}
 use Rattle.rob_index.specs.Counting.{lines_tokens}
 use Rattle.rob_index.specs.Expansion.{expand}
@@ -83,3 +83,12 @@ returns-clause-behind c none words =
     let left = left_is tokens (20000 - c.args.total) c.has_room.new.room room
     (c.in_ok-fits.ensures.left c.if-not-fits.false words) in
     omega (arith, room, left, c.requires.total)
+
+pub overflow_sub-behind : goal.overflow_sub-behind
+overflow_sub-behind c =
+    let tokens = lines_tokens c.args.limit (expand [] (seen_statement c.args.statement.now)) in
+    let room : tokens ≤ 20000 - c.args.total =
+    leb-true tokens (20000 - c.args.total) (sym (c.in_ok-fits.ensures.room []) ∙ c.if-not-fits.false) in
+    let left = left_is tokens (20000 - c.args.total) c.has_room.new.room room
+    (c.in_ok-fits.ensures.left c.if-not-fits.false []) in
+    omega (arith, left)
