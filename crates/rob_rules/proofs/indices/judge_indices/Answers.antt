@@ -76,7 +76,6 @@ returns-clause-named c words =
 pub returns-clause-behind : goal.returns-clause-behind
 returns-clause-behind c none words =
     let s = seen_statement c.args.statement.now in
-    let declared = is_set c.args.declared.now in
     let tokens = lines_tokens c.args.limit (expand words s) in
     let room : tokens ≤ 20000 - c.args.total =
     leb-true tokens (20000 - c.args.total) (sym (c.in_ok-fits.ensures.room words) ∙ c.if-not-fits.false) in
