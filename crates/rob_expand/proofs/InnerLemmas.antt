@@ -190,6 +190,12 @@ at_values z form vs p q value is e f made fits =
     is ∙ (λ i. (wide_of form.constant +ℤ (form.first *ℤ sym e i)) +ℤ (form.second *ℤ sym f i)) ∙ sym made
     ∙ sym (to_z-of_z w128 value fits)
 
+-- what isn't passed is at least 0 where the value is
+pub seen_least : (value most : ℤ) → SFits w128 most → value ≤ℤ most → pos 0 ≤ℤ value
+    → pos 0 ≤ℤ to_z w128 (of_z w128 most)
+seen_least value most fits h p =
+    subst (λ (z : ℤ). pos 0 ≤ℤ z) (sym (to_z-of_z w128 most fits)) (omega (arith, ints, h, p))
+
 module _ (rs self : List Ends) (o : Option Lengths) (kept : Lengths) (vs : List ℤ) (is : o ≡ Some kept)
     (view : rs ≡ self) (told : IfSome o (λ k. AreLengths rs k)) where
   lengths_are : AreLengths self kept

@@ -4,6 +4,12 @@ use mir.Val.{SFits}
 use Rattle.rob_expand.proofs.InnerLemmas.{most_first, kept_apart}
 use Rattle.rob_expand.proofs.inner.Inner.sizes_in.Goals as goal
 
+pub returns-then-first-lt-SHORTEST-clause-first : goal.returns-then-first-lt-SHORTEST-clause-first
+returns-then-first-lt-SHORTEST-clause-first c vs within =
+    let f : SFits w128 c.most-first.result = search rules in
+    most_first c.self.inside.ranges c.args.self.now c.self.inside.lengths c.in_ok-lengths.lengths vs
+    c.in_ok-lengths.was c.self.view_is c.self.invariant c.most-first.result f (c.most-first.ensures.most vs within)
+
 pub returns-clause-first : goal.returns-clause-first
 returns-clause-first c vs within =
     let f : SFits w128 c.most-first.result = search rules in
