@@ -9,3 +9,4 @@ pub mod ClearingLemmas
 pub mod WrittenRows
 pub mod ClearedCells
 pub mod MapLemmas
+pub mod MarkScans

@@ -10,6 +10,7 @@ ghost use Rattle.rob_entries.specs.Updates.{AreOwn, IsMultipleOf, IsWideCleared}
 use crate::clearing::PivotRow;
 use crate::entry::Entry;
 use crate::rows::{lowest_column, negate};
+use crate::scans::lowest_marked;
 use crate::updates::mark_of;
 use rob_number::Wide;
 use std::alloc::{AllocError, Global};
@@ -118,6 +119,30 @@ impl<E: Entry> Cells<E> {
             result }
     {
         lowest_column(&self.items.as_slice()[start..start + count], near, before)
+    }
+
+    /// A column such that of a row's first `count` places those are 0 whose column comes from `low` on and before it;
+    /// the given one at most.
+    pub fn lowest_some(
+        &self,
+        start: usize,
+        near: &[usize],
+        count: usize,
+        low: usize,
+        before: usize,
+    ) -> usize
+        requires row_in { start + count ≤ length self.now }
+        requires near_in { count ≤ length near.now }
+        ensures low { result ≤ before }
+        ensures zeros { (k : ℕ) → k < count → low ≤ slice_index_or near.now k 0 → slice_index_or near.now k 0 < result
+            → at self.now (start + k) ≡ pos 0 }
+    {
+        lowest_marked(
+            &self.marks.as_slice()[start..start + count],
+            near,
+            low,
+            before,
+        )
     }
 
     // ---- write

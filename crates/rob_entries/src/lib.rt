@@ -7,6 +7,7 @@ mod clearing;
 mod entry;
 mod long;
 mod rows;
+mod scans;
 mod short;
 mod updates;
 

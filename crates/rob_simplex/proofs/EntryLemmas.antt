@@ -1,5 +1,5 @@
 -- Entries of a dictionary's rows, as its code reads them, and the first negative one.
-use Rattle.std.proofs.Common.{◌≡◌, ℕ, ◌+◌, ◌*◌, ◌<◌, ◌≤◌, sym, ap, ◌∙◌, subst, arith, inl, inr, List, length, nat_abs}
+use Rattle.std.proofs.Common.{◌≡◌, ◌≢◌, ℕ, ◌+◌, ◌*◌, ◌<◌, ◌≤◌, sym, ap, ◌∙◌, subst, arith, inl, inr, List, length, nat_abs}
 use Rattle.std.proofs.lemmas.Bool.{cases_eq, cases_lt}
 use lib.IntN.{ℤ, pos}
 use lib.Signed.{◌<ℤ◌, ◌≤ℤ◌}
@@ -9,7 +9,7 @@ use Rattle.rob_simplex.specs.Tables.{row_at, bound_at}
 use Rattle.rob_simplex.specs.Dictionaries.{Table, columns_of, basic_columns, right_column, read_row, rows_of, IsSound, FirstNegative}
 use Rattle.rob_entries.specs.Choices.{IsLowest}
 use Rattle.rob_simplex.proofs.Places.{row_within}
-use Rattle.rob_simplex.proofs.ReadRows.{read_near, read_own, read_none}
+use Rattle.rob_simplex.proofs.ReadRows.{read_near, read_own, read_none, basic_low}
 
 module _ {limit n : ℕ} {basis places near : List ℕ} {table : List ℤ} {bounds : List ℕ} {workspace : ℕ}
     (sound : IsSound limit n basis places near table bounds workspace) (i : ℕ) (il : i ≤ length basis) where
@@ -42,6 +42,43 @@ module _ {limit n : ℕ} {basis places near : List ℕ} {table : List ℤ} {boun
     e ∙ sym (read_own (n + 3) (columns_of places) i (row_at table (n + 4) i) column (sym ep ∙ l)),
     number (n + 3) (omega arith) x e,
   )
+
+  -- ---- the slack entries before the first one that may not be 0
+  module _ (before column : ℕ) (few : before ≤ n + length basis) (bl : i < length basis)
+      (own : n ≤ columns_of basis i → before ≤ columns_of basis i) (low : column ≤ before)
+      (zeros : (k : ℕ) → k < n + 2 → n ≤ columns_of near k → columns_of near k < column
+      → row_at table (n + 4) i k ≡ pos 0) where
+    near_zero : (c : ℕ) → n ≤ c → c < column → columns_of places c < n + 3
+        → row_at table (n + 4) i (columns_of places c) ≡ pos 0
+    near_zero c nl l p =
+        let there : columns_of near (columns_of places c) ≡ c = sound.placed.near_column c (omega arith) p in
+        elim (cases_eq (columns_of places c) (n + 2)) [
+          | inr d ↦ zeros (columns_of places c) (omega arith) (omega arith) (omega arith)
+          | inl e ↦
+              let e2 : columns_of places (right_column n (length basis)) ≡ n + 2 = sound.right_at in
+              let r : columns_of near (n + 2) ≡ right_column n (length basis) =
+              ap (columns_of near) (sym e2)
+              ∙ sound.placed.near_column (right_column n (length basis)) (omega arith) (omega arith) in
+              let s : columns_of near (columns_of places c) ≡ columns_of near (n + 2) = ap (columns_of near) e in
+              absurd (omega arith)
+        ]
+
+    not_own : (c : ℕ) → n ≤ c → c < column → columns_of places c ≢ n + 3 + i
+    not_own c nl l e =
+        let b = sound.placed.basic_column c (omega arith) (omega arith) in
+        let there : b.0 ≡ i = (let x : columns_of places c ≡ n + 3 + b.0 = b.2 in omega arith) in
+        let is : columns_of basis i ≡ c =
+        sym (basic_low n basis i bl) ∙ ap (basic_columns n basis) (sym there) ∙ b.3 in
+        let o : before ≤ columns_of basis i = own (omega arith) in omega arith
+
+    pub zeros_before : (k : ℕ) → n + k < column → rows_of shown i (n + k) ≡ pos 0
+    zeros_before k l = elim (cases_lt (columns_of places (n + k)) (n + 3)) [
+      | inl p ↦
+          read_near (n + 3) (columns_of places) i (row_at table (n + 4) i) (n + k) p
+          ∙ near_zero (n + k) (omega arith) l p
+      | inr p ↦
+          read_none (n + 3) (columns_of places) i (row_at table (n + 4) i) (n + k) p (not_own (n + k) (omega arith) l)
+    ]
 
   -- ---- the first negative entry
   module _ (own : pos 0 ≤ℤ rows_of shown i (basic_columns n basis i)) (best : ℕ)

@@ -1,10 +1,22 @@
 //! The entries of a dictionary's rows.
 
-ghost use Rattle.std.specs.Prelude.{◌≡◌, ◌<◌, ◌≤◌, nat_abs};
+ghost use Rattle.std.specs.Prelude.{◌≡◌, ◌<◌, ◌≤◌, ◌+◌, ℕ, pos, nat_abs};
 ghost use Rattle.rob_simplex.specs.Dictionaries.{positions, width_of, rows_of};
 
 use crate::dictionary::Dictionary;
 use rob_entries::Entry;
+
+/// The basic column of a row, where it is one from `low` on that comes before the last one; else that one.
+fn own_slack(column: usize, low: usize, last: usize) -> usize
+    ensures few { result ≤ last }
+    ensures own { low ≤ column → result ≤ column }
+{
+    if low <= column {
+        column.min(last)
+    } else {
+        last
+    }
+}
 
 impl<E: Entry> Dictionary<E> {
     /// The entry of the row of position i in a column.
@@ -25,5 +37,19 @@ impl<E: Entry> Dictionary<E> {
             return self.rows.get(start + (self.columns + 3));
         }
         E::of(0)
+    }
+
+    /// How many slack entries of a row, the first ones, are sure to be 0.
+    pub fn zero_slacks(&self, i: usize) -> usize
+        requires row_in { i < positions self.now }
+        ensures few { result ≤ positions self.now }
+        ensures zeros { (k : ℕ) → k < result → rows_of self.now i (self.now.columns + k) ≡ pos 0 }
+    {
+        let n = self.columns;
+        let before = own_slack(self.basis[i], n, n + self.basis.len());
+        let column = self
+            .rows
+            .lowest_some(i * (n + 4), self.near.as_slice(), n + 2, n, before);
+        column.saturating_sub(n)
     }
 }

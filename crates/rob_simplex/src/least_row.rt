@@ -25,7 +25,8 @@ fn is_below<E: Entry>(a: E) -> Option<bool>
 }
 
 impl<E: Entry> Dictionary<E> {
-    /// Whether the first number of a row's right side and slack entries that is not 0 is negative.
+    /// Whether the first number of a row's right side and slack entries that is not 0 is negative. Most rows that are 0 on
+    /// their right side have few entries, so slack entries are read from the first one on that may not be 0.
     #[inline(never)]
     fn is_negative(&self, i: usize) -> bool
         requires row_in { i < positions self.now }
@@ -37,7 +38,7 @@ impl<E: Entry> Dictionary<E> {
             Some(below) => return below,
             None => {}
         }
-        for k in 0..m {
+        for k in self.zero_slacks(i)..m {
             match is_below(self.entry(i, self.columns + k)) {
                 Some(below) => return below,
                 None => {}
