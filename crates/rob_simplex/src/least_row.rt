@@ -34,7 +34,7 @@ impl<E: Entry> Dictionary<E> {
             (key (shape self.now.columns (positions self.now)) (rows_of self.now i)) }
     {
         let m = self.basis.len();
-        match is_below(self.entry(i, self.columns + m + 2)) {
+        match is_below(self.dense_entry(i, self.columns + m + 2)) {
             Some(below) => return below,
             None => {}
         }
@@ -54,7 +54,7 @@ impl<E: Entry> Dictionary<E> {
         requires column_in { column < width_of self.now }
         ensures entry { E.value result ≡ neg_ℤ (rows_of self.now i column) }
     {
-        self.entry(i, column).minus()
+        self.dense_entry(i, column).minus()
     }
 
     /// Whether row i may be the least, and comes before the best row so far. Its sign is looked at last.

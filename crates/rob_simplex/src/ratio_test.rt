@@ -51,6 +51,24 @@ impl<E: Entry> Dictionary<E> {
         is_less(self.entry(i, column), p, self.entry(e, column), q)
     }
 
+    /// The same in a column where most rows are not 0.
+    #[inline(always)]
+    fn is_less_in_dense(&self, column: usize, i: usize, p: E, e: usize, q: E) -> Option<bool>
+        requires column_in { column < width_of self.now }
+        requires i_in { i < positions self.now }
+        requires e_in { e < positions self.now }
+        ensures order { MatchOption result
+            ((E.value p *ℤ rows_of self.now e column) -ℤ (E.value q *ℤ rows_of self.now i column) ≡ pos 0)
+            (λ less. Decided less ((E.value p *ℤ rows_of self.now e column) -ℤ (E.value q *ℤ rows_of self.now i column))) }
+    {
+        is_less(
+            self.dense_entry(i, column),
+            p,
+            self.dense_entry(e, column),
+            q,
+        )
+    }
+
     /// Whether row i comes before row e, each over its divisor. Slack entries count only where the right sides are in
     /// the same ratio.
     #[inline(never)]
@@ -61,7 +79,7 @@ impl<E: Entry> Dictionary<E> {
             (rows_of self.now i) (E.value p) (rows_of self.now e) (E.value q) }
     {
         let m = self.basis.len();
-        match self.is_less_at(self.columns + m + 2, i, p, e, q) {
+        match self.is_less_in_dense(self.columns + m + 2, i, p, e, q) {
             Some(less) => return less,
             None => {}
         }

@@ -15,7 +15,7 @@ returns-in-Some g c =
       decides =
           right_decides t.columns (positions t) (rows_of t c.args.i) (c.self.inside.columns + c.len-m.result + 2)
           c.in-Some.below (omega arith)
-          (subst (λ (z : ℤ). Decided c.in-Some.below (neg_ℤ z)) c.entry.ensures.entry c.in-Some.ensures.sign);
+          (subst (λ (z : ℤ). Decided c.in-Some.below (neg_ℤ z)) c.dense_entry.ensures.entry c.in-Some.ensures.sign);
     }
 
 pub returns-in-Some-is_below : goal.returns-in-Some-is_below
@@ -29,8 +29,8 @@ returns-in-Some-is_below g c =
           slack_decides t.columns (positions t) (rows_of t c.args.i) (c.self.inside.columns + c.len-m.result + 2)
           (c.self.inside.columns + c.loop-k.k) c.loop-k.k c.in-Some-is_below.below (omega arith) (omega arith)
           (omega arith)
-          (sym c.entry.ensures.entry ∙ c.in-None.ensures.sign) c.loop-k.invariant
-          (subst (λ (z : ℤ). Decided c.in-Some-is_below.below (neg_ℤ z)) c.entry-in-loop-k.ensures.entry
+          (sym c.dense_entry.ensures.entry ∙ c.in-None.ensures.sign) c.loop-k.invariant
+          (subst (λ (z : ℤ). Decided c.in-Some-is_below.below (neg_ℤ z)) c.entry.ensures.entry
           c.in-Some-is_below.ensures.sign);
     }
 
@@ -40,7 +40,7 @@ loop-k-preserved g c =
     let en : c.self.inside.columns ≡ c.args.self.now.columns = ap (λ (t : Table). t.columns) c.self.view_is in
     zeros_more (λ j. rows_of t c.args.i (t.columns + j)) c.loop-k.k c.loop-k.invariant
     (subst (λ n. rows_of t c.args.i (n + c.loop-k.k) ≡ pos 0) en
-    (sym c.entry-in-loop-k.ensures.entry ∙ c.in-None-is_below.ensures.sign))
+    (sym c.entry.ensures.entry ∙ c.in-None-is_below.ensures.sign))
 
 pub returns : goal.returns
 returns g c =
@@ -51,6 +51,6 @@ returns g c =
     record {
       decides =
           none_decides t.columns (positions t) (rows_of t c.args.i) (c.self.inside.columns + c.len-m.result + 2)
-          c.loop-k.k (omega arith) (omega arith) (sym c.entry.ensures.entry ∙ c.in-None.ensures.sign)
+          c.loop-k.k (omega arith) (omega arith) (sym c.dense_entry.ensures.entry ∙ c.in-None.ensures.sign)
           c.loop-k.invariant;
     }
