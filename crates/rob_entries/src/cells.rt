@@ -1,6 +1,6 @@
 //! The numbers of rows, one row behind another. A row of a given width begins at its start.
 
-ghost use Rattle.std.specs.Prelude.{◌≡◌, ◌≢◌, ◌⊎◌, ℕ, ℤ, ◌<◌, ◌≤◌, ◌+◌, ◌-◌, ◌^◌, ◌*ℤ◌, ◌<ℤ◌, pos, neg_ℤ, nat_abs, set, take, drop, length, slice_index_or, IfOk, OnErr};
+ghost use Rattle.std.specs.Prelude.{◌≡◌, ◌≢◌, ◌⊎◌, ℕ, ℤ, ◌<◌, ◌≤◌, ◌+◌, ◌-◌, ◌^◌, ◌*ℤ◌, ◌<ℤ◌, pos, neg_ℤ, nat_abs, set, take, drop, length, slice_index_or, IsFalse, IfOk, OnErr};
 ghost use Rattle.rob_linear.specs.Vectors.{at};
 ghost use Rattle.rob_linear.specs.Multiples.{IsClearedBy};
 ghost use Rattle.rob_rows.specs.PrimitiveParts.{content};
@@ -102,6 +102,15 @@ impl<E: Entry> Cells<E> {
         ensures entry { E.value result ≡ at self.now k }
     {
         self.items[k]
+    }
+
+    /// Whether the number at a place may not be 0.
+    #[inline(always)]
+    pub fn is_marked(&self, k: usize) -> bool
+        requires inside { k < length self.now }
+        ensures off { IsFalse result → at self.now k ≡ pos 0 }
+    {
+        self.marks[k]
     }
 
     /// The greatest size of a row's entries, 0 where there is none.

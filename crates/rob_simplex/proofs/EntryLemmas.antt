@@ -43,6 +43,17 @@ module _ {limit n : ℕ} {basis places near : List ℕ} {table : List ℤ} {boun
     number (n + 3) (omega arith) x e,
   )
 
+  -- ---- in a basic column all rows but its own are 0
+  pub zero_beside : (before : ℕ) → i < length basis → before ≤ length basis
+      → ((k : ℕ) → k < before → columns_of basis i ≢ n + k) → (k : ℕ) → k < before
+      → n + 3 ≤ columns_of places (n + k) → rows_of shown i (n + k) ≡ pos 0
+  zero_beside before bl few other k l p =
+      read_none (n + 3) (columns_of places) i (row_at table (n + 4) i) (n + k) p
+      (λ e.
+      let b = sound.placed.basic_column (n + k) (omega arith) p in
+      let there : b.0 ≡ i = (let x : columns_of places (n + k) ≡ n + 3 + b.0 = b.2 in omega arith) in
+      other k l (sym (basic_low n basis i bl) ∙ ap (basic_columns n basis) (sym there) ∙ b.3))
+
   -- ---- the slack entries before the first one that may not be 0
   module _ (before column : ℕ) (few : before ≤ n + length basis) (bl : i < length basis)
       (own : n ≤ columns_of basis i → before ≤ columns_of basis i) (low : column ≤ before)

@@ -11,6 +11,7 @@ pub mod StartLemmas
 pub mod EntryLemmas
 pub mod RatioTests
 pub mod RatioLemmas
+pub mod Ties
 pub mod LeastRows
 pub mod PivotLemmas
 pub mod SecondPhase

@@ -14,3 +14,4 @@ pub mod Endings
 pub mod Lowering
 pub mod Resuming
 pub mod Begun
+pub mod FreeSlacks

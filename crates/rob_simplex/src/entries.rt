@@ -1,13 +1,13 @@
 //! The entries of a dictionary's rows.
 
-ghost use Rattle.std.specs.Prelude.{◌≡◌, ◌<◌, ◌≤◌, ◌+◌, ℕ, pos, nat_abs};
+ghost use Rattle.std.specs.Prelude.{◌≡◌, ◌<◌, ◌≤◌, ◌+◌, ℕ, pos, nat_abs, IsFalse};
 ghost use Rattle.rob_simplex.specs.Dictionaries.{positions, width_of, rows_of};
 
 use crate::dictionary::Dictionary;
 use rob_entries::Entry;
 
 /// The basic column of a row, where it is one from `low` on that comes before the last one; else that one.
-fn own_slack(column: usize, low: usize, last: usize) -> usize
+pub fn own_slack(column: usize, low: usize, last: usize) -> usize
     ensures few { result ≤ last }
     ensures own { low ≤ column → result ≤ column }
 {
@@ -57,6 +57,28 @@ impl<E: Entry> Dictionary<E> {
             return self.rows.get(start + (self.columns + 3));
         }
         E::of(0)
+    }
+
+    /// Whether one of two rows may have an entry in a column that is not 0.
+    #[inline(always)]
+    pub fn is_some_in(&self, column: usize, i: usize, e: usize) -> bool
+        requires column_in { column < width_of self.now }
+        requires i_in { i < positions self.now }
+        requires e_in { e < positions self.now }
+        ensures i_zero { IsFalse result → rows_of self.now i column ≡ pos 0 }
+        ensures e_zero { IsFalse result → rows_of self.now e column ≡ pos 0 }
+    {
+        let place = self.places[column];
+        let width = self.columns + 4;
+        let first = self.columns + 3;
+        if first <= place {
+            return true;
+        }
+        let marked = self.rows.is_marked(i * width + place);
+        if marked {
+            return true;
+        }
+        self.rows.is_marked(e * width + place)
     }
 
     /// How many slack entries of a row, the first ones, are sure to be 0.

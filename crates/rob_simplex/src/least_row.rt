@@ -6,8 +6,10 @@ ghost use Rattle.std.specs.Bool.{OnTrue};
 ghost use Rattle.rob_linear.specs.Turns.{key};
 ghost use Rattle.rob_linear.specs.Beside.{IsLexNegative, IsLeast, HasNoLeast};
 ghost use Rattle.rob_simplex.specs.Dictionaries.{positions, rows_of, width_of, shape, IsLower, MayBeLeast, Decided};
+ghost use Rattle.rob_simplex.specs.FreeSlacks.{AreFree};
 
 use crate::dictionary::Dictionary;
+use crate::free_slacks::FIRST;
 use crate::ratio_test::is_positive;
 use rob_entries::Entry;
 use std::cmp::Ordering;
@@ -58,7 +60,16 @@ impl<E: Entry> Dictionary<E> {
     }
 
     /// Whether row i may be the least, and comes before the best row so far. Its sign is looked at last.
-    fn is_lower(&self, column: usize, i: usize, best: Option<usize>) -> bool
+    fn is_lower(
+        &self,
+        free: &[usize],
+        seen: usize,
+        column: usize,
+        i: usize,
+        best: Option<usize>,
+    ) -> bool
+        requires seen_in { seen ≤ positions self.now }
+        requires free { AreFree self.now seen free.now }
         requires column_in { column < width_of self.now }
         requires i_in { i < positions self.now }
         requires best_in { IfSome best (λ e. (e < positions self.now) × (rows_of self.now e column <ℤ pos 0)) }
@@ -72,7 +83,8 @@ impl<E: Entry> Dictionary<E> {
         match best {
             None => self.is_negative(i),
             Some(e) => {
-                self.comes_before(i, divisor, e, self.minus_entry(e, column)) && self.is_negative(i)
+                self.comes_before(free, seen, i, divisor, e, self.minus_entry(e, column))
+                    && self.is_negative(i)
             }
         }
     }
@@ -115,12 +127,24 @@ impl<E: Entry> Dictionary<E> {
             (HasNoLeast (shape self.now.columns (positions self.now)) (self.now.columns + positions self.now) (rows_of self.now))
             (λ e. IsLeast (shape self.now.columns (positions self.now)) (self.now.columns + positions self.now) (rows_of self.now) e) }
     {
+        let mut order = [0usize; FIRST];
+        self.least_by(&mut order)
+    }
+
+    /// The same, with room for the slack columns that are not basic.
+    fn least_by(&self, order: &mut [usize]) -> Option<usize>
+        ensures least { MatchOption result
+            (HasNoLeast (shape self.now.columns (positions self.now)) (self.now.columns + positions self.now) (rows_of self.now))
+            (λ e. IsLeast (shape self.now.columns (positions self.now)) (self.now.columns + positions self.now) (rows_of self.now) e) }
+    {
         let m = self.basis.len();
         let auxiliary = self.columns + m;
+        let (listed, seen) = self.list_free(order);
+        let free = &order[..listed];
         let mut best = self.first_below_zero(auxiliary);
-        for seen in 0..m {
-            let i = m - 1 - seen;
-            if self.is_lower(auxiliary, i, best) {
+        for passed in 0..m {
+            let i = m - 1 - passed;
+            if self.is_lower(free, seen, auxiliary, i, best) {
                 best = Some(i);
             }
         }

@@ -12,6 +12,7 @@ mod entering;
 mod entries;
 mod explicit_phase;
 mod first_phase;
+mod free_slacks;
 mod judging;
 mod least_row;
 mod lowering;

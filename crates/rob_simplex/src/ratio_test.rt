@@ -1,11 +1,13 @@
 //! Which row leaves: of the rows that are positive in the entering column, the one whose right side and then slack
 //! entries, all over its entry in that column, come first. (Dantzig, Orden, Wolfe 1955.)
 
-ghost use Rattle.std.specs.Prelude.{◌≡◌, ◌<◌, ◌≤◌, ◌^◌, ◌-◌, ◌+◌, ◌<ℤ◌, ◌≤ℤ◌, ◌*ℤ◌, ◌-ℤ◌, ◌↔◌, ℕ, pos, nat_abs, IsTrue, IfSome, MatchOption};
+ghost use Rattle.std.specs.Prelude.{◌≡◌, ◌≢◌, ◌<◌, ◌≤◌, ◌^◌, ◌-◌, ◌+◌, ◌<ℤ◌, ◌≤ℤ◌, ◌*ℤ◌, ◌-ℤ◌, ◌↔◌, ℕ, pos, nat_abs, IsTrue, IfSome, MatchOption};
 ghost use Rattle.rob_linear.specs.Turns.{ComesBefore, Leaves};
-ghost use Rattle.rob_simplex.specs.Dictionaries.{positions, width_of, rows_of, shape, GoesFirst, Decided, IsFree};
+ghost use Rattle.rob_simplex.specs.Dictionaries.{positions, width_of, rows_of, columns_of, shape, GoesFirst, Decided, IsFree};
+ghost use Rattle.rob_simplex.specs.FreeSlacks.{AreFree};
 
 use crate::dictionary::Dictionary;
+use crate::free_slacks::FIRST;
 use rob_entries::Entry;
 use std::cmp::Ordering;
 
@@ -69,10 +71,74 @@ impl<E: Entry> Dictionary<E> {
         )
     }
 
+    /// The same in a slack column, where it is one of the first ones.
+    #[inline(always)]
+    fn is_less_before(
+        &self,
+        before: usize,
+        k: usize,
+        i: usize,
+        p: E,
+        e: usize,
+        q: E,
+    ) -> Option<bool>
+        requires before_in { before ≤ positions self.now }
+        requires i_in { i < positions self.now }
+        requires e_in { e < positions self.now }
+        ensures order { MatchOption result (k < before → (E.value p *ℤ rows_of self.now e (self.now.columns + k)) -ℤ (E.value q *ℤ rows_of self.now i (self.now.columns + k)) ≡ pos 0)
+            (λ less. (k < before) × Decided less ((E.value p *ℤ rows_of self.now e (self.now.columns + k)) -ℤ (E.value q *ℤ rows_of self.now i (self.now.columns + k)))) }
+    {
+        if before <= k {
+            return None;
+        }
+        if self.is_some_in(self.columns + k, i, e) {
+            return self.is_less_at(self.columns + k, i, p, e, q);
+        }
+        None
+    }
+
+    /// The same in the first of the slack columns that decides, if one of the first ones does; their own columns don't
+    /// come before them.
+    fn is_less_in_free(
+        &self,
+        free: &[usize],
+        seen: usize,
+        before: usize,
+        i: usize,
+        p: E,
+        e: usize,
+        q: E,
+    ) -> Option<bool>
+        requires seen_in { seen ≤ positions self.now }
+        requires free { AreFree self.now seen free.now }
+        requires before_in { before ≤ seen }
+        requires i_in { i < positions self.now }
+        requires e_in { e < positions self.now }
+        requires not_i { (k : ℕ) → k < before → columns_of self.now.basis i ≢ self.now.columns + k }
+        requires not_e { (k : ℕ) → k < before → columns_of self.now.basis e ≢ self.now.columns + k }
+        ensures order { MatchOption result
+            ((j : ℕ) → j < before → (E.value p *ℤ rows_of self.now e (self.now.columns + j)) -ℤ (E.value q *ℤ rows_of self.now i (self.now.columns + j)) ≡ pos 0)
+            (λ less. (k : ℕ) × (k < positions self.now)
+            × ((j : ℕ) → j < k → (E.value p *ℤ rows_of self.now e (self.now.columns + j)) -ℤ (E.value q *ℤ rows_of self.now i (self.now.columns + j)) ≡ pos 0)
+            × Decided less ((E.value p *ℤ rows_of self.now e (self.now.columns + k)) -ℤ (E.value q *ℤ rows_of self.now i (self.now.columns + k)))) }
+    {
+        let _ = seen;
+        let _ = self.basis.len();
+        for k in free {
+            match self.is_less_before(before, *k, i, p, e, q) {
+                Some(less) => return Some(less),
+                None => {}
+            }
+        }
+        None
+    }
+
     /// Whether row i comes before row e, each over its divisor. Slack entries count only where the right sides are in
-    /// the same ratio.
+    /// the same ratio; those that are not basic are listed.
     #[inline(never)]
-    pub fn comes_before(&self, i: usize, p: E, e: usize, q: E) -> bool
+    pub fn comes_before(&self, free: &[usize], seen: usize, i: usize, p: E, e: usize, q: E) -> bool
+        requires seen_in { seen ≤ positions self.now }
+        requires free { AreFree self.now seen free.now }
         requires i_in { i < positions self.now }
         requires e_in { e < positions self.now }
         ensures decides { IsTrue result ↔ ComesBefore (shape self.now.columns (positions self.now))
@@ -83,7 +149,12 @@ impl<E: Entry> Dictionary<E> {
             Some(less) => return less,
             None => {}
         }
-        for k in 0..m {
+        let before = self.before_own(seen, i, e);
+        match self.is_less_in_free(free, seen, before, i, p, e, q) {
+            Some(less) => return less,
+            None => {}
+        }
+        for k in before..m {
             match self.is_less_at(self.columns + k, i, p, e, q) {
                 Some(less) => return less,
                 None => {}
@@ -93,7 +164,16 @@ impl<E: Entry> Dictionary<E> {
     }
 
     /// Whether row i is positive in the column and comes before the best row so far.
-    fn goes_first(&self, column: usize, i: usize, best: Option<usize>) -> bool
+    fn goes_first(
+        &self,
+        free: &[usize],
+        seen: usize,
+        column: usize,
+        i: usize,
+        best: Option<usize>,
+    ) -> bool
+        requires seen_in { seen ≤ positions self.now }
+        requires free { AreFree self.now seen free.now }
         requires column_in { column < width_of self.now }
         requires i_in { i < positions self.now }
         requires best_in { IfSome best (λ e. (e < positions self.now) × (pos 0 <ℤ rows_of self.now e column)) }
@@ -106,7 +186,7 @@ impl<E: Entry> Dictionary<E> {
         }
         match best {
             None => true,
-            Some(e) => self.comes_before(i, entry, e, self.entry(e, column)),
+            Some(e) => self.comes_before(free, seen, i, entry, e, self.entry(e, column)),
         }
     }
 
@@ -117,11 +197,23 @@ impl<E: Entry> Dictionary<E> {
         ensures first { MatchOption result ((i : ℕ) → i < positions self.now → rows_of self.now i column ≤ℤ pos 0)
             (λ row. Leaves (shape self.now.columns (positions self.now)) (rows_of self.now) column row) }
     {
+        let mut order = [0usize; FIRST];
+        self.leaving_by(column, &mut order)
+    }
+
+    /// The same, with room for the slack columns that are not basic.
+    fn leaving_by(&self, column: usize, order: &mut [usize]) -> Option<usize>
+        requires column_in { column < width_of self.now }
+        ensures first { MatchOption result ((i : ℕ) → i < positions self.now → rows_of self.now i column ≤ℤ pos 0)
+            (λ row. Leaves (shape self.now.columns (positions self.now)) (rows_of self.now) column row) }
+    {
         let m = self.basis.len();
+        let (listed, seen) = self.list_free(order);
+        let free = &order[..listed];
         let mut best = None;
-        for seen in 0..m {
-            let i = m - 1 - seen;
-            if self.goes_first(column, i, best) {
+        for passed in 0..m {
+            let i = m - 1 - passed;
+            if self.goes_first(free, seen, column, i, best) {
                 best = Some(i);
             }
         }

@@ -1,4 +1,4 @@
-use Rattle.std.proofs.Common.{◌≡◌, ◌+◌, ◌∙◌, refl, ap, subst, arith, pos, ◌*ℤ◌, ◌-ℤ◌}
+use Rattle.std.proofs.Common.{◌≡◌, ◌≤◌, ◌+◌, ◌∙◌, refl, ap, subst, arith, pos, ◌*ℤ◌, ◌-ℤ◌}
 use Rattle.rob_simplex.specs.Dictionaries.{Table, positions, rows_of}
 use Rattle.rob_simplex.proofs.RatioLemmas.{first_found, later_found, none_found, zeros_more}
 use Rattle.rob_simplex.proofs.dictionary.Dictionary.comes_before.Goals as goal
@@ -32,6 +32,21 @@ returns-in-Some-is_less_at g c =
           c.in-Some-is_less_at.ensures.order;
     }
 
+pub returns-in-Some-is_less_in_free : goal.returns-in-Some-is_less_in_free
+returns-in-Some-is_less_in_free g c =
+    let t = c.args.self.now in
+    let en : c.self.inside.columns ≡ c.args.self.now.columns = ap (λ (t : Table). t.columns) c.self.view_is in
+    let em : c.len-m.result ≡ positions c.args.self.now =
+    c.len-m.ensures ∙ c.self.inside.basis.ok.0 ∙ ap (λ (t : Table). positions t) c.self.view_is in
+    let found = c.in-Some-is_less_in_free.ensures.order in
+    record {
+      decides =
+          later_found (rows_of t c.args.i) (rows_of t c.args.e) t.columns (positions t) t.columns
+          (c.self.inside.columns + c.len-m.result + 2) found.0 (g.E.Entry.value c.args.p) (g.E.Entry.value c.args.q)
+          (g.E.Entry.value c.args.p) (g.E.Entry.value c.args.q)
+          c.in-Some-is_less_in_free.less refl refl refl (omega arith) found.1 c.in-None.ensures.order found.2 found.3;
+    }
+
 pub loop-k-preserved : goal.loop-k-preserved
 loop-k-preserved g c =
     let t = c.args.self.now in
@@ -49,6 +64,8 @@ returns g c =
     let en : c.self.inside.columns ≡ c.args.self.now.columns = ap (λ (t : Table). t.columns) c.self.view_is in
     let em : c.len-m.result ≡ positions c.args.self.now =
     c.len-m.ensures ∙ c.self.inside.basis.ok.0 ∙ ap (λ (t : Table). positions t) c.self.view_is in
+    let low : c.before_own-before.result ≤ c.args.seen = c.before_own-before.ensures.few in
+    let few : c.args.seen ≤ positions c.args.self.now = c.requires.seen_in in
     record {
       decides =
           none_found (rows_of t c.args.i) (rows_of t c.args.e) t.columns (positions t) c.loop-k.k

@@ -2,9 +2,9 @@
 use Rattle.std.specs.Prelude.{◌+◌}
 use Rattle.rob_simplex.specs.Dictionaries.{positions, rows_of}
 use Rattle.rob_simplex.proofs.LeastRows.{IsLeastSoFar}
-use Rattle.rob_simplex.proofs.dictionary.Dictionary.least.Given as goal
+use Rattle.rob_simplex.proofs.dictionary.Dictionary.least_by.Given as goal
 
-abbrev pub invariant-loop-seen : goal.invariant-loop-seen
-invariant-loop-seen g l =
+abbrev pub invariant-loop-passed : goal.invariant-loop-passed
+invariant-loop-passed g l =
     IsLeastSoFar l.fn.self.columns (positions l.fn.self) (rows_of l.fn.self) (l.fn.self.columns + positions l.fn.self)
-    l.seen l.best
+    l.passed l.best

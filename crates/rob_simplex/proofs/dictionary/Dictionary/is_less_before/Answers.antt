@@ -1,0 +1,33 @@
+use Rattle.std.proofs.Common.{◌≡◌, ◌+◌, ◌*ℤ◌, ◌-ℤ◌, ap, subst, arith, pos}
+use Rattle.rob_simplex.specs.Dictionaries.{Table, rows_of}
+use Rattle.rob_simplex.proofs.RatioLemmas.{both_zero}
+use Rattle.rob_simplex.proofs.Ties.{decided_before}
+use Rattle.rob_simplex.proofs.dictionary.Dictionary.is_less_before.Goals as goal
+
+pub returns-then-is_some_in : goal.returns-then-is_some_in
+returns-then-is_some_in g c =
+    let t = c.args.self.now in
+    let p = g.E.Entry.value c.args.p in
+    let q = g.E.Entry.value c.args.q in
+    let en : c.self.inside.columns ≡ c.args.self.now.columns = ap (λ (t : Table). t.columns) c.self.view_is in
+    record {
+      order =
+          decided_before c.args.before c.args.k c.is_less_at.result
+          ((p *ℤ rows_of t c.args.e (c.self.inside.columns + c.args.k))
+          -ℤ (q *ℤ rows_of t c.args.i (c.self.inside.columns + c.args.k)))
+          ((p *ℤ rows_of t c.args.e (t.columns + c.args.k)) -ℤ (q *ℤ rows_of t c.args.i (t.columns + c.args.k)))
+          (ap (λ n. (p *ℤ rows_of t c.args.e (n + c.args.k)) -ℤ (q *ℤ rows_of t c.args.i (n + c.args.k))) en)
+          (omega (arith, c.if-before-k.false)) c.is_less_at.ensures.order;
+    }
+
+pub returns : goal.returns
+returns g c =
+    let t = c.args.self.now in
+    let en : c.self.inside.columns ≡ c.args.self.now.columns = ap (λ (t : Table). t.columns) c.self.view_is in
+    record {
+      order = λ l.
+          both_zero (rows_of t c.args.i (t.columns + c.args.k)) (g.E.Entry.value c.args.p)
+          (rows_of t c.args.e (t.columns + c.args.k)) (g.E.Entry.value c.args.q)
+          (subst (λ n. rows_of t c.args.i (n + c.args.k) ≡ pos 0) en (c.is_some_in.ensures.i_zero c.if-is_some_in.false))
+          (subst (λ n. rows_of t c.args.e (n + c.args.k) ≡ pos 0) en (c.is_some_in.ensures.e_zero c.if-is_some_in.false));
+    }

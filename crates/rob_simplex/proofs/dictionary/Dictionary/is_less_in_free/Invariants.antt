@@ -1,0 +1,7 @@
+-- The listed columns so far don't decide.
+use Rattle.rob_simplex.proofs.Ties.{Tied}
+use Rattle.rob_simplex.proofs.dictionary.Dictionary.is_less_in_free.Given as goal
+
+abbrev pub invariant-loop-k : goal.invariant-loop-k
+invariant-loop-k g l =
+    Tied l.fn.self l.fn.i l.fn.e (g.E.Entry.value l.fn.p) (g.E.Entry.value l.fn.q) l.fn.before l.fn.free l.k-index
