@@ -14,8 +14,7 @@ tell_all-requires t c =
     let apart : around ++ c.innermost-item.result ∷ [] ≡ ranges =
     last_apart ranges c.innermost-item.result c.in-len1-up.len_at_least c.innermost-item.is in
     let fewer : length told < length ranges =
-    omega (arith, told_few [] ranges told c.requires.told, c.len.ensures, c.if-len-ranges.false) in
-    (
+    omega (arith, told_few [] ranges told c.requires.told, c.len.ensures, c.if-len-ranges.false) in (
       omega (arith, one_longer around c.innermost-item.result, ap length apart, c.decreases),
       told_around ranges around c.innermost-item.result told apart c.requires.told fewer,
     )

@@ -22,8 +22,7 @@ told_of-requires t c =
     let apart : around ++ c.innermost-item.result ∷ [] ≡ ranges =
     last_apart ranges c.innermost-item.result c.in-len1-up.len_at_least c.innermost-item.is in
     let fewer : length told < length ranges =
-    omega (arith, told_few [] ranges told c.requires.told, c.if-told-ranges.false) in
-    (
+    omega (arith, told_few [] ranges told c.requires.told, c.if-told-ranges.false) in (
       omega (arith, one_longer around c.innermost-item.result, ap length apart, c.decreases),
       told_around ranges around c.innermost-item.result told apart c.requires.told fewer,
     )
