@@ -1,5 +1,5 @@
 -- Nests that grow and shrink at their inner end.
-use Rattle.std.proofs.Common.{◌≡◌, ◌<◌, ◌≤◌, ◌+◌, ◌-◌, ℕ, Bool, true, false, List, [], ◌∷◌, ◌++◌, length, take, get_or, refl, sym, ap, ◌∙◌, subst, arith}
+use Rattle.std.proofs.Common.{◌≡◌, ◌<◌, ◌≤◌, ◌+◌, ◌-◌, ℕ, Bool, List, [], ◌∷◌, ◌++◌, length, take, get_or, refl, sym, ap, ◌∙◌, subst, arith}
 use Rattle.std.specs.Prelude.{◌&&◌, ◌||◌, pos, int_le, int_lt}
 use Rattle.rob_index.specs.Forms.{Ends, onto, fixed, all_run, is_dead, greatest, lack_form, length_form}
 use Rattle.rob_ranges.specs.declared.nest.Told.{Told}

@@ -8,7 +8,7 @@ pub record IsTold (nest : List Ends) (told : Told) : Type 0 where
   pub runs : told.runs ≡ all_run nest
   pub dead : told.dead ≡ is_dead nest
 
--- the last that is told; where nothing is, no range is open
+-- the last that is told; where nothing is, what is told of no range
 abbrev pub last_told : List Told → Told
 last_told [] = record { runs = true; dead = false }
 last_told (t ∷ []) = t

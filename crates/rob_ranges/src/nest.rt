@@ -1,7 +1,7 @@
 //! Nested ranges that are open, the outermost first. What their ends tell, whatever is asked, is worked out once for
 //! the ranges in which another one is entered, where much is asked inside that; else where it is asked for.
 
-ghost use Rattle.std.specs.Prelude.{◌≡◌, ◌++◌, ◌∷◌, ◌||◌, ◌&&◌, [], true, false, if◌then◌else◌, length, IfOk, OnOk, OnErr};
+ghost use Rattle.std.specs.Prelude.{◌≡◌, ◌++◌, ◌∷◌, ◌||◌, ◌&&◌, [], true, false, if◌then◌else◌, length, IfOk, OnOk};
 ghost use Rattle.rob_index.specs.Forms.{from_ends, onto};
 ghost use Rattle.rob_index.specs.Search.{search};
 ghost use Rattle.rob_ranges.specs.Nests.{AreTold, IsTold, all_but_last, last_told};
@@ -166,7 +166,7 @@ fn tell_all(alloc: Global, ranges: &[Ends], told: &mut Vec<Told>) -> Result<(), 
     }
 }
 
-/// The last that is told; where nothing is, no range is open.
+/// The last that is told; where nothing is, what is told of no range.
 fn last_told(told: &[Told]) -> Told
     ensures last { result ≡ last_told told.now }
 {
