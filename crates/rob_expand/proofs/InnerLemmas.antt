@@ -81,6 +81,23 @@ second_short (r ∷ s ∷ rs) vs k h =
     ∙ any_none (λ v. is_long_in (s ∷ rs) (v ∷ vs)) (values_of r vs)
     (λ v m. let n = inner_most r s vs v m in first_short (s ∷ rs) (v ∷ vs) (omega (arith, ints, h, n)))
 
+alone_short : (r : Ends) (vs : List ℤ) → value_of (length_form r) vs ≤ℤ pos 99 → is_long_in (r ∷ []) vs ≡ false
+alone_short r vs k =
+    let l : int_lt (pos 99) (value_of (length_form r) vs) ≡ false = lt_no (pos 99) (value_of (length_form r) vs) k in
+    (λ i. l i || list_any (λ v. is_long_in [] (v ∷ vs)) (values_of r vs))
+    ∙ any_none (λ v. is_long_in [] (v ∷ vs)) (values_of r vs) (λ v m. refl)
+
+pub both_short : (rs : List Ends) (vs : List ℤ) → length rs ≤ 2 → value_of (first_length rs) vs ≤ℤ pos 99
+    → value_of (second_length rs) vs ≤ℤ pos 99 → is_long_in rs vs ≡ false
+both_short [] vs few k h = refl
+both_short (r ∷ []) vs few k h = alone_short r vs k
+both_short (r ∷ s ∷ []) vs few k h =
+    let l : int_lt (pos 99) (value_of (length_form r) vs) ≡ false = lt_no (pos 99) (value_of (length_form r) vs) k in
+    (λ i. l i || list_any (λ v. is_long_in (s ∷ []) (v ∷ vs)) (values_of r vs))
+    ∙ any_none (λ v. is_long_in (s ∷ []) (v ∷ vs)) (values_of r vs)
+    (λ v m. let n = inner_most r s vs v m in alone_short s (v ∷ vs) (omega (arith, ints, h, n)))
+both_short (r ∷ s ∷ q ∷ rs) vs few k h = absurd (omega (arith, few))
+
 -- ---- no values at which neither length is below 0
 pub not_below : (a : ℤ) → int_lt a (pos 0) ≡ false → pos 0 ≤ℤ a
 not_below (pos n) h = omega (arith, ints)

@@ -46,6 +46,9 @@ ranges_told (r ∷ rs) vs =
     ∙ sym (worst_long (λ v. is_long_in rs (v ∷ vs)) (values_of r vs)))
     ∙ finding_both long false (list_any (λ v. is_long_in rs (v ∷ vs)) (values_of r vs)) false
 
+pub short_ranges : (rs : List Ends) (vs : List ℤ) → is_long_in rs vs ≡ false → Nothing ≡ ranges_found rs vs
+short_ranges rs vs short = sym (ranges_told rs vs ∙ ap (λ (b : Bool). finding b false) short)
+
 -- ---- items
 -- nothing is found of an item without a setting whose ranges aren't too long
 pub quiet_item : (x : Item) (vs : List ℤ) → extensions x.ranges vs ≡ [] → is_long_in x.ranges vs ≡ false

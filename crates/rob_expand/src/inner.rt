@@ -25,6 +25,9 @@ const SHORTEST: i128 = 0;
 /// How far it is at most where the range has no more than 100 values.
 const LONGEST: i128 = 99;
 
+/// The lengths of so many ranges are kept.
+const FEW: usize = 2;
+
 /// Ranges inside others, the outermost first. Contracts see their ends. Beside them stand the lengths of the first two,
 /// where these have few bits: they tell of most settings of the ranges around that there is none of these ranges.
 #[derive(Drop)]
@@ -121,6 +124,19 @@ impl Inner {
         }
     }
 
+    /// Whether the lengths tell that no range has more than 100 values, where there are two ranges at most.
+    pub fn is_short_at(&self, values: &[Whole]) -> bool
+        ensures short { IsTrue result → is_long_in self.now values.now ≡ false }
+    {
+        if self.ranges.items().len() > FEW {
+            return false;
+        }
+        match self.sizes_at(values) {
+            None => false,
+            Some(sizes) => are_short(sizes),
+        }
+    }
+
     /// Whether the lengths tell that there is no setting, and no range that has more than 100 values, anywhere in a
     /// span.
     pub fn is_quiet_in(&self, span: Span) -> bool
@@ -186,6 +202,17 @@ impl Inner {
         let second = apart_in(span, lengths);
         Some(Sizes { first, second })
     }
+}
+
+/// Whether neither size is that of a range with more than 100 values.
+fn are_short(sizes: Sizes) -> bool
+    ensures first { IsTrue result → sizes.first ≤ℤ pos 99 }
+    ensures second { IsTrue result → sizes.second ≤ℤ pos 99 }
+{
+    if sizes.first > LONGEST {
+        return false;
+    }
+    sizes.second <= LONGEST
 }
 
 /// A number that is below 0 only if at each place in a span one of both lengths is. Their sum is asked for only where

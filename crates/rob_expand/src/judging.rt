@@ -15,6 +15,7 @@ ghost use Rattle.rob_expand.specs.Placed.{factors_of, part_of, parts_of, placed_
 ghost use Rattle.rob_expand.specs.Spots.{IsThinAt, picks};
 ghost use Rattle.rob_ranges.specs.Spans.{Every};
 
+use crate::inner::Inner;
 use crate::line::{Item, Line};
 use crate::lines::line_of;
 use crate::live::first_live;
@@ -348,13 +349,24 @@ fn judge_item(alloc: Global, item: &Item, values: &[Whole]) -> Result<Finding, M
     if item.ranges.is_quiet_at(values) {
         return Ok(Finding::Nothing);
     }
-    let found = judge_ranges(alloc, item.ranges.ranges(), values)?;
+    let found = judge_lengths(alloc, &item.ranges, values)?;
     if is_too_long(found) {
         return Ok(found);
     }
     let settings = item.ranges.settings(alloc, values)?;
     let here = judge_entries(alloc, item.name.indices.items(), settings.items())?;
     Ok(worse(found, here))
+}
+
+/// How long the ranges of an item are. Where the lengths tell that none is too long, no value is put in.
+fn judge_lengths(alloc: Global, ranges: &Inner, values: &[Whole]) -> Result<Finding, Memory>
+    ensures found { IfOk result (λ found. found ≡ ranges_found ranges.now values.now) }
+{
+    if ranges.is_short_at(values) {
+        Ok(Finding::Nothing)
+    } else {
+        judge_ranges(alloc, ranges.ranges(), values)
+    }
 }
 
 /// The indices of a name in each of some settings.

@@ -1,6 +1,5 @@
-use Rattle.std.proofs.Common.{List, ap, sym, ◌∙◌}
-use Rattle.std.specs.Prelude.{ℤ}
-use Rattle.rob_index.specs.Forms.{Form, Ends, extensions}
+use Rattle.std.proofs.Common.{sym, ◌∙◌}
+use Rattle.rob_index.specs.Forms.{extensions}
 use Rattle.rob_expand.specs.Judging.{worst, indices_found, ranges_found}
 use Rattle.rob_expand.proofs.FindingLemmas.{worse_both}
 use Rattle.rob_expand.proofs.JudgeLemmas.{quiet_item, long_first}
@@ -21,7 +20,7 @@ returns-then-is_too_long c =
       found =
           long_first c.in_ok-found.found (ranges_found x.ranges vs)
           (worst (indices_found x.name.indices) (extensions x.ranges vs))
-          (c.in_ok-found.ensures.found ∙ ap (λ (rs : List Ends). ranges_found rs vs) c.ranges-2.ensures.ranges)
+          c.in_ok-found.ensures.found
           (sym c.is_too_long.ensures.is ∙ c.if-is_too_long.true);
     }
 
@@ -34,6 +33,6 @@ returns c =
       found =
           c.worse.ensures.worse
           ∙ worse_both
-          (c.in_ok-found.ensures.found ∙ ap (λ (rs : List Ends). ranges_found rs vs) c.ranges-2.ensures.ranges)
+          c.in_ok-found.ensures.found
           (c.in_ok-here.ensures.found ∙ (λ i. worst (indices_found (c.items.ensures.list i)) (settings i)));
     }
