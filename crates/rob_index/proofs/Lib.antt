@@ -5,6 +5,7 @@ pub mod DecisionLemmas
 pub mod FastLemmas
 pub mod ExpansionLemmas
 pub mod PlainLemmas
+pub mod FewLemmas
 pub mod WorkLemmas
 pub mod SearchLemmas
 pub mod ReadingLemmas

@@ -6,10 +6,11 @@ use Rattle.rob_index.specs.Symbols.{Symbol, Mark, Keyword, name, digits, sign, w
 use Rattle.rob_index.specs.Symbols as is
 use Rattle.rob_index.specs.Statements.{Ranged, Indexed, Tree, uncertain, over, set, budget, variable, adaptive, goal, row}
 use Rattle.rob_index.specs.Grammar.{Expr}
+use Rattle.rob_index.specs.FewIndices.{has_few_indices}
 use Rattle.rob_index.specs.Lines.{spell_line, AreAllRanged, HasMembers, IsLine, IsStatement, statement_of}
 use Rattle.rob_index.proofs.ListLemmas.{both_true}
 use Rattle.rob_index.proofs.Parser.{Got, got, mark_code, word_code}
-use Rattle.rob_index.proofs.OneStatement.{front_line, line_read}
+use Rattle.rob_index.proofs.OneStatement.{front_line, line_read, one_line}
 use Rattle.rob_index.proofs.LineSizes.{line_fits}
 
 mark_at : ℕ → Mark
@@ -226,6 +227,17 @@ line_settled symbols = go (front_line (fuel symbols) symbols) refl
 pub statement_settled : (symbols : List Symbol)
     → ((s : Indexed Tree) × IsStatement symbols s) ⊎ ((s : Indexed Tree) → IsStatement symbols s → ⊥)
 statement_settled symbols = elim (line_settled symbols) [
-  | inl x ↦ inl (statement_of x.0, record { line = x.0; is_line = x.1; spelled = x.2; statement_is = refl })
+  | inl x ↦ of_line x.0 x.1 x.2 (has_few_indices (statement_of x.0)) refl
   | inr none ↦ inr (λ s x. none x.line x.is_line x.spelled)
 ]
+  where
+    of_line : (l : Indexed Expr) → IsLine l → symbols ≡ spell_line l → (b : Bool)
+        → has_few_indices (statement_of l) ≡ b
+        → ((s : Indexed Tree) × IsStatement symbols s) ⊎ ((s : Indexed Tree) → IsStatement symbols s → ⊥)
+    of_line l ok spelled true h =
+        inl (statement_of l, record { line = l; is_line = ok; spelled = spelled; statement_is = refl; few = h })
+    of_line l ok spelled false h = inr (λ s x.
+        let same : x.line ≡ l = one_line x.line l x.is_line ok (sym x.spelled ∙ spelled) in
+        let is : s ≡ statement_of l = sym x.statement_is ∙ ap statement_of same in
+        let w : true ≡ false = sym x.few ∙ ap has_few_indices is ∙ h in
+        cc)

@@ -2,6 +2,7 @@ pub mod Symbols
 pub mod Membership
 pub mod Statements
 pub mod Grammar
+pub mod FewIndices
 pub mod Lines
 pub mod Expansion
 pub mod PlainLines

@@ -1,10 +1,11 @@
 -- The lines of version 2: how each is spelled, and the statement with its trees that a line is.
-use Rattle.std.specs.Prelude.{◌≡◌, ◌≤◌, List, [], ◌∷◌, ◌++◌, length}
+use Rattle.std.specs.Prelude.{◌≡◌, ◌≤◌, true, List, [], ◌∷◌, ◌++◌, length}
 use Rattle.rob_index.specs.Symbols.{Symbol}
 use Rattle.rob_index.specs.Symbols as is
 use Rattle.rob_index.specs.Statements.{Rel, Sense, minimise, maximise, Range, Ranged, Share, Sides, Indexed, uncertain, over, set, budget, variable, adaptive, goal, row, Tree}
 use Rattle.rob_index.specs.Statements as stated
 use Rattle.rob_index.specs.Grammar.{Expr, spell_list, spell_ref, spell_ranges, spell_over, spell_number, spell_signed, spell_bounds, spell_expr, tree_expr}
+use Rattle.rob_index.specs.FewIndices.{has_few_indices}
 
 -- "<=" | ">=" | "="
 abbrev pub spell_rel : Rel → Symbol
@@ -91,3 +92,5 @@ pub record IsStatement (symbols : List Symbol) (s : Indexed Tree) : Type 0 where
   pub is_line : IsLine line
   pub spelled : symbols ≡ spell_line line
   pub statement_is : statement_of line ≡ s
+  -- no name has more indices than it may
+  pub few : has_few_indices s ≡ true

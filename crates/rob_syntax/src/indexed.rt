@@ -3,6 +3,7 @@
 mod bounds;
 mod budget;
 mod expr;
+mod few;
 mod front;
 mod index;
 mod limits;

@@ -4,6 +4,7 @@ use Rattle.std.proofs.Common.{◌≡◌, ◌≤◌, ◌+◌, ℕ, List, [], ◌�
 use Rattle.std.proofs.lemmas.List.{length-map}
 use Rattle.std.specs.Prelude.{Option, Some, None}
 use Rattle.std.specs.Option.{option_map}
+use Rattle.rob_index.proofs.FewLemmas.{plain_few}
 use Rattle.rob_index.proofs.LineTokens.{line_tokens_fit}
 use Rattle.rob_index.proofs.PlainLemmas.{at_itself}
 use Rattle.rob_index.specs.Counting.{line_tokens}
@@ -357,7 +358,13 @@ module _ (words : List (List ℕ)) where
       record {
         tree = t;
         is_of = (
-          record { line = plain_line l; is_line = is_line l; spelled = spelled; statement_is = refl },
+          record {
+            line = plain_line l;
+            is_line = is_line l;
+            spelled = spelled;
+            statement_is = refl;
+            few = plain_few t (is_plain l);
+          },
           is_plain l,
         );
         has = has_member l;

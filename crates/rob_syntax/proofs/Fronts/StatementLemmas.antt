@@ -1,9 +1,10 @@
 -- Lines from their keyword and what stands behind it.
-use Rattle.std.proofs.Common.{◌≡◌, List, [], ◌∷◌, Option, refl, sym, ap, ◌∙◌, subst, append-nil}
+use Rattle.std.proofs.Common.{◌≡◌, true, false, List, [], ◌∷◌, Option, refl, sym, ap, ◌∙◌, subst, append-nil}
 use Rattle.rob_index.specs.Symbols.{Symbol, word}
 use Rattle.rob_index.specs.Symbols as is
 use Rattle.rob_index.specs.Statements.{Numeral, Bounds, Sense, minimise, maximise, Ref, Range, Ranged, Share, Sides, Indexed, Tree, uncertain, over, set, budget, variable, adaptive, goal, row}
 use Rattle.rob_index.specs.Grammar.{Expr}
+use Rattle.rob_index.specs.FewIndices.{has_few_indices}
 use Rattle.rob_index.specs.Lines.{spell_line, statement_of, IsLine, IsStatement}
 use Rattle.rob_syntax.specs.Fronts.{EndsLine, Found, IsMissing, HasCause, Reads}
 use Rattle.rob_syntax.specs.Parts.{spell_named, spell_declared, spell_related, tree_related, spell_row, tree_row, spell_goal, tree_goal, spell_budget, spell_adaptive}
@@ -270,22 +271,32 @@ line_seen (adaptive r on b rs) few = few
 line_seen (goal s e o rs) few = few
 line_seen (row r s rs) few = few
 
-pub statement_read : {symbols : List Symbol} {s : Indexed Tree} → ReadsLine symbols s → IsLine s → IsStatement symbols s
-statement_read {symbols} {s} read few = record {
+pub statement_read : {symbols : List Symbol} {s : Indexed Tree} → ReadsLine symbols s → IsLine s
+    → has_few_indices s ≡ true → IsStatement symbols s
+statement_read {symbols} {s} read line few = record {
   line = read.line;
-  is_line = line_kept read.line (subst (λ (t : Indexed Tree). IsLine t) (sym read.statement_is) few);
+  is_line = line_kept read.line (subst (λ (t : Indexed Tree). IsLine t) (sym read.statement_is) line);
   spelled = read.spelled;
   statement_is = read.statement_is;
+  few = few;
 }
 
 pub no_statement : {symbols : List Symbol} → IsNoLine symbols → IsNoStatement symbols
 no_statement none s is = none is.line is.spelled
 
-pub not_few : {symbols : List Symbol} {s : Indexed Tree} → ReadsLine symbols s → (IsLine s → ⊥) → IsNoStatement symbols
-not_few {symbols} {s} read many t is =
+pub not_line : {symbols : List Symbol} {s : Indexed Tree} → ReadsLine symbols s → (IsLine s → ⊥) → IsNoStatement symbols
+not_line {symbols} {s} read many t is =
     many
     (subst (λ (v : Indexed Tree). IsLine v) read.statement_is
     (line_seen read.line (subst (λ (l : Indexed Expr). IsLine l) (read.only is.line is.spelled) is.is_line)))
+
+pub not_few : {symbols : List Symbol} {s : Indexed Tree} → ReadsLine symbols s → has_few_indices s ≡ false
+    → IsNoStatement symbols
+not_few {symbols} {s} read many t is =
+    let same : t ≡ s =
+    sym is.statement_is ∙ ap statement_of (read.only is.line is.spelled) ∙ read.statement_is in
+    let w : true ≡ false = sym is.few ∙ ap has_few_indices same ∙ many in
+    cc
 
 -- a refusal of a line is one of a statement
 pub statement_cause : (symbols : List Symbol) (e : ParseErr) → HasLineCause symbols e → HasStatementCause symbols e

@@ -11,6 +11,7 @@ ghost use Rattle.rob_syntax.specs.Whole.{ReadsLine, HasLineCause, HasStatementCa
 
 use crate::error::ParseErr;
 use crate::indexed::budget::budget;
+use crate::indexed::few::has_few_indices;
 use crate::indexed::front::behind_mark;
 use crate::indexed::index::reference;
 use crate::indexed::limits::is_line;
@@ -27,7 +28,10 @@ pub fn read_statement(alloc: Global, symbols: &[Symbol]) -> Result<Indexed, Pars
         (λ e. HasStatementCause (seen_line symbols.now) e) }
 {
     let statement = read_line(alloc, symbols)?;
-    if is_line(&statement) {
+    if !is_line(&statement) {
+        return Err(ParseErr::NotAStatement);
+    }
+    if has_few_indices(&statement) {
         Ok(statement)
     } else {
         Err(ParseErr::NotAStatement)
