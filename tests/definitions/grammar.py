@@ -14,6 +14,7 @@ NAME = re.compile(r"[A-Za-z_][A-Za-z_0-9]*$")
 KEYWORDS = set("uncertain set budget var adaptive minimise minimize maximise maximize row in at by objective tau model "
                "over sum for to".split())
 MOST_TOKENS, MOST_OPEN, LONGEST = 20_000, 50, 32
+MOST_INDICES = 15                    # with one more the shortest name that it gives is longer
 sys.set_int_max_str_digits(0)        # digits may be as many as a text has bytes
 
 
@@ -145,6 +146,8 @@ class Line:
             while self.took(","):
                 indices.append(self.index())
             self.expect("]")
+        if len(indices) > MOST_INDICES:
+            raise NoStatement
         return name, indices
 
     def range(self):

@@ -54,28 +54,12 @@ printed_small z = go (int_lt z (pos 0)) (int_lt (pos greatest_index) z) refl ref
         omega (arith, small)
 
 -- ---- names
--- each index has two bytes at least
-two_each : (vs : List ℤ) (fs : List Form) → 2 * length fs ≤ length (flat_map (index_bytes vs) fs)
-two_each vs [] = omega arith
-two_each vs (f ∷ fs) =
-    let some = decimal_nonempty (printed (value_of f vs)) (printed_small (value_of f vs)) in
-    let all = length-append (index_bytes vs f) (flat_map (index_bytes vs) fs) in
-    let behind = two_each vs fs in
-    omega (arith, some, all, behind)
-
 module _ (own : List Name) (n : Named) (vs : List ℤ) where
   long_by : longest_name < length (named_at own n vs) → is_long_name (named_at own n vs) ≡ true
   long_by h = lt-ltb longest_name (length (named_at own n vs)) h
 
   parts : length (named_at own n vs) ≡ length (get_or own n.word []) + length (flat_map (index_bytes vs) n.indices)
   parts = length-append (get_or own n.word []) (flat_map (index_bytes vs) n.indices)
-
-  -- with so many indices it is too long
-  pub long_indices : 16 < length n.indices → is_long_name (named_at own n vs) ≡ true
-  long_indices many =
-      let all = parts in
-      let some = two_each vs n.indices in
-      long_by (omega (arith, all, some, many))
 
   -- with so long a word it is
   pub long_word : (word : List ℕ) → word ≡ get_or own n.word [] → 32 < length word
@@ -93,9 +77,6 @@ is_over n bytes is len len_is over =
 pub is_within : (n bytes : Name) → bytes ≡ n → (len : ℕ) → len ≡ length bytes → len ≤ 32 → is_long_name n ≡ false
 is_within n bytes is len len_is within =
     le-ltb longest_name (length n) (omega (arith, ap (λ (b : Name). length b) is, len_is, within))
-
-pub is_more : (xs ys : List Form) → xs ≡ ys → (len : ℕ) → len ≡ length xs → 16 < len → 16 < length ys
-is_more xs ys same len len_is more = omega (arith, ap (λ (l : List Form). length l) same, len_is, more)
 
 -- ---- words
 module _ (words : List Name) (n : Name) where

@@ -19,9 +19,6 @@ use std::alloc::Global;
 /// The bytes that a name may have.
 const LONGEST_NAME: usize = 32;
 
-/// No name with more indices is as short: each has two bytes at least.
-const MOST_INDICES: usize = 16;
-
 /// The greatest value of an index.
 const GREATEST_INDEX: i64 = 999;
 
@@ -72,9 +69,6 @@ fn is_surely_long(own: &Words, name: &Named) -> bool
     ensures long { result ≡ true
         → (values : Items ℤ) → is_long_name (named_at (texts own.now.keys) name.now values) ≡ true }
 {
-    if name.indices.items().len() > MOST_INDICES {
-        return true;
-    }
     word_at(own, name.word).len() > LONGEST_NAME
 }
 
