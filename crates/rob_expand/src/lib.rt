@@ -29,4 +29,3 @@ pub use expansion::expand;
 pub use fits::has_room;
 pub use judging::{Judged, judge};
 pub use name::Refusal;
-pub use room::Stop;

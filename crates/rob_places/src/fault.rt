@@ -1,4 +1,4 @@
-//! The rules 25, 26 and 27: whether some place of a statement breaks them.
+//! The rules 25, 26 and 27: whether some place of a statement breaks them, of 26 and 27 as far as a search finds it.
 
 ghost use Rattle.std.specs.Prelude.{◌≡◌, ◌||◌, IfOk, OnOk};
 ghost use Rattle.std.specs.List.{list_any};
