@@ -73,7 +73,8 @@ pub worst_same : {A : Type 0} (f g : A → Finding) → ((x : A) → f x ≡ g x
 worst_same f g h [] = refl
 worst_same f g h (x ∷ xs) = worse_both (h x) (worst_same f g h xs)
 
-pub worst_append : {A : Type 0} (f : A → Finding) (xs ys : List A) → worst f (xs ++ ys) ≡ worse (worst f xs) (worst f ys)
+pub worst_append : {A : Type 0} (f : A → Finding) (xs ys : List A)
+    → worst f (xs ++ ys) ≡ worse (worst f xs) (worst f ys)
 worst_append f [] ys = refl
 worst_append f (x ∷ xs) ys =
     ap (worse (f x)) (worst_append f xs ys) ∙ sym (worse_assoc (f x) (worst f xs) (worst f ys))

@@ -301,7 +301,8 @@ module _ (limit : ℕ) (s : Indexed Tree) (ranges : List Ends) (line : Line) (is
       ∙ worst_worse items over nest)
       ∙ worst_worse trees (λ vs. worse (items vs) (over vs)) nest)
       ∙ worst_worse head (λ vs. worse (trees vs) (worse (items vs) (over vs))) nest
-      ∙ worst_same (λ vs. worse (head vs) (worse (trees vs) (worse (items vs) (over vs)))) (line_found line) line_is nest
+      ∙ worst_same (λ vs. worse (head vs) (worse (trees vs) (worse (items vs) (over vs)))) (line_found line) line_is
+      nest
 
   pub statement_found : lines_found ranges line ≡ finding (list_any is_long (places s)) (list_any is_out (places s))
   statement_found =

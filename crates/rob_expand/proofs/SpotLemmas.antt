@@ -248,7 +248,8 @@ spent first behind zero room left is =
 spent first behind (suc n) room left is =
     let some = entries_some first behind (suc n) in
     let paid = left_less (entries_tokens first (1 + behind) (suc n)) room left is in
-    ne_eqb (suc n) 0 (λ e. absurd (omega (arith, e))) ∙ sym (ne_eqb left room (λ e. absurd (omega (arith, some, paid, e))))
+    ne_eqb (suc n) 0 (λ e. absurd (omega (arith, e)))
+    ∙ sym (ne_eqb left room (λ e. absurd (omega (arith, some, paid, e))))
 
 module _ (rest : List Item) (vs : List ℤ) (first : Bool) (room : ℕ) where
   -- what is left behind the others

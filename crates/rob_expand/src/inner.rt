@@ -140,8 +140,10 @@ impl Inner {
     /// Whether the lengths tell that there is no setting, and no range that has more than 100 values, anywhere in a
     /// span.
     pub fn is_quiet_in(&self, span: Span) -> bool
-        ensures empty { IsTrue result → (vs : Items ℤ) → IsIn span vs → extensions self.now vs ≡ [] }
-        ensures short { IsTrue result → (vs : Items ℤ) → IsIn span vs → is_long_in self.now vs ≡ false }
+        ensures empty { IsTrue result → (vs : Items ℤ) → IsIn span vs → extensions self.now vs
+            ≡ [] }
+        ensures short { IsTrue result → (vs : Items ℤ) → IsIn span vs → is_long_in self.now vs
+            ≡ false }
     {
         match self.sizes_in(span) {
             None => false,
@@ -152,7 +154,8 @@ impl Inner {
 
     /// Whether the lengths tell that there is no setting anywhere in a span.
     pub fn is_empty_in(&self, span: Span) -> bool
-        ensures empty { IsTrue result → (vs : Items ℤ) → IsIn span vs → extensions self.now vs ≡ [] }
+        ensures empty { IsTrue result → (vs : Items ℤ) → IsIn span vs → extensions self.now vs
+            ≡ [] }
     {
         match self.sizes_in(span) {
             None => false,
@@ -172,8 +175,10 @@ impl Inner {
 
     /// The lengths at some values, where they have few bits.
     fn sizes_at(&self, values: &[Whole]) -> Option<Sizes>
-        ensures first { IfSome result (λ sizes. value_of (spec.first_length self.now) values.now ≡ sizes.first) }
-        ensures second { IfSome result (λ sizes. value_of (spec.second_length self.now) values.now ≡ sizes.second) }
+        ensures first { IfSome result (λ sizes. value_of (spec.first_length self.now) values.now
+            ≡ sizes.first) }
+        ensures second { IfSome result (λ sizes. value_of (spec.second_length self.now) values.now
+            ≡ sizes.second) }
     {
         let lengths = self.lengths?;
         let pair = pair_of(values)?;
@@ -256,7 +261,8 @@ fn combination(alloc: Global, first: &Form, second: &Form) -> Result<Form, Memor
 
 /// The factor of the innermost value, without its sign.
 fn weight(alloc: Global, form: &Form) -> Result<Whole, Memory>
-    ensures weight { IfOk result (λ weight. weight ≡ pos (nat_abs (first_factor form.now.factors))) }
+    ensures weight { IfOk result (λ weight. weight
+        ≡ pos (nat_abs (first_factor form.now.factors))) }
 {
     match form.factors() {
         [] => Ok(Whole::small(alloc, 0)),
@@ -278,8 +284,10 @@ fn size(alloc: Global, number: &Whole) -> Result<Whole, Memory>
 
 /// Three forms with few bits.
 fn all_short(first: &Form, second: &Form, combined: &Form) -> Option<Lengths>
-    ensures first { IfSome result (λ kept. (vs : Items ℤ) → value_of first.now vs ≡ short_value kept.first vs) }
-    ensures second { IfSome result (λ kept. (vs : Items ℤ) → value_of second.now vs ≡ short_value kept.second vs) }
+    ensures first { IfSome result (λ kept. (vs : Items ℤ) → value_of first.now vs
+        ≡ short_value kept.first vs) }
+    ensures second { IfSome result (λ kept. (vs : Items ℤ) → value_of second.now vs
+        ≡ short_value kept.second vs) }
     ensures combined { IfSome result (λ kept. (vs : Items ℤ)
         → value_of combined.now vs ≡ short_value kept.combined vs) }
 {

@@ -44,7 +44,8 @@ pub fn append_instances(
 ) -> Result<(), Memory>
     requires line { IsLineOf (seen_statement statement.now) line.now }
     requires thin { Every (IsThin line.now.items) spots.now }
-    ensures appended { OnOk result (list.new ≡ list.old ++ map (λ (s : SpecSpot). numbered (texts words.now.keys)
+    ensures appended { OnOk result (list.new
+        ≡ list.old ++ map (λ (s : SpecSpot). numbered (texts words.now.keys)
         (instance (texts own.now.keys) printed (seen_statement statement.now) s.values)) spots.now) }
 {
     for spot in spots {
@@ -348,7 +349,8 @@ fn append_members(
     shares: &[Ranged<Share>],
     values: &[Whole],
 ) -> Result<(), Memory>
-    ensures appended { OnOk result (members.new ≡ members.old ++ map (numbered_member (texts words.now.keys))
+    ensures appended { OnOk result (members.new
+        ≡ members.old ++ map (numbered_member (texts words.now.keys))
         (each_at (texts own.now.keys) printed (member_at (texts own.now.keys) printed) []
         (map (seen_ranged seen_share) shares.now) values.now)) }
 {
@@ -431,7 +433,8 @@ fn append_numbers(
     name: &Named,
     settings: &[Setting],
 ) -> Result<(), Memory>
-    ensures appended { OnOk result (numbers.new ≡ numbers.old ++ map (number_of (texts words.now.keys))
+    ensures appended { OnOk result (numbers.new
+        ≡ numbers.old ++ map (number_of (texts words.now.keys))
         (map (named_at (texts own.now.keys) name.now) settings.now)) }
 {
     for setting in settings {

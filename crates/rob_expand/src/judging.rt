@@ -50,7 +50,8 @@ enum Finding {
 
 /// What is found of a statement.
 pub fn judge(alloc: Global, limit: u64, statement: &Indexed) -> Result<Judged, Memory>
-    ensures long { IfOk result (λ judged. judged.long ≡ list_any is_long (places (seen_statement statement.now))) }
+    ensures long { IfOk result (λ judged. judged.long
+        ≡ list_any is_long (places (seen_statement statement.now))) }
     ensures out { IfOk result (λ judged. judged.long ≡ false
         → judged.out ≡ list_any is_out (places (seen_statement statement.now))) }
 {
@@ -296,7 +297,8 @@ fn is_outside(alloc: Global, value: &Whole) -> Result<bool, Memory>
 
 /// Some expressions.
 fn judge_trees(alloc: Global, trees: &[Placed], values: &[Whole]) -> Result<Finding, Memory>
-    ensures found { IfOk result (λ found. found ≡ worst (λ t. tree_found (placed_of t) values.now) trees.now) }
+    ensures found { IfOk result (λ found. found
+        ≡ worst (λ t. tree_found (placed_of t) values.now) trees.now) }
 {
     let mut found = Finding::Nothing;
     for tree in trees {
@@ -398,7 +400,8 @@ fn judge_tree(alloc: Global, placed: &Placed, values: &[Whole]) -> Result<Findin
 /// The parts of a sum.
 #[cycle(judge_tree)]
 fn judge_parts(alloc: Global, parts: &[Part], values: &[Whole]) -> Result<Finding, Memory>
-    ensures found { IfOk result (λ found. found ≡ parts_found (parts_of (map part_of parts.now)) values.now) }
+    ensures found { IfOk result (λ found. found
+        ≡ parts_found (parts_of (map part_of parts.now)) values.now) }
 {
     let mut found = Finding::Nothing;
     for part in parts {

@@ -19,7 +19,8 @@ ghost use Rattle.rob_expand.specs.Statements.{IsLine};
 
 /// What is left behind an expression is what is left behind the canonical tokens of what it stands for.
 pub fn tokens_left()
-    ensures tokens { (limit : ℕ) (words : List Name) (print : ℤ → ℕ) (p : Placed) (vs : List ℤ) (room : ℕ)
+    ensures tokens { (limit : ℕ) (words : List Name) (print : ℤ → ℕ) (p : Placed) (vs : List ℤ)
+        (room : ℕ)
         → rest_of (tree_left limit p vs room) ≡ left_of (plain_tokens limit (plain_at words print p vs)) room }
 {}
 
@@ -31,7 +32,8 @@ pub fn stands_for()
 
 /// What is left behind the lines of all settings is what is left behind the canonical tokens of all plain statements.
 pub fn lines_left()
-    ensures tokens { (limit : ℕ) (words : List Name) (s : Indexed Tree) (ranges : List Ends) (line : Line)
+    ensures tokens { (limit : ℕ) (words : List Name) (s : Indexed Tree) (ranges : List Ends)
+        (line : Line)
         → IsLine limit s ranges line → (room : ℕ)
         → all_left (line_left line) (extensions ranges []) room ≡ left_of (lines_tokens limit (expand words s)) room }
 {}

@@ -40,7 +40,8 @@ fn first_of(
         ((w : ℤ) → from.now ≤ℤ w → pos 0 <ℤ lack_at range.now values.now w)
         (λ v. (from.now ≤ℤ v)
         × ((w : ℤ) → from.now ≤ℤ w → w <ℤ v → pos 0 <ℤ lack_at range.now values.now w))) }
-    ensures alive { IfOk result (λ live. IfSome live (λ v. pos 0 <ℤ lack_at range.now values.now v → ⊥)) }
+    ensures alive { IfOk result (λ live. IfSome live
+        (λ v. pos 0 <ℤ lack_at range.now values.now v → ⊥)) }
 {
     let here = lack(alloc, range, from, values)?;
     if is_positive(alloc, &here)? {
@@ -64,7 +65,8 @@ fn first_behind(
         ((w : ℤ) → from.now ≤ℤ w → pos 0 <ℤ lack_at range.now values.now w)
         (λ v. (from.now ≤ℤ v)
         × ((w : ℤ) → from.now ≤ℤ w → w <ℤ v → pos 0 <ℤ lack_at range.now values.now w))) }
-    ensures alive { IfOk result (λ live. IfSome live (λ v. pos 0 <ℤ lack_at range.now values.now v → ⊥)) }
+    ensures alive { IfOk result (λ live. IfSome live
+        (λ v. pos 0 <ℤ lack_at range.now values.now v → ⊥)) }
 {
     let step = fall(alloc, range, from, values, here)?;
     if is_positive(alloc, &step)? {

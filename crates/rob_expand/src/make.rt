@@ -109,7 +109,8 @@ fn make_over(
     inner: &Placed,
     values: &[Whole],
 ) -> Result<Syntax, Memory>
-    ensures made { IfOk result (λ made. made ≡ summed_of (made_each (texts own.now.keys) (texts words.now.keys)
+    ensures made { IfOk result (λ made. made
+        ≡ summed_of (made_each (texts own.now.keys) (texts words.now.keys)
         (placed_of inner.now) values.now (values_of ends.now values.now))) }
 {
     let mut made = Vec::new(alloc);

@@ -74,7 +74,8 @@ fn is_surely_long(own: &Words, name: &Named) -> bool
 
 /// Adds a word behind the others, unless it is among them.
 fn insert(words: &mut Words, word: Vec<u8>) -> Result<(), Memory>
-    ensures words { OnOk result (texts words.new.keys ≡ symbols.add_word (texts words.old.keys) word.items) }
+    ensures words { OnOk result (texts words.new.keys
+        ≡ symbols.add_word (texts words.old.keys) word.items) }
 {
     words.insert(word)?;
     Ok(())
@@ -104,7 +105,8 @@ fn number_of(words: &Words, word: &[u8]) -> usize
 
 /// The bytes of a name: its word, then each index behind `_`.
 fn name_bytes(alloc: Global, own: &Words, name: &Named, values: &[Whole]) -> Result<Vec<u8>, Memory>
-    ensures bytes { IfOk result (λ bytes. bytes.items ≡ named_at (texts own.now.keys) name.now values.now) }
+    ensures bytes { IfOk result (λ bytes. bytes.items
+        ≡ named_at (texts own.now.keys) name.now values.now) }
 {
     let mut bytes = Vec::from_slice(alloc, word_at(own, name.word))?;
     append_indices(&mut bytes, alloc, name.indices.items(), values)?;
@@ -128,7 +130,8 @@ fn append_indices(
     forms: &[Form],
     values: &[Whole],
 ) -> Result<(), Memory>
-    ensures appended { OnOk result (bytes.new.items ≡ bytes.old.items ++ flat_map (index_bytes values.now) forms.now) }
+    ensures appended { OnOk result (bytes.new.items
+        ≡ bytes.old.items ++ flat_map (index_bytes values.now) forms.now) }
 {
     for form in forms {
         append_index(bytes, alloc, form, values)?;
@@ -143,7 +146,8 @@ fn append_index(
     form: &Form,
     values: &[Whole],
 ) -> Result<(), Memory>
-    ensures appended { OnOk result (bytes.new.items ≡ bytes.old.items ++ index_bytes values.now form.now) }
+    ensures appended { OnOk result (bytes.new.items
+        ≡ bytes.old.items ++ index_bytes values.now form.now) }
 {
     let value = form.value(alloc, values)?;
     let number = printed(alloc, &value)?;

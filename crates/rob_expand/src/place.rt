@@ -20,7 +20,8 @@ use std::alloc::Global;
 /// An expression over the values of the ranges around it, whose names are these, the innermost first.
 #[cycle(place)]
 pub fn place(alloc: Global, names: &[usize], tree: &Tree) -> Result<Placed, Memory>
-    ensures placed { IfOk result (λ placed. placed_of placed ≡ placed_tree names.now (seen_tree tree.now)) }
+    ensures placed { IfOk result (λ placed. placed_of placed
+        ≡ placed_tree names.now (seen_tree tree.now)) }
 {
     match tree {
         Tree::Number(number) => Ok(Placed::Number(*number)),
@@ -86,7 +87,8 @@ pub fn place_over(
     names: &[usize],
     over: &Option<Ref>,
 ) -> Result<Option<Named>, Memory>
-    ensures named { IfOk result (λ named. named ≡ option_map (placed_name names.now) (seen_over over.now)) }
+    ensures named { IfOk result (λ named. named
+        ≡ option_map (placed_name names.now) (seen_over over.now)) }
 {
     match over {
         None => Ok(None),

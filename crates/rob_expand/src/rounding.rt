@@ -25,7 +25,8 @@ pub fn lowered(alloc: Global, form: &Form) -> Result<Form, Memory>
 
 /// How great a form is at least, wherever it isn't below 0; 0 where its numbers have many bits.
 fn least_of(form: &Form) -> u64
-    ensures least { (vs : Items ℤ) → pos 0 ≤ℤ value_of form.now vs → pos result ≤ℤ value_of form.now vs }
+    ensures least { (vs : Items ℤ) → pos 0 ≤ℤ value_of form.now vs → pos result
+        ≤ℤ value_of form.now vs }
 {
     match short_of(form) {
         None => 0,
@@ -35,7 +36,8 @@ fn least_of(form: &Form) -> u64
 
 /// The same of a form with few bits.
 fn least_of_short(form: Short) -> u64
-    ensures least { (vs : Items ℤ) → pos 0 ≤ℤ short_value form vs → pos result ≤ℤ short_value form vs }
+    ensures least { (vs : Items ℤ) → pos 0 ≤ℤ short_value form vs → pos result
+        ≤ℤ short_value form vs }
 {
     let divisor = divisor_of(form);
     let first = rest(i128::from(form.first), divisor);

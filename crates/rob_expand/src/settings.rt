@@ -56,7 +56,8 @@ fn append_settings(
     values: &[Whole],
     room: u32,
 ) -> Result<u32, Stop>
-    ensures appended { OnOk result (settings.new ≡ settings.old ++ extensions ranges.now values.now) }
+    ensures appended { OnOk result (settings.new
+        ≡ settings.old ++ extensions ranges.now values.now) }
     ensures left { MatchResult result
         (λ left. left_of (length (extensions ranges.now values.now)) room ≡ Some left)
         (λ e. HasStop (left_of (length (extensions ranges.now values.now)) room) e) }
@@ -86,7 +87,8 @@ fn append_values(
     values: &[Whole],
     room: u32,
 ) -> Result<u32, Stop>
-    ensures appended { OnOk result (settings.new ≡ settings.old ++ between from upto.now inner.now values.now) }
+    ensures appended { OnOk result (settings.new
+        ≡ settings.old ++ between from upto.now inner.now values.now) }
     ensures left { MatchResult result
         (λ left. left_of (length (between from upto.now inner.now values.now)) room ≡ Some left)
         (λ e. HasStop (left_of (length (between from upto.now inner.now values.now)) room) e) }

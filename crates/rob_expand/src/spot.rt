@@ -191,7 +191,8 @@ fn are_idle(short: bool, items: &[Item], span: Span) -> bool
 
 /// The same of an item.
 fn is_idle(short: bool, item: &Item, span: Span) -> bool
-    ensures idle { IsTrue result → (vs : Items ℤ) → IsIn span vs → IsTrue (spec.is_idle short item.now vs) }
+    ensures idle { IsTrue result → (vs : Items ℤ) → IsIn span vs
+        → IsTrue (spec.is_idle short item.now vs) }
 {
     if short {
         item.ranges.is_quiet_in(span)

@@ -42,10 +42,12 @@ pub fn places_from_the_ends()
 /// The fault that is named of a line is one that the line has. Where its expansion fits behind the lines before, it is
 /// the first; where it doesn't, some fault is named.
 pub fn named_of_a_line()
-    ensures first { (limit : ℕ) (words : List Name) (is_declared : ℕ → Bool) (total : ℕ) (s : Indexed Tree)
+    ensures first { (limit : ℕ) (words : List Name) (is_declared : ℕ → Bool) (total : ℕ)
+        (s : Indexed Tree)
         → has_room limit words is_declared total s ≡ true
         → named limit words is_declared total s ≡ find (has_fault limit words is_declared total s) in_order }
-    ensures some { (limit : ℕ) (words : List Name) (is_declared : ℕ → Bool) (total : ℕ) (s : Indexed Tree)
+    ensures some { (limit : ℕ) (words : List Name) (is_declared : ℕ → Bool) (total : ℕ)
+        (s : Indexed Tree)
         → has_room limit words is_declared total s ≡ false
         → (fault : IndexFault) × (named limit words is_declared total s ≡ Some fault)
         × (has_fault limit words is_declared total s fault ≡ true) }
@@ -54,7 +56,8 @@ pub fn named_of_a_line()
 /// A line of version 1 has no fault of indices, where its canonical tokens are few enough behind the lines before;
 /// and a plain statement whose names are short is one, where a budget has a member.
 pub fn plain_line()
-    ensures faultless { (limit : ℕ) (words : List Name) (is_declared : ℕ → Bool) (total : ℕ) (s : Indexed Tree)
+    ensures faultless { (limit : ℕ) (words : List Name) (is_declared : ℕ → Bool) (total : ℕ)
+        (s : Indexed Tree)
         → IsPlainLine s → total + line_tokens limit (itself_line words s) ≤ most_tokens
         → is_no_statement (itself_line words s) ≡ false → named limit words is_declared total s ≡ None }
     ensures statement { (p : Statement) → EachNameOf (λ n. length n ≤ longest_name) p → HasMember p

@@ -27,7 +27,8 @@ pub fn open_lines()
     ensures depth { (words : List Name) (l : Indexed Expr) (setting : Setting)
         → line_depth (statement_at words (statement_of l) setting) ≤ line_open l }
     ensures line { (l : Indexed Expr) → deepest 0 [] false (spell_line l) ≡ line_open l }
-    ensures expanded { (v : Version) (words : List Name) (symbols : List Symbol) (s : Indexed Tree) (p : Statement)
+    ensures expanded { (v : Version) (words : List Name) (symbols : List Symbol) (s : Indexed Tree)
+        (p : Statement)
         → IsOf v symbols s → Among p (expand words s) → line_depth p ≤ deepest 0 [] false symbols }
     // Of a symbol only this counts: whether it is `sum`, opens, or closes.
     ensures bare { (d : ℕ) (open_ones : List ℕ) (b : Bool) (symbols : List Symbol)

@@ -17,17 +17,21 @@ ghost use Rattle.rob_index.specs.Rules.{is_out, is_no_statement, longest_name, p
 /// refs may be any that pass a test, as those of a line do whose names pass one; and where the late part of the rule on
 /// statements is kept, none is too long.
 pub fn names()
-    ensures refs { (words : List Name) (test : Ref → Bool) (s : Indexed Tree) → EachRefOf (λ r. test r ≡ true) s
+    ensures refs { (words : List Name) (test : Ref → Bool) (s : Indexed Tree)
+        → EachRefOf (λ r. test r ≡ true) s
         → list_any is_out (places s) ≡ false
         → (p : Statement) → Among p (expand words s) → EachNameOf (IsNameOf words (λ r. test r ≡ true)) p }
-    ensures of_line { (test : ℕ → Bool) (v : Version) (symbols : List Symbol) (s : Indexed Tree) → IsOf v symbols s
+    ensures of_line { (test : ℕ → Bool) (v : Version) (symbols : List Symbol) (s : Indexed Tree)
+        → IsOf v symbols s
         → EachItem (IfName (λ k. test k ≡ true)) symbols → EachRefOf (λ r. test r.name ≡ true) s }
-    ensures short { (p : Statement) → is_no_statement p ≡ false → EachNameOf (λ n. length n ≤ longest_name) p }
+    ensures short { (p : Statement) → is_no_statement p ≡ false
+        → EachNameOf (λ n. length n ≤ longest_name) p }
 {}
 
 /// How many tokens a canonical line has, and how many parentheses it opens, doesn't depend on its names.
 pub fn renaming()
     ensures tokens { (rename : Name → Name) (limit : ℕ) (s : Statement)
         → line_tokens limit (renamed rename s) ≡ line_tokens limit s }
-    ensures depth { (rename : Name → Name) (s : Statement) → line_depth (renamed rename s) ≡ line_depth s }
+    ensures depth { (rename : Name → Name) (s : Statement) → line_depth (renamed rename s)
+        ≡ line_depth s }
 {}

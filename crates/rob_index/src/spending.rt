@@ -10,10 +10,12 @@ ghost use Rattle.rob_index.specs.Counting.{plain_tokens, lines_tokens, IsReal};
 /// Each value that a range runs through costs a token, and each setting of a statement two. No sum
 /// and no product of a line is empty.
 pub fn costs()
-    ensures values { (limit : ℕ) (words : List Name) (r : Range) (t : Tree) (setting : Setting) → IsReal t
+    ensures values { (limit : ℕ) (words : List Name) (r : Range) (t : Tree) (setting : Setting)
+        → IsReal t
         → length (values setting r) ≤ plain_tokens limit (expand_tree words (ranged r t) setting) }
     ensures real { (e : Expr) → IsReal (tree_expr e) }
-    ensures settings { (limit : ℕ) (words : List Name) (s : Indexed Tree) (make : Setting → Statement)
+    ensures settings { (limit : ℕ) (words : List Name) (s : Indexed Tree)
+        (make : Setting → Statement)
         (es : List Setting)
         → 2 * length es ≤ lines_tokens limit (map make es) }
 {}

@@ -11,7 +11,8 @@ ghost use Rattle.rob_lex.specs.Lines.{AreShallow, paren_lines};
 /// Each text has exactly one list of tokens, or breaks exactly one rule at one line.
 pub fn one_reading()
     ensures some { (text : List ℕ) → HasReading text }
-    ensures list { (text : List ℕ) (a b : List Token) → AreTokens text a → AreTokens text b → a ≡ b }
+    ensures list { (text : List ℕ) (a b : List Token) → AreTokens text a → AreTokens text b → a
+        ≡ b }
     ensures rule { (text : List ℕ) (rule line rule' line' : ℕ)
         → Breaks text rule line → Breaks text rule' line' → (rule ≡ rule') × (line ≡ line') }
     ensures not_both { (text : List ℕ) (list : List Token) (rule line : ℕ)
@@ -20,8 +21,10 @@ pub fn one_reading()
 
 /// Tokens stand in order, don't overlap and lie inside the text, which has no more of them than bytes.
 pub fn in_order()
-    ensures order { (text : List ℕ) (list : List Token) → AreTokens text list → InOrder 0 text list }
-    ensures count { (text : List ℕ) (list : List Token) → AreTokens text list → length list ≤ length text }
+    ensures order { (text : List ℕ) (list : List Token) → AreTokens text list
+        → InOrder 0 text list }
+    ensures count { (text : List ℕ) (list : List Token) → AreTokens text list → length list
+        ≤ length text }
 {}
 
 /// The tokens of a text have the kinds and bytes of its pieces.

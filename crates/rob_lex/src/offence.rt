@@ -68,7 +68,8 @@ pub fn next_piece(at: &Place, rest: &[u8]) -> Result<Found, Offence>
 
 /// What offends at the end of the text.
 pub fn end_offence(at: &Place) -> Option<Offence>
-    ensures offence { MatchOption result (Cause at.now [] → ⊥) (λ offence. OffendsHere at.now [] offence) }
+    ensures offence { MatchOption result (Cause at.now [] → ⊥)
+        (λ offence. OffendsHere at.now [] offence) }
 {
     if at.begun && at.count >= MOST_TOKENS {
         Some(Offence::TooManyTokens)

@@ -96,7 +96,8 @@ fn run_piece(kind: Shape, class: Class, bytes: &[u8]) -> Found
     requires some { 0 < length bytes.now }
     ensures shape { result.shape ≡ kind }
     ensures within { (0 < result.len) × (result.len ≤ length bytes.now) }
-    ensures run { IsRun (runs.passes class) (drop 1 (take result.len bytes.now)) (drop result.len bytes.now) }
+    ensures run { IsRun (runs.passes class) (drop 1 (take result.len bytes.now))
+        (drop result.len bytes.now) }
 {
     Found {
         shape: kind,
@@ -107,7 +108,8 @@ fn run_piece(kind: Shape, class: Class, bytes: &[u8]) -> Found
 /// The piece at the front of some bytes.
 pub fn front_piece(bytes: &[u8]) -> Option<Found>
     requires some { 0 < length bytes.now }
-    ensures piece { MatchOption result (BeginsNoPiece bytes.now) (λ found. IsFound found bytes.now) }
+    ensures piece { MatchOption result (BeginsNoPiece bytes.now)
+        (λ found. IsFound found bytes.now) }
 {
     let first = bytes[0];
     if begins_word(first) {
@@ -125,7 +127,8 @@ pub fn front_piece(bytes: &[u8]) -> Option<Found>
 /// The piece of one or two bytes at the front.
 fn short_piece(bytes: &[u8]) -> Option<Found>
     requires some { 0 < length bytes.now }
-    ensures piece { MatchOption result (BeginsNoShortPiece bytes.now) (λ found. IsFound found bytes.now) }
+    ensures piece { MatchOption result (BeginsNoShortPiece bytes.now)
+        (λ found. IsFound found bytes.now) }
 {
     let (shape, len) = match bytes {
         [b'\n', ..] => (Shape::Lexeme(Kind::LineEnd), 1),

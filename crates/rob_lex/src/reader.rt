@@ -42,7 +42,8 @@ pub fn tokens(alloc: Global, text: &[u8]) -> Result<Vec<Token>, LexErr>
 /// Pushes the token of a piece; a gap and a comment have none.
 fn push_token(list: &mut Vec<Token>, at: &Place, shape: Shape, bytes: &[u8]) -> Result<(), LexErr>
     requires room { at.now.offset + length bytes.now < 2 ^ 32 }
-    ensures pushed { OnOk result (list.new.items ≡ list.old.items ++ token_at at.now shape bytes.now) }
+    ensures pushed { OnOk result (list.new.items
+        ≡ list.old.items ++ token_at at.now shape bytes.now) }
     ensures cause { IfErr result (λ e. e ≡ Memory) }
 {
     if let Shape::Lexeme(kind) = shape {

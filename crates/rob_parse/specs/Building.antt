@@ -80,10 +80,12 @@ pub record HasRoomForAll (scope : Scope) : Type 0 where
 -- a model has got the parts that a statement says, taken in the statement's set
 pub record HasAdded (words : List (List ℕ)) (scope : Scope) (s : Statement) (old new : RobustModel) : Type 0 where
   pub parameters_are : new.parameters ≡ old.parameters ++ parameters words s
-  pub set_lines_are : new.set_lines ≡ old.set_lines ++ each_taken (line_taken scope.sizes.parameters) (set_lines scope.sorts.items s) (line_sets scope.sorts.items s)
+  pub set_lines_are : new.set_lines ≡ old.set_lines ++ each_taken (line_taken scope.sizes.parameters)
+      (set_lines scope.sorts.items s) (line_sets scope.sorts.items s)
   pub variables_are : new.variables ≡ old.variables ++ variables words s
   pub adaptives_are : new.adaptives ≡ old.adaptives ++ adaptives words scope.sorts.items s
-  pub rows_are : new.rows ≡ old.rows ++ each_taken (row_taken scope.sizes.parameters) (rows words scope.sorts.items s) (row_sets scope.sorts.items s)
+  pub rows_are : new.rows ≡ old.rows ++ each_taken (row_taken scope.sizes.parameters) (rows words scope.sorts.items s)
+      (row_sets scope.sorts.items s)
   pub sense_is : new.sense ≡ old.sense
   pub objective_is : new.objective ≡ old.objective
   pub sets_are : new.sets ≡ old.sets ++ sets words s

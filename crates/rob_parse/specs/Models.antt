@@ -102,11 +102,18 @@ module _ (sorts : List (Option Sort)) where
 
   -- a member of a budget
   abbrev pub member : Member → model.Member
-  member m = record { parameter = parameter_at m.name; centre = signed_fraction m.spread.centre; deviation = fraction m.spread.deviation }
+  member m =
+      record {
+        parameter = parameter_at m.name;
+        centre = signed_fraction m.spread.centre;
+        deviation =
+            fraction m.spread.deviation;
+      }
 
   -- the statement on the set that a statement is, if it is one
   abbrev pub set_lines : Statement → List model.SetLine
-  set_lines (parsed.Set r) = model.line (expression (tree_of r.left)) (relation_of r.rel) (expression (tree_of r.right)) ∷ []
+  set_lines (parsed.Set r) =
+      model.line (expression (tree_of r.left)) (relation_of r.rel) (expression (tree_of r.right)) ∷ []
   set_lines (parsed.Budget b) = model.budget (fraction b.limit) (map member b.members) ∷ []
   set_lines _ = []
 
@@ -195,7 +202,8 @@ module _ (words : List (List ℕ)) where
 
   -- the parameter that a statement declares, if it does
   abbrev pub parameters : Statement → List model.Parameter
-  parameters (parsed.Uncertain d) = record { name = word_of d.name; lower = lower_bound d.bounds; upper = upper_bound d.bounds } ∷ []
+  parameters (parsed.Uncertain d) =
+      record { name = word_of d.name; lower = lower_bound d.bounds; upper = upper_bound d.bounds } ∷ []
   parameters _ = []
 
   -- the set that a statement declares, if it does
@@ -205,14 +213,21 @@ module _ (words : List (List ℕ)) where
 
   -- the variable
   abbrev pub variables : Statement → List model.Variable
-  variables (parsed.Var d) = record { name = word_of d.name; lower = lower_bound d.bounds; upper = upper_bound d.bounds } ∷ []
+  variables (parsed.Var d) =
+      record { name = word_of d.name; lower = lower_bound d.bounds; upper = upper_bound d.bounds } ∷ []
   variables _ = []
 
 module _ (words : List (List ℕ)) (sorts : List (Option Sort)) where
   -- the adaptive variable
   abbrev pub adaptives : Statement → List model.AdaptiveVariable
   adaptives (parsed.Adaptive p) =
-      record { name = word_of words p.name; on = map (parameter_at sorts) p.on; lower = lower_bound p.bounds; upper = upper_bound p.bounds } ∷ []
+      record {
+        name = word_of words p.name;
+        on = map (parameter_at sorts) p.on;
+        lower = lower_bound p.bounds;
+        upper =
+            upper_bound p.bounds;
+      } ∷ []
   adaptives _ = []
 
   -- the row
@@ -250,7 +265,8 @@ each_taken take (x ∷ xs) (S ∷ Ss) = take S x ∷ each_taken take xs Ss
 
 -- a model over written parameters, with these named sets, where its statements, its objective and its rows answer to
 -- these
-abbrev pub in_sets : model.RobustModel → List (List ℕ) → (of_lines : List ℕ) (of_objective : ℕ) (of_rows : List ℕ) → model.RobustModel
+abbrev pub in_sets : model.RobustModel → List (List ℕ) → (of_lines : List ℕ) (of_objective : ℕ) (of_rows : List ℕ)
+    → model.RobustModel
 in_sets w names of_lines of_objective of_rows = record {
   parameters = joint_parameters w.parameters names;
   sets = names;
@@ -269,5 +285,6 @@ module _ (words : List (List ℕ)) (sorts : List (Option Sort)) where
   -- the model of some statements, where this is what names stand for
   abbrev pub model_of : List Statement → model.RobustModel
   model_of list =
-      in_sets (written_of words sorts list) (flat_map (sets words) list) (flat_map (line_sets sorts) list) (objective_set sorts (goal_in list))
+      in_sets (written_of words sorts list) (flat_map (sets words) list) (flat_map (line_sets sorts) list)
+      (objective_set sorts (goal_in list))
       (flat_map (row_sets sorts) list)

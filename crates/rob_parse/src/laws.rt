@@ -37,7 +37,8 @@ pub fn one_model()
 /// A model that a text reads as is within the limits, and the sizes that are counted statement by statement, which rule
 /// 22 judges, are those of the model of the statements up to there.
 pub fn within_limits()
-    ensures limits { (limit : ℕ) (text : List ℕ) (m : RobustModel) → ReadsModel limit text m → IsWithinLimits m }
+    ensures limits { (limit : ℕ) (text : List ℕ) (m : RobustModel) → ReadsModel limit text m
+        → IsWithinLimits m }
     ensures counted { (limit : ℕ)
         (words : List (List ℕ)) (list : List Statement) (known : Earlier) (s : Statement)
         → Chain limit words (start (length words)) list known → (sorts : List (Option Sort))
@@ -46,13 +47,16 @@ pub fn within_limits()
 
 /// A model that a text reads as is well formed.
 pub fn well_formed()
-    ensures model { (limit : ℕ) (text : List ℕ) (m : RobustModel) → 1 ≤ limit → ReadsModel limit text m → IsModel m }
+    ensures model { (limit : ℕ) (text : List ℕ) (m : RobustModel) → 1 ≤ limit
+        → ReadsModel limit text m → IsModel m }
 {}
 
 /// The names of a model that a text reads as are plain, free and distinct.
 pub fn well_named()
-    ensures names { (limit : ℕ) (text : List ℕ) (m : RobustModel) → ReadsModel limit text m → IsNamed m }
-    ensures spelled { (limit : ℕ) (text : List ℕ) (m : RobustModel) → ReadsModel limit text m → Each IsSpelled (declared_names m) }
+    ensures names { (limit : ℕ) (text : List ℕ) (m : RobustModel) → ReadsModel limit text m
+        → IsNamed m }
+    ensures spelled { (limit : ℕ) (text : List ℕ) (m : RobustModel) → ReadsModel limit text m
+        → Each IsSpelled (declared_names m) }
 {}
 
 /// The name that a ref with indices stands for may be declared, where its word is a word and no keyword, its indices
@@ -67,8 +71,10 @@ pub fn expanded_names()
 /// What a text of either version reads as are statements one behind another, each as a reader makes it and without a
 /// fault; and its words, with the names that came, are different words, without a dot.
 pub fn text_chain()
-    ensures chain { (limit : ℕ) (text : List ℕ) (words : List (List ℕ)) (list : List Statement) (known : Earlier)
+    ensures chain { (limit : ℕ) (text : List ℕ) (words : List (List ℕ)) (list : List Statement)
+        (known : Earlier)
         → Reads limit text words list known → Chain limit words (start (length words)) list known }
-    ensures words { (limit : ℕ) (text : List ℕ) (words : List (List ℕ)) (list : List Statement) (known : Earlier)
+    ensures words { (limit : ℕ) (text : List ℕ) (words : List (List ℕ)) (list : List Statement)
+        (known : Earlier)
         → Reads limit text words list known → AreDistinct words × (Each IsWord words × Each IsPlain words) }
 {}

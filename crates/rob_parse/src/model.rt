@@ -65,8 +65,10 @@ fn model<N: Exact, L: Ledger>(
     requires fits { Each (FitsStatement N.limit) list.now }
     requires goal { IsSome (goal_in list.now) }
     requires room { HasRoomForAll scope.now }
-    requires count { scope.now.sizes.parameters ≡ length (flat_map (parameters (texts words.now.keys)) list.now) }
-    ensures read { IfOk result (λ m. robust N.value m ≡ model_of (texts words.now.keys) scope.now.sorts.items list.now) }
+    requires count { scope.now.sizes.parameters
+        ≡ length (flat_map (parameters (texts words.now.keys)) list.now) }
+    ensures read { IfOk result (λ m. robust N.value m
+        ≡ model_of (texts words.now.keys) scope.now.sorts.items list.now) }
     ensures ops { L.ops ledger.old ≤ L.ops ledger.new }
     ensures wides { L.wides ledger.old ≡ L.wides ledger.new }
 {
@@ -113,7 +115,8 @@ fn place_of(scope: &Scope, over: Option<usize>) -> Place
 
 /// Gives each named set the written parameters, with its name in front of theirs.
 fn join<N: Exact>(alloc: Global, sets: &[Text], params: &mut List<Param<N>>) -> Result<(), Memory>
-    ensures joint { OnOk result (map (parameter_of N.value) params.new ≡ joint_parameters (map (parameter_of N.value) params.old) sets.now) }
+    ensures joint { OnOk result (map (parameter_of N.value) params.new
+        ≡ joint_parameters (map (parameter_of N.value) params.old) sets.now) }
 {
     let count = params.items().len();
     for set in sets {
@@ -131,7 +134,8 @@ fn join_set<N: Exact>(
 ) -> Result<(), Memory>
     requires count { count ≤ length params.old }
     ensures joint { OnOk result (map (parameter_of N.value) params.new
-        ≡ map (parameter_of N.value) params.old ++ map (in_set set.now) (take count (map (parameter_of N.value) params.old))) }
+        ≡ map (parameter_of N.value) params.old ++ map (in_set set.now)
+        (take count (map (parameter_of N.value) params.old))) }
 {
     for k in 0..count {
         let param = param_in(alloc, set, &params.items()[k])?;
@@ -142,7 +146,8 @@ fn join_set<N: Exact>(
 
 /// A parameter as a set has it: its name behind the set's and a dot, and its bounds.
 fn param_in<N: Exact>(alloc: Global, set: &Text, param: &Param<N>) -> Result<Param<N>, Memory>
-    ensures parameter { IfOk result (λ p. parameter_of N.value p ≡ in_set set.now (parameter_of N.value param.now)) }
+    ensures parameter { IfOk result (λ p. parameter_of N.value p
+        ≡ in_set set.now (parameter_of N.value param.now)) }
 {
     let mut name = Text::new(alloc);
     name.push(set.bytes())?;
@@ -178,7 +183,8 @@ fn add<N: Exact, L: Ledger>(
 ) -> Result<(), Memory>
     requires fits { FitsStatement N.limit statement.now }
     requires room { HasRoomForAll scope.now }
-    ensures added { OnOk result (HasAdded (texts words.now.keys) scope.now statement.now (robust N.value model.old) (robust N.value model.new)) }
+    ensures added { OnOk result (HasAdded (texts words.now.keys) scope.now statement.now
+        (robust N.value model.old) (robust N.value model.new)) }
     ensures ops { L.ops ledger.old ≤ L.ops ledger.new }
     ensures wides { L.wides ledger.old ≡ L.wides ledger.new }
 {
@@ -231,7 +237,8 @@ fn parameter<N: Exact, L: Ledger>(
     ledger: &mut L,
 ) -> Result<Param<N>, Memory>
     requires fits { FitsBounds N.limit declared.bounds }
-    ensures read { IfOk result (λ p. parameter_of N.value p ∷ [] ≡ parameters (texts words.now.keys) (parsed.Uncertain declared)) }
+    ensures read { IfOk result (λ p. parameter_of N.value p ∷ []
+        ≡ parameters (texts words.now.keys) (parsed.Uncertain declared)) }
     ensures ops { L.ops ledger.old ≤ L.ops ledger.new }
     ensures wides { L.wides ledger.old ≡ L.wides ledger.new }
 {
@@ -249,7 +256,8 @@ fn variable<N: Exact, L: Ledger>(
     ledger: &mut L,
 ) -> Result<Var<N>, Memory>
     requires fits { FitsBounds N.limit declared.bounds }
-    ensures read { IfOk result (λ x. variable_of N.value x ∷ [] ≡ variables (texts words.now.keys) (parsed.Var declared)) }
+    ensures read { IfOk result (λ x. variable_of N.value x ∷ []
+        ≡ variables (texts words.now.keys) (parsed.Var declared)) }
     ensures ops { L.ops ledger.old ≤ L.ops ledger.new }
     ensures wides { L.wides ledger.old ≡ L.wides ledger.new }
 {
@@ -268,7 +276,8 @@ fn adaptive<N: Exact, L: Ledger>(
     ledger: &mut L,
 ) -> Result<Adaptive<N>, Memory>
     requires fits { FitsBounds N.limit policy.now.bounds }
-    ensures read { IfOk result (λ y. adaptive_of N.value y ∷ [] ≡ adaptives (texts words.now.keys) sorts.now (parsed.Adaptive policy.now)) }
+    ensures read { IfOk result (λ y. adaptive_of N.value y ∷ []
+        ≡ adaptives (texts words.now.keys) sorts.now (parsed.Adaptive policy.now)) }
     ensures ops { L.ops ledger.old ≤ L.ops ledger.new }
     ensures wides { L.wides ledger.old ≡ L.wides ledger.new }
 {
@@ -313,7 +322,8 @@ fn budget_line<N: Exact, L: Ledger>(
     budget: &Budget,
     ledger: &mut L,
 ) -> Result<SetLine<N>, Memory>
-    requires fits { FitsNumber N.limit budget.now.limit × Each (FitsMember N.limit) budget.now.members }
+    requires fits { FitsNumber N.limit budget.now.limit
+        × Each (FitsMember N.limit) budget.now.members }
     requires room { HasRoom sorts.now place }
     ensures read { IfOk result (λ s. set_line_of N.value s ∷ []
         ≡ map (line_taken place.count place.set) (set_lines sorts.now (parsed.Budget budget.now))) }

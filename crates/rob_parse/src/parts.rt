@@ -98,7 +98,8 @@ fn member<N: Exact, L: Ledger>(
 ) -> Member<N>
     requires fits { FitsMember N.limit member.now }
     requires room { HasRoom sorts.now place }
-    ensures read { member_of N.value result ≡ member_taken place.count place.set (spec.member sorts.now member.now) }
+    ensures read { member_of N.value result
+        ≡ member_taken place.count place.set (spec.member sorts.now member.now) }
     ensures ops { L.ops ledger.old ≤ L.ops ledger.new }
     ensures wides { L.wides ledger.old ≡ L.wides ledger.new }
 {

@@ -27,7 +27,8 @@ pub fn expression<N: Exact, L: Ledger>(
 ) -> Result<Expr<N>, Memory>
     requires fits { FitsTree N.limit (tree_of tree.now) }
     requires room { HasRoom sorts.now place }
-    ensures read { IfOk result (λ e. expression_of N.value e ≡ taken place.count place.set (spec.expression sorts.now (tree_of tree.now))) }
+    ensures read { IfOk result (λ e. expression_of N.value e
+        ≡ taken place.count place.set (spec.expression sorts.now (tree_of tree.now))) }
     ensures ops { L.ops ledger.old ≤ L.ops ledger.new }
     ensures wides { L.wides ledger.old ≡ L.wides ledger.new }
 {
@@ -95,7 +96,8 @@ fn factors<N: Exact, L: Ledger>(
 /// What a name is in an expression of this set; one that may not be used is the empty sum.
 fn named<N: Exact>(alloc: Global, sorts: &[Option<Sort>], place: Place, name: usize) -> Expr<N>
     requires room { HasRoom sorts.now place }
-    ensures read { expression_of N.value result ≡ taken place.count place.set (spec.named (degrees.sort_at sorts.now name)) }
+    ensures read { expression_of N.value result
+        ≡ taken place.count place.set (spec.named (degrees.sort_at sorts.now name)) }
 {
     match sort_at(sorts, name) {
         Some(Sort::Parameter(k)) => Expr::Param(place.set * place.count + k),

@@ -57,8 +57,10 @@ module _ (test : Inside → Bool) (seek : Inside → ℕ → Searched) where
   found_either (i ∷ is) left = go (test i) (seek i left).found (seek i left).left (found_either is)
     where
       go : (b f : Bool) (next : ℕ)
-          → ((left : ℕ) → (search_places either is left).found ≡ (list_any test is || (search_places seek is left).found))
-          → (search_on (if b then told true left else record { found = f; left = next }) (search_places either is)).found
+          → ((left : ℕ) → (search_places either is left).found
+          ≡ (list_any test is || (search_places seek is left).found))
+          → (search_on (if b then told true left else record { found = f; left = next })
+          (search_places either is)).found
           ≡ ((b || list_any test is)
           || (search_on (record { found = f; left = next }) (search_places seek is)).found)
       go true f next h = refl

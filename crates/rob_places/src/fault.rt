@@ -24,7 +24,8 @@ pub fn some_unknown(alloc: Global, declared: &[bool], statement: &Indexed) -> Re
 
 /// Whether digits in an index are over 999, which breaks rule 27.
 pub fn some_great_digits(alloc: Global, statement: &Indexed) -> Result<bool, Memory>
-    ensures found { IfOk result (λ found. found ≡ list_any has_great_digits (places (seen_statement statement.now))) }
+    ensures found { IfOk result (λ found. found
+        ≡ list_any has_great_digits (places (seen_statement statement.now))) }
 {
     some_place(alloc, Test::GreatDigits, &[], statement)
 }
@@ -45,7 +46,8 @@ pub fn search_long(alloc: Global, statement: &Indexed, left: &mut u32) -> Result
 
 /// Whether digits in an index are over 999, or an index is found to be below 0 or over 999, for what may be spent.
 pub fn some_out(alloc: Global, statement: &Indexed, effort: u32) -> Result<bool, Memory>
-    ensures found { IfOk result (λ found. found ≡ (list_any has_great_digits (places (seen_statement statement.now))
+    ensures found { IfOk result (λ found. found
+        ≡ (list_any has_great_digits (places (seen_statement statement.now))
         || (search_places search_out (places (seen_statement statement.now)) effort).found)) }
 {
     let mut left = effort;

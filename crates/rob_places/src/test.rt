@@ -54,7 +54,8 @@ pub fn at_index(
 ) -> Result<bool, Memory>
     ensures found { IfOk result (λ found.
         found ≡ (spec.at_index test around.now (seen_index index.now) left.old).found) }
-    ensures left { OnOk result (left.new ≡ (spec.at_index test around.now (seen_index index.now) left.old).left) }
+    ensures left { OnOk result (left.new
+        ≡ (spec.at_index test around.now (seen_index index.now) left.old).left) }
 {
     match test {
         Test::Unknown => Ok(around.has_loose(index)),
@@ -72,9 +73,11 @@ pub fn at_range(
     range: &Range,
     left: &mut u32,
 ) -> Result<bool, Memory>
-    ensures found { IfOk result (λ found. found ≡ (spec.at_range (is_set task.now.declared.now) task.now.test
+    ensures found { IfOk result (λ found. found
+        ≡ (spec.at_range (is_set task.now.declared.now) task.now.test
         around.now (seen_range range.now) left.old).found) }
-    ensures left { OnOk result (left.new ≡ (spec.at_range (is_set task.now.declared.now) task.now.test
+    ensures left { OnOk result (left.new
+        ≡ (spec.at_range (is_set task.now.declared.now) task.now.test
         around.now (seen_range range.now) left.old).left) }
 {
     match task.test {
@@ -86,7 +89,8 @@ pub fn at_range(
 
 /// Whether a name in the range's ends is one that no range around has, or its own is such a one, or declared.
 fn is_unknown(declared: &[bool], around: &Around, range: &Range) -> bool
-    ensures unknown { result ≡ is_unknown_in (is_set declared.now) around.now (seen_range range.now) }
+    ensures unknown { result ≡ is_unknown_in (is_set declared.now) around.now
+        (seen_range range.now) }
 {
     if around.has_loose(&range.from) || around.has_loose(&range.upto) {
         return true;
@@ -138,7 +142,8 @@ fn is_sought_long(
 ) -> Result<bool, Memory>
     ensures found { IfOk result (λ found.
         found ≡ (spec.sought_long_in around.now (seen_range range.now) left.old).found) }
-    ensures left { OnOk result (left.new ≡ (spec.sought_long_in around.now (seen_range range.now) left.old).left) }
+    ensures left { OnOk result (left.new
+        ≡ (spec.sought_long_in around.now (seen_range range.now) left.old).left) }
 {
     let length = around.length_of(alloc, range)?;
     sought(alloc, around, &length, TOO_LONG, left)
@@ -146,8 +151,10 @@ fn is_sought_long(
 
 /// Whether digits in an index are over 999, or it is found to be below 0 or over 999.
 fn is_out(alloc: Global, around: &Around, index: &Index, left: &mut u32) -> Result<bool, Memory>
-    ensures found { IfOk result (λ found. found ≡ (out_in around.now (seen_index index.now) left.old).found) }
-    ensures left { OnOk result (left.new ≡ (out_in around.now (seen_index index.now) left.old).left) }
+    ensures found { IfOk result (λ found. found
+        ≡ (out_in around.now (seen_index index.now) left.old).found) }
+    ensures left { OnOk result (left.new
+        ≡ (out_in around.now (seen_index index.now) left.old).left) }
 {
     if has_great(index) {
         Ok(true)
@@ -165,7 +172,8 @@ fn is_sought_out(
 ) -> Result<bool, Memory>
     ensures found { IfOk result (λ found.
         found ≡ (sought_out_in around.now (seen_index index.now) left.old).found) }
-    ensures left { OnOk result (left.new ≡ (sought_out_in around.now (seen_index index.now) left.old).left) }
+    ensures left { OnOk result (left.new
+        ≡ (sought_out_in around.now (seen_index index.now) left.old).left) }
 {
     let form = around.form_of(alloc, index)?;
     let opposite = opposite(alloc, &form)?;

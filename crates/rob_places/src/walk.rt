@@ -34,7 +34,8 @@ pub fn indices(
 ) -> Result<bool, Memory>
     ensures found { IfOk result (λ found.
         found ≡ (walk_indices test around.now (map seen_index indices.now) left.old).found) }
-    ensures left { OnOk result (left.new ≡ (walk_indices test around.now (map seen_index indices.now) left.old).left) }
+    ensures left { OnOk result (left.new
+        ≡ (walk_indices test around.now (map seen_index indices.now) left.old).left) }
 {
     for index in indices {
         if at_index(alloc, test, around, index, left)? {
@@ -52,8 +53,10 @@ fn optional(
     over: &Option<Ref>,
     left: &mut u32,
 ) -> Result<bool, Memory>
-    ensures found { IfOk result (λ found. found ≡ (walk_optional test around.now (seen_over over.now) left.old).found) }
-    ensures left { OnOk result (left.new ≡ (walk_optional test around.now (seen_over over.now) left.old).left) }
+    ensures found { IfOk result (λ found. found
+        ≡ (walk_optional test around.now (seen_over over.now) left.old).found) }
+    ensures left { OnOk result (left.new
+        ≡ (walk_optional test around.now (seen_over over.now) left.old).left) }
 {
     match over {
         None => Ok(false),
@@ -70,9 +73,11 @@ fn tree(
     tree: &Tree,
     left: &mut u32,
 ) -> Result<bool, Memory>
-    ensures found { IfOk result (λ found. found ≡ (walk_tree (is_set task.now.declared.now) task.now.test around.old
+    ensures found { IfOk result (λ found. found
+        ≡ (walk_tree (is_set task.now.declared.now) task.now.test around.old
         (seen_tree tree.now) left.old).found) }
-    ensures left { OnOk result (left.new ≡ (walk_tree (is_set task.now.declared.now) task.now.test around.old
+    ensures left { OnOk result (left.new
+        ≡ (walk_tree (is_set task.now.declared.now) task.now.test around.old
         (seen_tree tree.now) left.old).left) }
     ensures around { OnOk result (around.new ≡ around.old) }
 {
@@ -95,9 +100,11 @@ fn ranged(
     inner: &Tree,
     left: &mut u32,
 ) -> Result<bool, Memory>
-    ensures found { IfOk result (λ found. found ≡ (walk_tree (is_set task.now.declared.now) task.now.test around.old
+    ensures found { IfOk result (λ found. found
+        ≡ (walk_tree (is_set task.now.declared.now) task.now.test around.old
         (ranged (seen_range range.now) (seen_tree inner.now)) left.old).found) }
-    ensures left { OnOk result (left.new ≡ (walk_tree (is_set task.now.declared.now) task.now.test around.old
+    ensures left { OnOk result (left.new
+        ≡ (walk_tree (is_set task.now.declared.now) task.now.test around.old
         (ranged (seen_range range.now) (seen_tree inner.now)) left.old).left) }
     ensures around { OnOk result (around.new ≡ around.old) }
 {
@@ -119,9 +126,11 @@ fn parts(
     own: &[Part],
     left: &mut u32,
 ) -> Result<bool, Memory>
-    ensures found { IfOk result (λ found. found ≡ (walk_parts (is_set task.now.declared.now) task.now.test around.old
+    ensures found { IfOk result (λ found. found
+        ≡ (walk_parts (is_set task.now.declared.now) task.now.test around.old
         (parts_of (map seen_part own.now)) left.old).found) }
-    ensures left { OnOk result (left.new ≡ (walk_parts (is_set task.now.declared.now) task.now.test around.old
+    ensures left { OnOk result (left.new
+        ≡ (walk_parts (is_set task.now.declared.now) task.now.test around.old
         (parts_of (map seen_part own.now)) left.old).left) }
     ensures around { OnOk result (around.new ≡ around.old) }
 {
@@ -142,9 +151,11 @@ fn factors(
     own: &[Tree],
     left: &mut u32,
 ) -> Result<bool, Memory>
-    ensures found { IfOk result (λ found. found ≡ (walk_factors (is_set task.now.declared.now) task.now.test
+    ensures found { IfOk result (λ found. found
+        ≡ (walk_factors (is_set task.now.declared.now) task.now.test
         around.old (factors_of (map seen_tree own.now)) left.old).found) }
-    ensures left { OnOk result (left.new ≡ (walk_factors (is_set task.now.declared.now) task.now.test around.old
+    ensures left { OnOk result (left.new
+        ≡ (walk_factors (is_set task.now.declared.now) task.now.test around.old
         (factors_of (map seen_tree own.now)) left.old).left) }
     ensures around { OnOk result (around.new ≡ around.old) }
 {
@@ -167,9 +178,11 @@ fn item(
     name: &Ref,
     left: &mut u32,
 ) -> Result<bool, Memory>
-    ensures found { IfOk result (λ found. found ≡ (walk_item (is_set task.now.declared.now) task.now.test around.old
+    ensures found { IfOk result (λ found. found
+        ≡ (walk_item (is_set task.now.declared.now) task.now.test around.old
         (seen_ranges own.now) (seen_ref name.now) left.old).found) }
-    ensures left { OnOk result (left.new ≡ (walk_item (is_set task.now.declared.now) task.now.test around.old
+    ensures left { OnOk result (left.new
+        ≡ (walk_item (is_set task.now.declared.now) task.now.test around.old
         (seen_ranges own.now) (seen_ref name.now) left.old).left) }
     ensures around { OnOk result (around.new ≡ around.old) }
 {
@@ -196,7 +209,8 @@ fn members(
     own: &[Ranged<Share>],
     left: &mut u32,
 ) -> Result<bool, Memory>
-    ensures found { IfOk result (λ found. found ≡ (walk_each (is_set task.now.declared.now) task.now.test
+    ensures found { IfOk result (λ found. found
+        ≡ (walk_each (is_set task.now.declared.now) task.now.test
         (λ m. m.name) around.old (map (seen_ranged seen_share) own.now) left.old).found) }
     ensures left { OnOk result (left.new ≡ (walk_each (is_set task.now.declared.now) task.now.test
         (λ m. m.name) around.old (map (seen_ranged seen_share) own.now) left.old).left) }
@@ -226,7 +240,8 @@ fn entries(
     own: &[Ranged<Ref>],
     left: &mut u32,
 ) -> Result<bool, Memory>
-    ensures found { IfOk result (λ found. found ≡ (walk_each (is_set task.now.declared.now) task.now.test
+    ensures found { IfOk result (λ found. found
+        ≡ (walk_each (is_set task.now.declared.now) task.now.test
         (λ r. r) around.old (map (seen_ranged seen_ref) own.now) left.old).found) }
     ensures left { OnOk result (left.new ≡ (walk_each (is_set task.now.declared.now) task.now.test
         (λ r. r) around.old (map (seen_ranged seen_ref) own.now) left.old).left) }
@@ -256,9 +271,11 @@ fn sides(
     own: &Sides,
     left: &mut u32,
 ) -> Result<bool, Memory>
-    ensures found { IfOk result (λ found. found ≡ (walk_sides (is_set task.now.declared.now) task.now.test around.old
+    ensures found { IfOk result (λ found. found
+        ≡ (walk_sides (is_set task.now.declared.now) task.now.test around.old
         (seen_sides own.now) left.old).found) }
-    ensures left { OnOk result (left.new ≡ (walk_sides (is_set task.now.declared.now) task.now.test around.old
+    ensures left { OnOk result (left.new
+        ≡ (walk_sides (is_set task.now.declared.now) task.now.test around.old
         (seen_sides own.now) left.old).left) }
 {
     if tree(alloc, task, around, &own.left, left)? {
@@ -278,9 +295,11 @@ fn inner(
     statement: &Indexed,
     left: &mut u32,
 ) -> Result<bool, Memory>
-    ensures found { IfOk result (λ found. found ≡ (walk_inner (is_set task.now.declared.now) task.now.test around.old
+    ensures found { IfOk result (λ found. found
+        ≡ (walk_inner (is_set task.now.declared.now) task.now.test around.old
         (seen_statement statement.now) left.old).found) }
-    ensures left { OnOk result (left.new ≡ (walk_inner (is_set task.now.declared.now) task.now.test around.old
+    ensures left { OnOk result (left.new
+        ≡ (walk_inner (is_set task.now.declared.now) task.now.test around.old
         (seen_statement statement.now) left.old).left) }
 {
     match statement {
@@ -372,9 +391,11 @@ fn inside(
     statement: &Indexed,
     left: &mut u32,
 ) -> Result<bool, Memory>
-    ensures found { IfOk result (λ found. found ≡ (walk_inside (is_set task.now.declared.now) task.now.test around.old
+    ensures found { IfOk result (λ found. found
+        ≡ (walk_inside (is_set task.now.declared.now) task.now.test around.old
         (seen_ranges own.now) (seen_statement statement.now) left.old).found) }
-    ensures left { OnOk result (left.new ≡ (walk_inside (is_set task.now.declared.now) task.now.test around.old
+    ensures left { OnOk result (left.new
+        ≡ (walk_inside (is_set task.now.declared.now) task.now.test around.old
         (seen_ranges own.now) (seen_statement statement.now) left.old).left) }
 {
     match own {
@@ -396,9 +417,11 @@ pub fn statement(
     statement: &Indexed,
     left: &mut u32,
 ) -> Result<bool, Memory>
-    ensures found { IfOk result (λ found. found ≡ (search_places (test_of (is_set task.now.declared.now) task.now.test)
+    ensures found { IfOk result (λ found. found
+        ≡ (search_places (test_of (is_set task.now.declared.now) task.now.test)
         (places (seen_statement statement.now)) left.old).found) }
-    ensures left { OnOk result (left.new ≡ (search_places (test_of (is_set task.now.declared.now) task.now.test)
+    ensures left { OnOk result (left.new
+        ≡ (search_places (test_of (is_set task.now.declared.now) task.now.test)
         (places (seen_statement statement.now)) left.old).left) }
 {
     let mut around = Around::new(alloc);

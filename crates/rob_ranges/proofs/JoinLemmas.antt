@@ -148,4 +148,8 @@ sum_is k c m z front gs fs next f g view within sum constant factors added =
     let others : drop front next ≡ joined c gs (drop front fs) =
     ap (drop front) added ∙ drop-joined_from front c gs fs within in
     (λ i. record { constant = sum i; factors = others i })
-    ∙ (λ i. record { constant = (view i).constant +ℤ (c *ℤ constant i); factors = joined c (factors i) (view i).factors })
+    ∙ (λ i. record {
+      constant = (view i).constant +ℤ (c *ℤ constant i);
+      factors =
+          joined c (factors i) (view i).factors;
+    })

@@ -30,7 +30,8 @@ pub fn index_form(alloc: Global, names: &[usize], index: &Index) -> Result<Form,
 
 /// The sum of the steps, from the last to the first.
 fn steps_form(alloc: Global, names: &[usize], steps: &[Step]) -> Result<Form, Memory>
-    ensures form { IfOk result (λ form. form ≡ fast.steps_form names.now (map seen_step steps.now)) }
+    ensures form { IfOk result (λ form. form
+        ≡ fast.steps_form names.now (map seen_step steps.now)) }
 {
     let mut form = Form::nothing(alloc);
     let mut k = steps.len();

@@ -75,7 +75,8 @@ impl Nest {
 
     /// Whether the form reaches the bound somewhere, where that is seen from the ends alone.
     fn from_ends(&self, alloc: Global, form: &Form, bound: &Whole) -> Result<Option<bool>, Memory>
-        ensures seen { IfOk result (λ seen. seen ≡ from_ends (onto self.now []) form.now bound.now) }
+        ensures seen { IfOk result (λ seen. seen
+            ≡ from_ends (onto self.now []) form.now bound.now) }
     {
         let most = greatest(alloc, self.ranges.as_slice(), &[], form)?;
         if most.is_less(alloc, bound)? {
@@ -201,7 +202,8 @@ fn told_with(around: Told, runs: bool, dead: bool) -> Told
 
 /// What is seen where the greatest value isn't below the bound, and the ends tell this.
 fn seen_of(told: Told) -> Option<bool>
-    ensures seen { result ≡ (if told.dead then Some false else (if told.runs then Some true else None)) }
+    ensures seen { result ≡ (if told.dead then Some false else
+        (if told.runs then Some true else None)) }
 {
     if told.dead {
         Some(false)

@@ -19,7 +19,8 @@ pub fn greatest(
     values: &[Whole],
     form: &Form,
 ) -> Result<Whole, Memory>
-    ensures greatest { IfOk result (λ value. value ≡ greatest (onto ranges.now (fixed values.now)) form.now) }
+    ensures greatest { IfOk result (λ value. value
+        ≡ greatest (onto ranges.now (fixed values.now)) form.now) }
 {
     if ranges.is_empty() {
         return form.value(alloc, values);
@@ -104,7 +105,8 @@ pub fn from_ends(
     form: &Form,
     bound: &Whole,
 ) -> Result<Option<bool>, Memory>
-    ensures seen { IfOk result (λ seen. seen ≡ from_ends (onto ranges.now (fixed values.now)) form.now bound.now) }
+    ensures seen { IfOk result (λ seen. seen
+        ≡ from_ends (onto ranges.now (fixed values.now)) form.now bound.now) }
 {
     let most = greatest(alloc, ranges, values, form)?;
     if most.is_less(alloc, bound)? {

@@ -50,7 +50,8 @@ pub fn pair_of(values: &[Whole]) -> Option<Pair>
 
 /// The form with such numbers, if it is one.
 pub fn short_of(form: &Form) -> Option<Short>
-    ensures same { IfSome result (λ short. (xs : Items ℤ) → value_of form.now xs ≡ short_value short xs) }
+    ensures same { IfSome result (λ short. (xs : Items ℤ) → value_of form.now xs
+        ≡ short_value short xs) }
 {
     let constant = form.constant().wide()?;
     match form.factors() {

@@ -34,12 +34,15 @@ ghost use Rattle.rob_rules.specs.Texts.{Reads};
 /// thing. A name that stands for something, a row's among them, is that thing's name in the model. And a name behind
 /// `over` at the end of a line stands for a set.
 pub fn known()
-    ensures names { (limit : ℕ) (text : List ℕ) (words : List (List ℕ)) (list : List Statement) (known : Earlier)
+    ensures names { (limit : ℕ) (text : List ℕ) (words : List (List ℕ)) (list : List Statement)
+        (known : Earlier)
         → Reads limit text words list known → AreKnown words known.sorts (naming_of (model_of words known.sorts list)) }
-    ensures things { (limit : ℕ) (text : List ℕ) (words : List (List ℕ)) (list : List Statement) (known : Earlier)
+    ensures things { (limit : ℕ) (text : List ℕ) (words : List (List ℕ)) (list : List Statement)
+        (known : Earlier)
         → Reads limit text words list known → (k : ℕ) (sort : Sort) → sort_at known.sorts k ≡ Some sort
         → HasByName (model_of words known.sorts list) (word_of words k) sort }
-    ensures over { (limit : ℕ) (text : List ℕ) (words : List (List ℕ)) (list : List Statement) (known : Earlier)
+    ensures over { (limit : ℕ) (text : List ℕ) (words : List (List ℕ)) (list : List Statement)
+        (known : Earlier)
         → Reads limit text words list known → Each (EndsInSet known.sorts) list }
 {}
 
@@ -47,20 +50,23 @@ pub fn known()
 /// stands, so that the model of such a text has one set; and the canonical lines of a model without named sets are
 /// those of the model itself.
 pub fn without_sets()
-    ensures statements { (limit : ℕ) (text : List ℕ) (words : List (List ℕ)) (list : List Statement) (known : Earlier)
+    ensures statements { (limit : ℕ) (text : List ℕ) (words : List (List ℕ)) (list : List Statement)
+        (known : Earlier)
         (read : Reads limit text words list known)
         → HasNoOver (text_lines text (words_of text read.tokens) read.tokens) → Each NamesNoSet list }
     ensures model { (words : List (List ℕ)) (sorts : List (Option Sort)) (list : List Statement)
         → Each NamesNoSet list → model_of words sorts list ≡ written_alone words sorts list }
     ensures plain { (limit : ℕ) (text : List ℕ) (m : RobustModel) (read : ReadsModel limit text m)
         → HasNoOver (text_lines text (words_of text read.reads.tokens) read.reads.tokens) → HasOneSet m }
-    ensures lines { (m : RobustModel) → m.sets ≡ [] → IsPlaced m → canonical_lines_of m ≡ lines_alone m }
+    ensures lines { (m : RobustModel) → m.sets ≡ [] → IsPlaced m → canonical_lines_of m
+        ≡ lines_alone m }
     ensures no_over { (m : RobustModel) → Each (Each IsNotOver) (lines_alone m) }
 {}
 
 /// Lines of words and signs that may be written are read as they were written.
 pub fn pages()
-    ensures read { (ls : List (List Written)) → Each IsLine ls → length (ended ls) ≤ most_tokens → IsReadAs ls }
+    ensures read { (ls : List (List Written)) → Each IsLine ls → length (ended ls) ≤ most_tokens
+        → IsReadAs ls }
     ensures only { (ls : List (List Written)) (tokens : List Token) → Each (Each IsToken) ls
         → AreTokens (page_text ls) tokens
         → (words_of (page_text ls) tokens ≡ words_on ls)
@@ -92,14 +98,16 @@ pub fn canonical_lines()
 
 /// A model that a text reads as is readable: its numbers are within the limit, and its expressions are the grammar's.
 pub fn readable()
-    ensures model { (limit : ℕ) (text : List ℕ) (m : RobustModel) → 1 ≤ limit → ReadsModel limit text m
+    ensures model { (limit : ℕ) (text : List ℕ) (m : RobustModel) → 1 ≤ limit
+        → ReadsModel limit text m
         → IsReadableModel limit (naming_of m) m }
 {}
 
 /// The canonical text of a readable, well-named model within the limits, whose lines are few and shallow, is read as
 /// that model.
 pub fn canonical_reading()
-    ensures read { (limit : ℕ) (m : RobustModel) → 1 ≤ limit → limit < 2 ^ 62 → IsReadableModel limit (naming_of m) m
+    ensures read { (limit : ℕ) (m : RobustModel) → 1 ≤ limit → limit < 2 ^ 62
+        → IsReadableModel limit (naming_of m) m
         → IsModel (written_model m) → IsNamed m → Each IsSpelled (declared_names m)
         → Each HasDistinctMembers (written_model m).set_lines → IsWithinLimits m
         → Each (IsShallow 0) (canonical_lines_of m) → length (ended (canonical_lines_of m)) ≤ most_tokens
@@ -108,7 +116,8 @@ pub fn canonical_reading()
 
 /// A model that a text reads as is read again from its canonical text.
 pub fn round_trip()
-    ensures again { (limit : ℕ) (text : List ℕ) (m : RobustModel) → 1 ≤ limit → limit < 2 ^ 62 → ReadsModel limit text m
+    ensures again { (limit : ℕ) (text : List ℕ) (m : RobustModel) → 1 ≤ limit → limit < 2 ^ 62
+        → ReadsModel limit text m
         → ReadsModel limit (model_text m) m }
 {}
 
@@ -118,7 +127,8 @@ pub fn counted_lines()
         → CountsSetsFromOne sorts → (s : Statement)
         → FitsStatement limit s → AreReadable limit sorts names s → EndsInSet sorts s
         → length (canonical_line words sorts names s) + 1 ≡ line_tokens limit (shown words s) }
-    ensures lines { (limit : ℕ) (words : List (List ℕ)) (sorts : List (Option Sort)) (names : Naming)
+    ensures lines { (limit : ℕ) (words : List (List ℕ)) (sorts : List (Option Sort))
+        (names : Naming)
         → CountsSetsFromOne sorts → (list : List Statement)
         → Each (FitsStatement limit) list → Each (AreReadable limit sorts names) list → Each (EndsInSet sorts) list
         → length (ended (map (canonical_line words sorts names) list)) ≡ lines_tokens limit (map (shown words) list) }
@@ -126,7 +136,8 @@ pub fn counted_lines()
 
 /// The canonical line of a statement is shallow, where it opens few parentheses at once as rob_index says.
 pub fn shallow_lines()
-    ensures line { (limit : ℕ) (words : List (List ℕ)) (sorts : List (Option Sort)) (names : Naming) (s : Statement)
+    ensures line { (limit : ℕ) (words : List (List ℕ)) (sorts : List (Option Sort)) (names : Naming)
+        (s : Statement)
         → AreReadable limit sorts names s → line_depth (shown words s) ≤ most_open
         → IsShallow 0 (canonical_line words sorts names s) }
 {}

@@ -65,7 +65,8 @@ module _ (limit : ℕ) (own : List Name) (s : Indexed Tree) (old : Reader) (betw
 
   module _ (judged : named limit own (is_set old.declared.items) old.total s ≡ late_fault own s) where
     -- a plain statement of the line is none
-    pub stops_late : (why : Refusal) (rule : ℕ) → why ≡ NoStatement → HasRefusal (list_any is_no_statement (expand own s)) why
+    pub stops_late : (why : Refusal) (rule : ℕ) → why ≡ NoStatement
+        → HasRefusal (list_any is_no_statement (expand own s)) why
         → rule ≡ 11 → HasIndexStop limit own s old (stop.Rule rule)
     stops_late why rule is refused r =
         let late : list_any is_no_statement (expand own s) ≡ true =

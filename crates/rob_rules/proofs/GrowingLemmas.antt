@@ -87,7 +87,8 @@ place (w ∷ words) more n h = go (λ k. place words more n k) (bytes_eq n w) h
 -- what a number is where its word is found
 number_is : (words : List Name) (n : Name) → position_or_len (bytes_eq n) words < length words
     → number_of words n ≡ position_or_len (bytes_eq n) words
-number_is words n h = ap (λ (b : Bool). unwrap_or (cond b (Some (position_or_len (bytes_eq n) words)) None) 0) (lt-ltb _ _ h)
+number_is words n h =
+    ap (λ (b : Bool). unwrap_or (cond b (Some (position_or_len (bytes_eq n) words)) None) 0) (lt-ltb _ _ h)
 
 pub number_grows : (words more : List Name) (n : Name) → IsAmong words n
     → number_of (words ++ more) n ≡ number_of words n

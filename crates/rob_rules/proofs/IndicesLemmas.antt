@@ -125,7 +125,8 @@ module _ (limit : ℕ) (words : List Name) (is_declared : ℕ → Bool) (total :
       go unknown searched.found (great || (search_places search_out (places s) searched.left).found)
     where
       go : (a b c : Bool)
-          → (if a then index_unknown else (if b then range_too_long else (if c then index_out else too_much))) ≡ no_statement
+          → (if a then index_unknown else (if b then range_too_long else (if c then index_out else too_much)))
+          ≡ no_statement
           → ⊥
       go true b c h = cc
       go false true c h = cc
@@ -154,7 +155,8 @@ module _ (limit : ℕ) (words : List Name) (is_declared : ℕ → Bool) (total :
         (go unknown long great out much late
         (ap (λ (r : Bool). pick r unknown long (great || out) much late crowded) (sym has_room_named) ∙ is))
       where
-        go : (a b c d m l : Bool) → pick true a b (c || d) m l crowded ≡ (if l then Some no_statement else None) → d ≡ false
+        go : (a b c d m l : Bool) → pick true a b (c || d) m l crowded ≡ (if l then Some no_statement else None)
+            → d ≡ false
         go true b c d m l h = absurd (clash l index_unknown (λ e. cc) h)
         go false true c d m l h = absurd (clash l range_too_long (λ e. cc) h)
         go false false true d m l h = absurd (clash l index_out (λ e. cc) h)

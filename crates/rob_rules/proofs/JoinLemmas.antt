@@ -35,11 +35,13 @@ module _ (limit : ℕ) (words : List Name) (v : Version) where
   )
 
   -- a bad line behind lines that read
-  pub breaking_behind : (xs : List (List Symbol)) (e : St) (a : List stated.Statement) (f : St) (ys : List (List Symbol))
+  pub breaking_behind : (xs : List (List Symbol)) (e : St) (a : List stated.Statement) (f : St)
+      (ys : List (List Symbol))
       (fault : LineFault Fault) (n : ℕ) → Reading e xs a f → Breaking f ys fault n
       → Breaking e (xs ++ ys) fault (length xs + n)
   breaking_behind [] e a f ys fault n first second =
-      subst (λ (m : ℕ). Breaking e ys fault m) (zero_plus n) (subst (λ (x : St). Breaking x ys fault n) (sym first.1) second)
+      subst (λ (m : ℕ). Breaking e ys fault m) (zero_plus n)
+      (subst (λ (x : St). Breaking x ys fault n) (sym first.1) second)
     where
       zero_plus : (n : ℕ) → n ≡ 0 + n
       zero_plus n = omega arith

@@ -105,7 +105,8 @@ module _ (limit : ℕ) (all : List Name) where
     after = line_behind limit words Named Fault in_order (has_later limit) named_behind is_declared (IsOf v)
 
     -- ---- the statements of a line
-    pub stepped_words : (k : Named) (ps : List stated.Statement) → (more : List Name) × ((stepped k ps).words ≡ k.words ++ more)
+    pub stepped_words : (k : Named) (ps : List stated.Statement) → (more : List Name)
+        × ((stepped k ps).words ≡ k.words ++ more)
     stepped_words k [] = ([], sym (append-nil k.words))
     stepped_words k (p ∷ ps) =
         let g = grown_has k.words p in
@@ -233,7 +234,8 @@ module _ (limit : ℕ) (words : List Name) (v : Version) where
       subst (λ (l : List stated.Statement). Each (λ p. AreAmong f.known.words (names_of p)) l) (sym r.0) tt
   reading_among ([] ∷ lines) e list f r = reading_among lines e list f r
   reading_among ((x ∷ xs) ∷ lines) e list f r =
-      let next = line_behind limit words Named Fault in_order (has_later limit) named_behind is_declared (IsOf v) e r.0 in
+      let next =
+      line_behind limit words Named Fault in_order (has_later limit) named_behind is_declared (IsOf v) e r.0 in
       let n = reading_words limit words words v lines next r.1 f r.5 in
       let first = subst (λ (w : List Name). Each (λ p. AreAmong w (names_of p)) (expand words r.0)) (sym n.1)
       (grow_each next.known.words n.0 (expand words r.0) (stepped_among e.known (expand words r.0))) in

@@ -130,7 +130,8 @@ module _ (limit : ℕ) (front : Earlier) (all : Option Fault) (last : Earlier) w
   }
 
   -- one statement more is judged
-  pub judged_more : (list : List Statement) (i : ℕ) (s : Statement) (now next : Earlier) (lowest fault lower : Option Fault)
+  pub judged_more : (list : List Statement) (i : ℕ) (s : Statement) (now next : Earlier)
+      (lowest fault lower : Option Fault)
       → i < length list → s ≡ get_or list i s → IsJudged (drop i list) now lowest
       → fault ≡ first_fault limit front now s → lower ≡ lower_of lowest fault → next ≡ behind now s
       → IsJudged (drop (i + 1) list) next lower

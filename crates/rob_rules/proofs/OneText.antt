@@ -30,7 +30,8 @@ module _ (limit : ℕ) (text : List ℕ) where
       of_tokens : (tokens : List Token) → AreTokens text tokens → HasReading limit text
       of_tokens tokens are =
           let v = text_version text tokens in
-          elim (some limit (words_of text tokens) Named Fault in_order (has_later limit) named_behind is_declared (IsOf v)
+          elim (some limit (words_of text tokens) Named Fault in_order (has_later limit) named_behind is_declared
+          (IsOf v)
           (one_of v) (settled_of v) has_goal (in_front limit v (words_of text tokens))
           (map seen_line (text_lines text (words_of text tokens) tokens))) [
             | inl r ↦ inl (
@@ -44,7 +45,8 @@ module _ (limit : ℕ) (text : List ℕ) where
 
   -- the lines of the same tokens
   read_of : (a b : List Token) → a ≡ b → (plain : List stated.Statement) (last : Named) (total : ℕ)
-      → LinesRead limit text (words_of text b) b plain last total → LinesRead limit text (words_of text a) a plain last total
+      → LinesRead limit text (words_of text b) b plain last total
+      → LinesRead limit text (words_of text a) a plain last total
   read_of a b same plain last total read =
       subst (λ (t : List Token). LinesRead limit text (words_of text t) t plain last total) (sym same) read
 
@@ -59,7 +61,8 @@ module _ (limit : ℕ) (text : List ℕ) where
   one_text words list known words' list' known' x y =
       let v = text_version text x.tokens in
       let same : x.tokens ≡ y.tokens = one_list text x.tokens y.tokens x.are_tokens y.are_tokens in
-      let both = one_reading limit (words_of text x.tokens) Named Fault in_order (has_later limit) named_behind is_declared
+      let both =
+      one_reading limit (words_of text x.tokens) Named Fault in_order (has_later limit) named_behind is_declared
       (IsOf v) (one_of v) (settled_of v) has_goal (in_front limit v (words_of text x.tokens))
       (map seen_line (text_lines text (words_of text x.tokens) x.tokens)) x.plain
       (record { known = record { words = words; earlier = known }; total = x.total }) y.plain

@@ -23,7 +23,8 @@ padded_all count x xs enough =
     let none : count - length xs ≡ 0 = omega (arith, enough) in
     ap (λ (k : ℕ). xs ++ replicate k x) none ∙ append-nil xs
 
-pub length-padded : {A : Type 0} (count : ℕ) (x : A) (xs : List A) → length xs ≤ count → length (padded count x xs) ≡ count
+pub length-padded : {A : Type 0} (count : ℕ) (x : A) (xs : List A) → length xs ≤ count
+    → length (padded count x xs) ≡ count
 length-padded count x xs few =
     length-append xs (replicate (count - length xs) x)
     ∙ ap (λ (k : ℕ). length xs + k) (length-replicate (count - length xs) x) ∙ omega (arith, few)

@@ -157,7 +157,8 @@ module _ (words : List Name) where
     parts_numbered : (ps : Parts) → PlainParts ps → AreReal (summands_of (map part_of (numbered_parts words ps)))
     parts_numbered stated.no_parts h = tt
     parts_numbered (stated.part m p ps) h =
-        subst (λ (x : trees.Part). AreReal (trees.summand x.minus x.inner (summands_of (map part_of (numbered_parts words ps)))))
+        subst (λ (x : trees.Part).
+        AreReal (trees.summand x.minus x.inner (summands_of (map part_of (numbered_parts words ps)))))
         (sym (part_is (record { minus = m; inner = numbered_tree words p })))
         (numbered_real p h.0, parts_numbered ps h.1)
 
@@ -169,12 +170,14 @@ module _ (words : List Name) where
     long_numbered : (ps : Parts) → LongPlain ps → IsLongSum (summands_of (map part_of (numbered_parts words ps)))
     long_numbered stated.no_parts h = h
     long_numbered (stated.part true p ps) h =
-        subst (λ (x : trees.Part). IsLongSum (trees.summand x.minus x.inner (summands_of (map part_of (numbered_parts words ps)))))
+        subst (λ (x : trees.Part).
+        IsLongSum (trees.summand x.minus x.inner (summands_of (map part_of (numbered_parts words ps)))))
         (sym (part_is (record { minus = true; inner = numbered_tree words p }))) tt
     long_numbered (stated.part false p stated.no_parts) h = absurd h
     long_numbered (stated.part false p (stated.part m q qs)) h =
         subst (λ (x : trees.Part).
-        IsLongSum (trees.summand x.minus x.inner (summands_of (map part_of (numbered_parts words (stated.part m q qs))))))
+        IsLongSum (trees.summand x.minus x.inner
+        (summands_of (map part_of (numbered_parts words (stated.part m q qs))))))
         (sym (part_is (record { minus = false; inner = numbered_tree words p }))) tt
 
     product_numbered : (ps : Factors) → LongProduct ps
@@ -185,7 +188,8 @@ module _ (words : List Name) where
 
 -- ---- statements
 module _ (own words : List Name) where
-  setting_real : (l : Indexed Expr) (e : Setting) → Each IsReal (expressions (numbered words (statement_at own (statement_of l) e)))
+  setting_real : (l : Indexed Expr) (e : Setting)
+      → Each IsReal (expressions (numbered words (statement_at own (statement_of l) e)))
   setting_real (stated.uncertain r b rs) e = tt
   setting_real (stated.over r rs) e = tt
   setting_real (stated.set s rs) e = (

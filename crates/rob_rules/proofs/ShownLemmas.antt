@@ -1,5 +1,5 @@
--- A range that is too long, where the ends show it: a search that may spend nothing finds it, so one that may spend more
--- finds it too, and the line is refused for it whether it fits or not.
+-- A range that is too long, where the ends show it: a search that may spend nothing finds it, so one that may spend
+-- more finds it too, and the line is refused for it whether it fits or not.
 use Rattle.std.proofs.Common.{◌≡◌, ℕ, ◌-◌, ◌*◌, ◌<◌, Bool, true, false, List, [], ◌∷◌, length, Option, Some, None, refl, sym, ap, ◌∙◌, mul-pos, arith}
 use Rattle.std.specs.Prelude.{ℤ, pos, ◌||◌, nat_lt, if◌then◌else◌}
 use Rattle.std.specs.List.{list_any}
@@ -120,7 +120,9 @@ places_shown (i ∷ is) left h = go (places_shown is) (search_long i 0).found re
     go so false e =
         let behind : (search_places search_long is 0).found ≡ true =
         ap (λ (n : ℕ). (search_places search_long is n).found) (sym (place_left i))
-        ∙ sym (ap (λ (t : Bool). (if t then search_long i 0 else search_places search_long is (search_long i 0).left).found) e)
+        ∙ sym
+        (ap (λ (t : Bool). (if t then search_long i 0 else search_places search_long is (search_long i 0).left).found)
+        e)
         ∙ h in
         found_behind (search_long i left) (search_places search_long is) (λ left. so left behind)
 
@@ -150,7 +152,8 @@ places_long (i ∷ is) left h = go (places_long is) (search_long i left).found r
 -- ---- the fault that is named
 module _ (limit : ℕ) (words : List Name) (is_declared : ℕ → Bool) (total : ℕ) (s : Indexed Tree)
     (shown : (search_places search_long (places s) 0).found ≡ true) where
-  pub shown_named : named limit words is_declared total s ≡ Some (long_fault (list_any (is_unknown is_declared) (places s)))
+  pub shown_named : named limit words is_declared total s ≡ Some
+      (long_fault (list_any (is_unknown is_declared) (places s)))
   shown_named = go (has_room limit words is_declared total s) (list_any (is_unknown is_declared) (places s)) refl refl
     where
       go : (r u : Bool) → has_room limit words is_declared total s ≡ r

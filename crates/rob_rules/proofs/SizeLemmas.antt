@@ -51,7 +51,9 @@ times_more a n = grind arith
 pub kept_small : (s : Sizes) → IsKept s → IsSmall s
 kept_small s kept =
     let w = within s kept.within in
-    let f = factors_at_most s.forms ((s.bounds * (s.sets + 1) + s.set_rows) + 2 * (joint_count s + s.members)) most_size kept.forms w.whole in
+    let f =
+    factors_at_most s.forms ((s.bounds * (s.sets + 1) + s.set_rows) + 2 * (joint_count s + s.members)) most_size
+    kept.forms w.whole in
     let p = times_more s.parameters s.sets in
     let b = times_more s.bounds s.sets in
     record {
@@ -72,11 +74,30 @@ pub kept_start : IsKept start_sizes
 kept_start = record { within = refl; variables = omega arith; adaptives = omega arith; forms = omega arith }
 
 pub kept_behind : (s : Sizes) (st : Statement) → IsKept s → is_within (counted s st) ≡ true → IsKept (counted s st)
-kept_behind s (Uncertain d) kept h = record { within = h; variables = kept.variables; adaptives = kept.adaptives; forms = kept.forms }
-kept_behind s (Var d) kept h = record { within = h; variables = omega (arith, kept.variables); adaptives = omega (arith, kept.adaptives); forms = omega (arith, kept.forms) }
-kept_behind s (Adaptive p) kept h = record { within = h; variables = omega (arith, kept.variables); adaptives = omega (arith, kept.adaptives); forms = omega (arith, kept.forms) }
-kept_behind s (Over k) kept h = record { within = h; variables = kept.variables; adaptives = kept.adaptives; forms = kept.forms }
-kept_behind s (Set r) kept h = record { within = h; variables = kept.variables; adaptives = kept.adaptives; forms = kept.forms }
-kept_behind s (Budget b) kept h = record { within = h; variables = kept.variables; adaptives = kept.adaptives; forms = kept.forms }
-kept_behind s (Row r) kept h = record { within = h; variables = kept.variables; adaptives = kept.adaptives; forms = omega (arith, kept.forms) }
+kept_behind s (Uncertain d) kept h =
+    record { within = h; variables = kept.variables; adaptives = kept.adaptives; forms = kept.forms }
+kept_behind s (Var d) kept h =
+    record {
+      within = h;
+      variables = omega (arith, kept.variables);
+      adaptives = omega (arith, kept.adaptives);
+      forms =
+          omega (arith, kept.forms);
+    }
+kept_behind s (Adaptive p) kept h =
+    record {
+      within = h;
+      variables = omega (arith, kept.variables);
+      adaptives = omega (arith, kept.adaptives);
+      forms =
+          omega (arith, kept.forms);
+    }
+kept_behind s (Over k) kept h =
+    record { within = h; variables = kept.variables; adaptives = kept.adaptives; forms = kept.forms }
+kept_behind s (Set r) kept h =
+    record { within = h; variables = kept.variables; adaptives = kept.adaptives; forms = kept.forms }
+kept_behind s (Budget b) kept h =
+    record { within = h; variables = kept.variables; adaptives = kept.adaptives; forms = kept.forms }
+kept_behind s (Row r) kept h =
+    record { within = h; variables = kept.variables; adaptives = kept.adaptives; forms = omega (arith, kept.forms) }
 kept_behind s (Goal g) kept h = kept

@@ -7,7 +7,8 @@ use Rattle.rob_expand.proofs.RoomLemmas.{left_some}
 
 -- what is left
 pub left_is : (tokens room left : ℕ) → tokens ≤ room → left_of tokens room ≡ Some left → left ≡ room - tokens
-left_is tokens room left fits is = let e : Some (room - tokens) ≡ Some left = sym (left_some tokens room fits) ∙ is in cc
+left_is tokens room left fits is =
+    let e : Some (room - tokens) ≡ Some left = sym (left_some tokens room fits) ∙ is in cc
 
 -- a count doesn't stop for want of it
 pub never_stops : (tokens room : ℕ) (why : Stop) → tokens ≤ room → why ≡ TooMuch → HasStop (left_of tokens room) why → ⊥

@@ -23,7 +23,8 @@ same_either_way : (j k : ℕ) → (j == k) || false ≡ (k == j)
 same_either_way j k = grind (arith, nat_tests)
 
 one_more : (seen : List ℕ) (k : ℕ) (s : Leaf) → is_seen (seen ++ k ∷ []) s ≡ is_seen seen s || is_name k s
-one_more seen k (leaf.Name j) = list_any-append (λ i. j == i) seen (k ∷ []) ∙ ap (λ b. list_any (λ i. j == i) seen || b) (same_either_way j k)
+one_more seen k (leaf.Name j) =
+    list_any-append (λ i. j == i) seen (k ∷ []) ∙ ap (λ b. list_any (λ i. j == i) seen || b) (same_either_way j k)
 one_more seen k (leaf.Number _) = refl
 
 regroup : (a b c d : Bool) → (a || c) || (b || d) ≡ (a || b) || (c || d)
@@ -37,15 +38,20 @@ regroup_more true b c d = refl
 regroup_more false true c d = refl
 regroup_more false false c d = refl
 
-any_more : (seen : List ℕ) (k : ℕ) (rest : List Leaf) → list_any (is_seen (seen ++ k ∷ [])) rest ≡ list_any (is_seen seen) rest || list_any (is_name k) rest
+any_more : (seen : List ℕ) (k : ℕ) (rest : List Leaf)
+    → list_any (is_seen (seen ++ k ∷ [])) rest ≡ list_any (is_seen seen) rest || list_any (is_name k) rest
 any_more seen k [] = refl
-any_more seen k (s ∷ rest) = (λ i. one_more seen k s i || any_more seen k rest i) ∙ regroup (is_seen seen s) (list_any (is_seen seen) rest) (is_name k s) (list_any (is_name k) rest)
+any_more seen k (s ∷ rest) =
+    (λ i. one_more seen k s i || any_more seen k rest i)
+    ∙ regroup (is_seen seen s) (list_any (is_seen seen) rest) (is_name k s) (list_any (is_name k) rest)
 
 again : (seen : List ℕ) (rest : List Leaf) → comes_again seen rest ≡ list_any (is_seen seen) rest || has_twice rest
 again seen [] = refl
 again seen (leaf.Name k ∷ rest) =
-    ap (λ b. list_any (λ j. k == j) seen || b) (again (seen ++ k ∷ []) rest ∙ ap (λ b. b || has_twice rest) (any_more seen k rest))
-    ∙ regroup_more (list_any (λ j. k == j) seen) (list_any (is_seen seen) rest) (list_any (is_name k) rest) (has_twice rest)
+    ap (λ b. list_any (λ j. k == j) seen || b)
+    (again (seen ++ k ∷ []) rest ∙ ap (λ b. b || has_twice rest) (any_more seen k rest))
+    ∙ regroup_more (list_any (λ j. k == j) seen) (list_any (is_seen seen) rest) (list_any (is_name k) rest)
+    (has_twice rest)
 again seen (leaf.Number _ ∷ rest) = again seen rest
 
 none_seen : (rest : List Leaf) → list_any (is_seen []) rest ≡ false

@@ -24,9 +24,12 @@ or_last false false c = swap c
     swap true = refl
     swap false = refl
 
-any-append : {X : Type 0} (test : X → Bool) (xs ys : List X) → list_any test (xs ++ ys) ≡ list_any test xs || list_any test ys
+any-append : {X : Type 0} (test : X → Bool) (xs ys : List X)
+    → list_any test (xs ++ ys) ≡ list_any test xs || list_any test ys
 any-append test [] ys = refl
-any-append test (x ∷ xs) ys = ap (λ (b : Bool). test x || b) (any-append test xs ys) ∙ sym (or_assoc (test x) (list_any test xs) (list_any test ys))
+any-append test (x ∷ xs) ys =
+    ap (λ (b : Bool). test x || b) (any-append test xs ys)
+    ∙ sym (or_assoc (test x) (list_any test xs) (list_any test ys))
 
 max_kept : (a b : ℕ) → max (min a 2) (min b 2) ≡ min (max a b) 2
 max_kept a b = omega arith
@@ -61,7 +64,8 @@ max_nothing : (n : ℕ) → max 0 n ≡ n
 max_nothing n = omega arith
 
 nothing_plus : (d : Degree) → plus constant d ≡ d
-nothing_plus d = λ i. record { decision = max_nothing d.decision i; uncertain = max_nothing d.uncertain i; recourse = d.recourse }
+nothing_plus d =
+    λ i. record { decision = max_nothing d.decision i; uncertain = max_nothing d.uncertain i; recourse = d.recourse }
 
 or_nothing : (b : Bool) → b || false ≡ b
 or_nothing true = refl
@@ -71,13 +75,25 @@ add_nothing : (n : ℕ) → n + 0 ≡ n
 add_nothing n = omega arith
 
 times_nothing : (d : Degree) → times d constant ≡ d
-times_nothing d = λ i. record { decision = add_nothing d.decision i; uncertain = add_nothing d.uncertain i; recourse = or_nothing d.recourse i }
+times_nothing d =
+    λ i. record {
+      decision = add_nothing d.decision i;
+      uncertain = add_nothing d.uncertain i;
+      recourse =
+          or_nothing d.recourse i;
+    }
 
 max_none : (n : ℕ) → max n 0 ≡ n
 max_none n = omega arith
 
 plus_nothing : (d : Degree) → plus d constant ≡ d
-plus_nothing d = λ i. record { decision = max_none d.decision i; uncertain = max_none d.uncertain i; recourse = or_nothing d.recourse i }
+plus_nothing d =
+    λ i. record {
+      decision = max_none d.decision i;
+      uncertain = max_none d.uncertain i;
+      recourse =
+          or_nothing d.recourse i;
+    }
 
 -- two weights joined
 joined_is : (d e : Degree) (ds es : List Degree) → joined (weight d ds) (weight e es) ≡ weight (plus d e) (ds ++ es)
@@ -91,7 +107,8 @@ joined_is d e ds es = λ i. record {
 }
 
 -- a product of two
-multiplied_is : (d e : Degree) (ds es : List Degree) → multiplied (Some (weight d ds)) (weight e es) ≡ weight (times d e) (ds ++ times d e ∷ es)
+multiplied_is : (d e : Degree) (ds es : List Degree)
+    → multiplied (Some (weight d ds)) (weight e es) ≡ weight (times d e) (ds ++ times d e ∷ es)
 multiplied_is d e ds es = λ i. record {
   decision = sum_kept d.decision e.decision i;
   uncertain = sum_kept d.uncertain e.uncertain i;
@@ -101,11 +118,13 @@ multiplied_is d e ds es = λ i. record {
       ∙ or_last (list_any has_two_decisions ds) (list_any has_two_decisions es) (nat_lt 1 (d.decision + e.decision))
       ∙ sym (any-append has_two_decisions ds (times d e ∷ es))) i;
   two_uncertain =
-      ((λ j. (list_any has_two_uncertain ds || list_any has_two_uncertain es) || (not (d.recourse || e.recourse) && over d.uncertain e.uncertain j))
+      ((λ j. (list_any has_two_uncertain ds || list_any has_two_uncertain es) ||
+      (not (d.recourse || e.recourse) && over d.uncertain e.uncertain j))
       ∙ or_last (list_any has_two_uncertain ds) (list_any has_two_uncertain es) (has_two_uncertain (times d e))
       ∙ sym (any-append has_two_uncertain ds (times d e ∷ es))) i;
   random_recourse =
-      ((λ j. (list_any has_random_recourse ds || list_any has_random_recourse es) || ((d.recourse || e.recourse) && over d.uncertain e.uncertain j))
+      ((λ j. (list_any has_random_recourse ds || list_any has_random_recourse es) ||
+      ((d.recourse || e.recourse) && over d.uncertain e.uncertain j))
       ∙ or_last (list_any has_random_recourse ds) (list_any has_random_recourse es) (has_random_recourse (times d e))
       ∙ sym (any-append has_random_recourse ds (times d e ∷ es))) i;
 }
@@ -124,24 +143,32 @@ module _ (sorts : List (Option Sort)) where
   product_from w no_operands = unwrap_or w (weight constant [])
   product_from w (operand f fs) = product_from (Some (multiplied w (weight_of sorts f))) fs
 
-  sum_from_is : (d : Degree) (ds : List Degree) (ts : Summands) → sum_from (weight d ds) ts ≡ weight (plus d (sum_degree sorts ts)) (ds ++ sum_products sorts ts)
+  sum_from_is : (d : Degree) (ds : List Degree) (ts : Summands)
+      → sum_from (weight d ds) ts ≡ weight (plus d (sum_degree sorts ts)) (ds ++ sum_products sorts ts)
   unfolding sum_from
   sum_from_is d ds no_summands = λ i. weight (sym (plus_nothing d) i) (sym (append-nil ds) i)
   sum_from_is d ds (summand minus t ts) =
       ap (λ (w : Weight). sum_from w ts) (joined_is d (degree sorts t) ds (products sorts t))
       ∙ sum_from_is (plus d (degree sorts t)) (ds ++ products sorts t) ts
-      ∙ (λ i. weight (plus_assoc d (degree sorts t) (sum_degree sorts ts) i) (append_assoc ds (products sorts t) (sum_products sorts ts) i))
+      ∙ (λ i. weight (plus_assoc d (degree sorts t) (sum_degree sorts ts) i)
+      (append_assoc ds (products sorts t) (sum_products sorts ts) i))
 
-  product_from_is : (d : Degree) (ds : List Degree) (fs : Operands) → product_from (Some (weight d ds)) fs ≡ weight (times d (product_degree sorts fs)) (ds ++ more_products sorts d fs)
+  product_from_is : (d : Degree) (ds : List Degree) (fs : Operands)
+      → product_from (Some (weight d ds)) fs ≡ weight (times d (product_degree sorts fs))
+      (ds ++ more_products sorts d fs)
   unfolding product_from
   product_from_is d ds no_operands = λ i. weight (sym (times_nothing d) i) (sym (append-nil ds) i)
   product_from_is d ds (operand f fs) =
       ap (λ (w : Weight). product_from (Some w) fs) (multiplied_is d (degree sorts f) ds (products sorts f))
       ∙ product_from_is (times d (degree sorts f)) (ds ++ times d (degree sorts f) ∷ products sorts f) fs
-      ∙ (λ i. weight (times_assoc d (degree sorts f) (product_degree sorts fs) i) (append_assoc ds (times d (degree sorts f) ∷ products sorts f) (more_products sorts (times d (degree sorts f)) fs) i))
+      ∙ (λ i. weight (times_assoc d (degree sorts f) (product_degree sorts fs) i)
+      (append_assoc ds (times d (degree sorts f) ∷ products sorts f) (more_products sorts (times d (degree sorts f)) fs)
+      i))
 
   pub sum_whole : (ts : Summands) → sum_from (weight constant []) ts ≡ weight_of sorts (sum ts)
-  sum_whole ts = sum_from_is constant [] ts ∙ ap (λ (d : Degree). weight d (sum_products sorts ts)) (nothing_plus (sum_degree sorts ts))
+  sum_whole ts =
+      sum_from_is constant [] ts
+      ∙ ap (λ (d : Degree). weight d (sum_products sorts ts)) (nothing_plus (sum_degree sorts ts))
 
   pub product_whole : (fs : Operands) → product_from None fs ≡ weight_of sorts (product fs)
   unfolding product_from

@@ -82,7 +82,8 @@ module _ (a b : List (Option Sort)) (same : (k : ℕ) → sort_at a k ≡ sort_a
   some_same test s = λ i. list_any test (flat_map (λ (t : Tree). products_same t i) (expressions s))
 
 -- faults where each name stands for the same
-module _ (limit : ℕ) (before before' now now' : Earlier) (old : (k : ℕ) → sort_at before.sorts k ≡ sort_at before'.sorts k)
+module _ (limit : ℕ) (before before' now now' : Earlier)
+    (old : (k : ℕ) → sort_at before.sorts k ≡ sort_at before'.sorts k)
     (new : (k : ℕ) → sort_at now.sorts k ≡ sort_at now'.sorts k) (sizes : now.sizes ≡ now'.sizes)
     (goal : now.goal ≡ now'.goal) (s : Statement) where
   product_fault : (test : Degree → Bool) → list_any test (flat_map (products before.sorts) (expressions s))

@@ -148,8 +148,10 @@ module _ (limit : ℕ) (before now : Earlier) (s : Statement) where
 
   -- what each fault is; the one that is no fault of a statement is judged elsewhere
   abbrev pub has_fault : Fault → Bool
-  has_fault NameTwice = is_declared now.sorts (declared_by now.sizes s) || (is_listing s && has_twice (statement_leaves s))
-  has_fault NameUnknown = list_any (is_unknown before.sorts) (statement_leaves s) || is_over_none before.sorts (over_of s)
+  has_fault NameTwice =
+      is_declared now.sorts (declared_by now.sizes s) || (is_listing s && has_twice (statement_leaves s))
+  has_fault NameUnknown =
+      list_any (is_unknown before.sorts) (statement_leaves s) || is_over_none before.sorts (over_of s)
   has_fault NumberTooLong = list_any (is_over limit) (statement_leaves s)
   has_fault DeviationNotPositive = list_any is_certain (members_of s)
   has_fault TwoDecisions = some_product has_two_decisions

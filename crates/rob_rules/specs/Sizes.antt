@@ -27,18 +27,43 @@ rel_count rel.Equal = 2
 
 -- in front of the first line the objective is counted
 abbrev pub start_sizes : Sizes
-start_sizes = record { parameters = 0; bounds = 0; sets = 0; variables = 0; adaptives = 0; columns = 0; rows = 0; set_lines = 0; members = 0; forms = 1; set_rows = 0 }
+start_sizes =
+    record {
+      parameters = 0;
+      bounds = 0;
+      sets = 0;
+      variables = 0;
+      adaptives = 0;
+      columns = 0;
+      rows = 0;
+      set_lines =
+          0;
+      members = 0;
+      forms = 1;
+      set_rows = 0;
+    }
 
 -- the sizes behind one more statement
 abbrev pub counted : Sizes → Statement → Sizes
 counted s (Uncertain d) = record s { parameters = s.parameters + 1; bounds = s.bounds + bound_count d.bounds }
 counted s (Over k) = record s { sets = s.sets + 1 }
-counted s (Var d) = record s { variables = s.variables + 1; columns = s.columns + 1; forms = s.forms + bound_count d.bounds }
+counted s (Var d) =
+    record s { variables = s.variables + 1; columns = s.columns + 1; forms = s.forms + bound_count d.bounds }
 counted s (Adaptive p) =
-    record s { adaptives = s.adaptives + 1; columns = s.columns + (1 + length p.on); forms = s.forms + bound_count p.bounds }
+    record s {
+      adaptives = s.adaptives + 1;
+      columns = s.columns + (1 + length p.on);
+      forms =
+          s.forms + bound_count p.bounds;
+    }
 counted s (Set r) = record s { set_lines = s.set_lines + 1; set_rows = s.set_rows + rel_count r.rel }
 counted s (Budget b) =
-    record s { set_lines = s.set_lines + 1; members = s.members + length b.members; set_rows = s.set_rows + (1 + 2 * length b.members) }
+    record s {
+      set_lines = s.set_lines + 1;
+      members = s.members + length b.members;
+      set_rows =
+          s.set_rows + (1 + 2 * length b.members);
+    }
 counted s (Row r) = record s { rows = s.rows + 1; forms = s.forms + rel_count r.relation.rel }
 counted s (Goal g) = s
 
@@ -68,7 +93,8 @@ pub record AreSizesOf (m : RobustModel) (s : Sizes) : Type 0 where
 -- no limit is passed
 abbrev pub is_within : Sizes → Bool
 is_within s =
-    nat_le s.sets most_sets && nat_le (joint_count s) most_parameters && nat_le s.columns most_columns && nat_le s.rows most_rows
+    nat_le s.sets most_sets && nat_le (joint_count s) most_parameters && nat_le s.columns most_columns && nat_le s.rows
+    most_rows
     && nat_le s.set_lines most_set_lines && nat_le s.members most_members && nat_le (size s) most_size
 
 -- the counts leave room for one more statement

@@ -54,6 +54,7 @@ multiplied (Some a) b =
 -- the weight of all expressions of a statement together
 abbrev pub statement_weight : List (Option Sort) → Statement → Weight
 statement_weight sorts (Set r) = joined (weight_of sorts (tree_of r.left)) (weight_of sorts (tree_of r.right))
-statement_weight sorts (Row r) = joined (weight_of sorts (tree_of r.relation.left)) (weight_of sorts (tree_of r.relation.right))
+statement_weight sorts (Row r) =
+    joined (weight_of sorts (tree_of r.relation.left)) (weight_of sorts (tree_of r.relation.right))
 statement_weight sorts (Goal g) = weight_of sorts (tree_of g.objective)
 statement_weight sorts _ = weight constant []

@@ -66,7 +66,8 @@ fn weigh_sum(sorts: &[Option<Sort>], parts: &[Summand]) -> Weight
 /// The weight of a product.
 #[cycle(weigh)]
 fn weigh_product(sorts: &[Option<Sort>], factors: &[Syntax]) -> Weight
-    ensures weight { result ≡ weight_of sorts.now (product (operands_of (map tree_of factors.now))) }
+    ensures weight { result ≡ weight_of sorts.now
+        (product (operands_of (map tree_of factors.now))) }
 {
     let mut so_far = None;
     for factor in factors {

@@ -387,7 +387,8 @@ fn weigh_statement(sorts: &[Option<Sort>], statement: &Statement) -> Weight
 
 /// The weight of both sides together.
 fn weigh_relation(sorts: &[Option<Sort>], relation: &Relation) -> Weight
-    ensures weight { result ≡ weights.joined (weight_of sorts.now (tree_of relation.now.left)) (weight_of sorts.now (tree_of relation.now.right)) }
+    ensures weight { result ≡ weights.joined (weight_of sorts.now (tree_of relation.now.left))
+        (weight_of sorts.now (tree_of relation.now.right)) }
 {
     joined(weigh(sorts, &relation.left), weigh(sorts, &relation.right))
 }

@@ -41,7 +41,8 @@ pub fn one_text()
 /// Words may come behind those that there are: names keep their numbers, and faults go by what names stand for, not by
 /// how many words there are.
 pub fn growing()
-    ensures numbers { (words more : List (List ℕ)) (s : stated.Statement) → AreAmong words (names_of s)
+    ensures numbers { (words more : List (List ℕ)) (s : stated.Statement)
+        → AreAmong words (names_of s)
         → numbered (words ++ more) s ≡ numbered words s }
     ensures faults { (limit : ℕ) (before before' now now' : Earlier)
         → ((k : ℕ) → sort_at before.sorts k ≡ sort_at before'.sorts k)
@@ -52,10 +53,12 @@ pub fn growing()
 
 /// The plain statements of a text that reads stand one behind another, each without a fault.
 pub fn linked()
-    ensures linked { (limit : ℕ) (text : List ℕ) (words : List (List ℕ)) (list : List Statement) (known : Earlier)
+    ensures linked { (limit : ℕ) (text : List ℕ) (words : List (List ℕ)) (list : List Statement)
+        (known : Earlier)
         (r : Reads limit text words list known)
         → AreLinked limit words (start (length words)) r.plain known }
-    ensures names { (limit : ℕ) (text : List ℕ) (words : List (List ℕ)) (list : List Statement) (known : Earlier)
+    ensures names { (limit : ℕ) (text : List ℕ) (words : List (List ℕ)) (list : List Statement)
+        (known : Earlier)
         (r : Reads limit text words list known) → Each (λ p. AreAmong words (names_of p)) r.plain }
 {}
 

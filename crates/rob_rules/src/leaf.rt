@@ -67,7 +67,8 @@ fn append_tree(list: &mut List<Leaf>, tree: &Syntax) -> Result<(), Memory>
 /// Appends those of the parts of a sum.
 #[cycle(leaves)]
 fn append_parts(list: &mut List<Leaf>, parts: &[Summand]) -> Result<(), Memory>
-    ensures appended { OnOk result (list.new ≡ list.old ++ spec.part_leaves (summands_of (map part_of parts.now))) }
+    ensures appended { OnOk result (list.new
+        ≡ list.old ++ spec.part_leaves (summands_of (map part_of parts.now))) }
 {
     for part in parts {
         append_tree(list, &part.inner)?;
@@ -78,7 +79,8 @@ fn append_parts(list: &mut List<Leaf>, parts: &[Summand]) -> Result<(), Memory>
 /// Appends those of the factors of a product.
 #[cycle(leaves)]
 fn append_factors(list: &mut List<Leaf>, factors: &[Syntax]) -> Result<(), Memory>
-    ensures appended { OnOk result (list.new ≡ list.old ++ spec.factor_leaves (operands_of (map tree_of factors.now))) }
+    ensures appended { OnOk result (list.new
+        ≡ list.old ++ spec.factor_leaves (operands_of (map tree_of factors.now))) }
 {
     for factor in factors {
         append_tree(list, factor)?;
@@ -98,7 +100,8 @@ fn append_names(list: &mut List<Leaf>, names: &[usize]) -> Result<(), Memory>
 
 /// Appends the names and numbers of the members of a budget.
 fn append_members(list: &mut List<Leaf>, members: &[Member]) -> Result<(), Memory>
-    ensures appended { OnOk result (list.new ≡ list.old ++ flat_map spec.member_leaves members.now) }
+    ensures appended { OnOk result (list.new
+        ≡ list.old ++ flat_map spec.member_leaves members.now) }
 {
     for member in members {
         append_member(list, *member)?;

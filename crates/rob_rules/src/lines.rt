@@ -84,7 +84,8 @@ pub fn read_text(alloc: Global, text: &[u8], limit: u64) -> Result<Statements, M
     requires room { length text.now ≤ 2 ^ 30 }
     // Digits of a value over 2^62 - 1 aren't told apart.
     requires limit { limit < 2 ^ 62 }
-    ensures read { IfOk result (λ s. Reads limit text.now (texts s.words.keys) s.list (earlier_of s.scope)) }
+    ensures read { IfOk result (λ s. Reads limit text.now (texts s.words.keys) s.list
+        (earlier_of s.scope)) }
     ensures cause { IfErr result (λ e. HasTextCause limit text.now e) }
 {
     let owned = match tokens(alloc, text) {
@@ -322,7 +323,8 @@ fn judge_all(
     requires small { LeaveRoom scope.old.sizes statements.now }
     ensures fault { IfOk result
         (λ found. found ≡ lowest_fault limit (earlier_of front.now) (earlier_of scope.old) statements.now) }
-    ensures noted { OnOk result (earlier_of scope.new ≡ behind_all (earlier_of scope.old) statements.now) }
+    ensures noted { OnOk result (earlier_of scope.new
+        ≡ behind_all (earlier_of scope.old) statements.now) }
 {
     let mut lowest = None;
     for statement in statements {
@@ -348,7 +350,8 @@ fn lower(one: Option<Fault>, other: Option<Fault>) -> Option<Fault>
 fn catch_up(front: &mut Scope, declared: &mut [bool], statements: &[Statement])
     requires small { LeaveRoom front.old.sizes statements.now }
     ensures front { earlier_of front.new ≡ behind_all (earlier_of front.old) statements.now }
-    ensures declared { declared.new ≡ declare_all (earlier_of front.old) declared.old statements.now }
+    ensures declared { declared.new ≡ declare_all
+        (earlier_of front.old) declared.old statements.now }
 {
     for statement in statements {
         mark(declared, declared_by(front.sizes, statement));

@@ -65,6 +65,7 @@ comma_flat : (first : Bool) → AreFlat (comma first)
 comma_flat true = tt
 comma_flat false = (refl, tt)
 
-pub names_flat : (names : List Name) (first : Bool) (ks : List ℕ) → AreFlat (listed (λ k. name_at names k ∷ []) first ks)
+pub names_flat : (names : List Name) (first : Bool) (ks : List ℕ)
+    → AreFlat (listed (λ k. name_at names k ∷ []) first ks)
 names_flat names first [] = tt
 names_flat names first (k ∷ ks) = both_flat (comma first) _ (comma_flat first) (refl, names_flat names false ks)

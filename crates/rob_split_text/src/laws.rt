@@ -14,12 +14,14 @@ ghost use Rattle.rob_write.specs.Canonical.{model_text};
 pub fn split_reading()
     // Where the split model has good names and is within the limits on models, and its text has no more tokens than a
     // text may have, that text is read as the split model, at the same limit.
-    ensures read { (limit : ℕ) (text : List ℕ) (m : RobustModel) (cuts : List Cut) → 1 ≤ limit → limit < 2 ^ 62
+    ensures read { (limit : ℕ) (text : List ℕ) (m : RobustModel) (cuts : List Cut) → 1 ≤ limit
+        → limit < 2 ^ 62
         → ReadsModel limit text m → m.sets ≡ [] → length cuts ≤ 3 → AreCuts m cuts → HaveFittingLevels limit cuts
         → HasGoodNames (split_model m cuts) → IsWithinLimits (split_model m cuts) → HasFewTokens (split_model m cuts)
         → ReadsModel limit (model_text (split_model m cuts)) (split_model m cuts) }
     // It is read, as whichever model, only where it has no more tokens than that.
-    ensures few { (limit : ℕ) (text : List ℕ) (m : RobustModel) (cuts : List Cut) → 1 ≤ limit → limit < 2 ^ 62
+    ensures few { (limit : ℕ) (text : List ℕ) (m : RobustModel) (cuts : List Cut) → 1 ≤ limit
+        → limit < 2 ^ 62
         → ReadsModel limit text m → m.sets ≡ [] → length cuts ≤ 3 → AreCuts m cuts → HaveFittingLevels limit cuts
         → HasGoodNames (split_model m cuts) → IsWithinLimits (split_model m cuts)
         → (other : RobustModel) → ReadsModel limit (model_text (split_model m cuts)) other

@@ -36,7 +36,8 @@ pub fn collect_words(alloc: Global, text: &[u8], tokens: &[Token]) -> Result<Wor
 
 /// Adds the token's word, if it is one and isn't there.
 fn add(alloc: Global, words: &mut Words, text: &[u8], token: Token) -> Result<(), Memory>
-    ensures words { OnOk result (texts words.new.keys ≡ fold add_word (texts words.old.keys) (word_in text.now token)) }
+    ensures words { OnOk result (texts words.new.keys
+        ≡ fold add_word (texts words.old.keys) (word_in text.now token)) }
 {
     if let Kind::Word = token.kind {
         let word = Vec::from_slice(alloc, bytes_of(text, token))?;
@@ -77,7 +78,8 @@ pub fn symbols(
 
 /// The symbol of a token's kind and bytes; a line end has none.
 fn symbol(version: Version, words: &Words, kind: Kind, bytes: &[u8]) -> Option<Symbol>
-    ensures symbol { option_to_list result ≡ symbol_at (seen_version version) (texts words.now.keys) kind bytes.now }
+    ensures symbol { option_to_list result
+        ≡ symbol_at (seen_version version) (texts words.now.keys) kind bytes.now }
 {
     match kind {
         Kind::Word => Some(word_symbol(version, words, bytes)),
@@ -89,7 +91,8 @@ fn symbol(version: Version, words: &Words, kind: Kind, bytes: &[u8]) -> Option<S
 
 /// A keyword, or a name.
 fn word_symbol(version: Version, words: &Words, word: &[u8]) -> Symbol
-    ensures symbol { result ≡ spec.word_symbol (seen_version version) (texts words.now.keys) word.now
+    ensures symbol { result ≡ spec.word_symbol (seen_version version)
+        (texts words.now.keys) word.now
         (keyword_among keywords word.now) }
 {
     match keyword_of(word) {

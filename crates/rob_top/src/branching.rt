@@ -45,7 +45,8 @@ pub fn branch_text<N: Exact + Drop, L: Ledger>(
     requires valid { IsValid N.value model.now }
     requires named { IsNamed (robust N.value model.now) }
     requires branches { IsBranching verb }
-    ensures answers { IfOk result (AnswersNames N.limit (count (L.wides ledger.old) (L.wides ledger.new))
+    ensures answers { IfOk result (AnswersNames N.limit
+        (count (L.wides ledger.old) (L.wides ledger.new))
         (robust N.value model.now) verb names.now) }
     ensures counted { L.wides ledger.old ≤ L.wides ledger.new }
 {
@@ -67,7 +68,8 @@ fn on_variables<N: Exact + Drop, L: Ledger>(
     requires valid { IsValid N.value model.now }
     requires branches { IsBranching verb }
     requires kept { KeepsNames (robust N.value model.now) numbers.now }
-    ensures answers { IfOk result (AnswersVariables N.limit (count (L.wides ledger.old) (L.wides ledger.new))
+    ensures answers { IfOk result (AnswersVariables N.limit
+        (count (L.wides ledger.old) (L.wides ledger.new))
         (robust N.value model.now) verb numbers.now) }
     ensures counted { L.wides ledger.old ≤ L.wides ledger.new }
 {
@@ -88,10 +90,12 @@ fn grown<N: Exact>(
     requires valid { IsValid N.value model.now }
     requires branches { IsBranching verb }
     requires bounded { KeepsBothBounds (robust N.value model.now) numbers.now }
-    requires shape { HasTreeShape N.limit (robust N.value model.now) numbers.now (tree_of N.value tree.now) }
+    requires shape { HasTreeShape N.limit (robust N.value model.now) numbers.now
+        (tree_of N.value tree.now) }
     requires proves { ProvesTree (robust N.value model.now) numbers.now (tree_of N.value tree.now) }
     ensures status { IfOk result (λ reply. reply.ended ≡ ended_of (status_of tree.now.status)) }
-    ensures printed { IfOk result (λ reply. IsPrintedTree verb (robust N.value model.now) numbers.now
+    ensures printed { IfOk result (λ reply. IsPrintedTree verb
+        (robust N.value model.now) numbers.now
         (tree_of N.value tree.now) reply.text) }
 {
     let text = printed(alloc, model, verb, numbers, tree)?;
@@ -112,7 +116,8 @@ fn printed<N: Exact>(
     requires valid { IsValid N.value model.now }
     requires branches { IsBranching verb }
     requires bounded { KeepsBothBounds (robust N.value model.now) numbers.now }
-    requires shape { HasTreeShape N.limit (robust N.value model.now) numbers.now (tree_of N.value tree.now) }
+    requires shape { HasTreeShape N.limit (robust N.value model.now) numbers.now
+        (tree_of N.value tree.now) }
     requires proves { ProvesTree (robust N.value model.now) numbers.now (tree_of N.value tree.now) }
     ensures printed { IfOk result (IsPrintedTree verb (robust N.value model.now) numbers.now
         (tree_of N.value tree.now)) }
@@ -133,9 +138,11 @@ fn report<N: Exact>(
 ) -> Result<Text, Memory>
     requires valid { IsValid N.value model.now }
     requires bounded { KeepsBothBounds (robust N.value model.now) numbers.now }
-    requires shape { HasTreeShape N.limit (robust N.value model.now) numbers.now (tree_of N.value tree.now) }
+    requires shape { HasTreeShape N.limit (robust N.value model.now) numbers.now
+        (tree_of N.value tree.now) }
     requires proves { ProvesTree (robust N.value model.now) numbers.now (tree_of N.value tree.now) }
-    ensures report { IfOk result (IsReport (robust N.value model.now) numbers.now (tree_of N.value tree.now)) }
+    ensures report { IfOk result (IsReport (robust N.value model.now) numbers.now
+        (tree_of N.value tree.now)) }
 {
     let mut text = plan_text(alloc, model, numbers, tree)?;
     put_nodes(&mut text, count_nodes(&tree.root))?;
@@ -160,9 +167,11 @@ fn plan_text<N: Exact>(
 ) -> Result<Text, Memory>
     requires valid { IsValid N.value model.now }
     requires bounded { KeepsBothBounds (robust N.value model.now) numbers.now }
-    requires shape { HasTreeShape N.limit (robust N.value model.now) numbers.now (tree_of N.value tree.now) }
+    requires shape { HasTreeShape N.limit (robust N.value model.now) numbers.now
+        (tree_of N.value tree.now) }
     requires proves { ProvesTree (robust N.value model.now) numbers.now (tree_of N.value tree.now) }
-    ensures plan { IfOk result (IsPlanText (robust N.value model.now) numbers.now (tree_of N.value tree.now)
+    ensures plan { IfOk result (IsPlanText (robust N.value model.now) numbers.now
+        (tree_of N.value tree.now)
         (status_of tree.now.status)) }
 {
     match tree.status {
@@ -190,7 +199,8 @@ fn shown_text<N: Exact>(
 ) -> Result<Text, Memory>
     requires valid { IsValid N.value model.now }
     requires bounded { KeepsBothBounds (robust N.value model.now) numbers.now }
-    requires shape { HasTreeShape N.limit (robust N.value model.now) numbers.now (tree_of N.value tree.now) }
+    requires shape { HasTreeShape N.limit (robust N.value model.now) numbers.now
+        (tree_of N.value tree.now) }
     requires proves { ProvesTree (robust N.value model.now) numbers.now (tree_of N.value tree.now) }
     requires planned { status_of tree.now.status ≢ infeasible }
     ensures shown { IfOk result (λ text. (c : Certificate)

@@ -40,7 +40,8 @@ pub fn check_text<N: Exact + Drop, L: Ledger>(
     requires named { IsNamed (robust N.value model.now) }
     requires elaborated { IsElaborated N.limit (robust N.value model.now) forms.now set.now }
     requires short { length text.now ≤ 2 ^ 30 }
-    ensures answers { IfOk result (AnswersFile N.limit (count (L.wides ledger.old) (L.wides ledger.new))
+    ensures answers { IfOk result (AnswersFile N.limit
+        (count (L.wides ledger.old) (L.wides ledger.new))
         (robust N.value model.now) text.now) }
     ensures counted { L.wides ledger.old ≤ L.wides ledger.new }
 {
@@ -63,7 +64,8 @@ fn check_cert<N: Exact, L: Ledger>(
     requires valid { IsValid N.value model.now }
     requires elaborated { IsElaborated N.limit (robust N.value model.now) forms.now set.now }
     requires shape { HasShape (robust N.value model.now) (certificate_of N.value cert.now) }
-    ensures answers { IfOk result (AnswersCertificate N.limit (count (L.wides ledger.old) (L.wides ledger.new))
+    ensures answers { IfOk result (AnswersCertificate N.limit
+        (count (L.wides ledger.old) (L.wides ledger.new))
         (robust N.value model.now) (certificate_of N.value cert.now)) }
     ensures counted { L.wides ledger.old ≤ L.wides ledger.new }
 {
@@ -76,7 +78,8 @@ fn check_cert<N: Exact, L: Ledger>(
 
 /// The answer for a certificate or a branch tree that proves, and claims the status and the value.
 pub fn accepted<N: Exact>(alloc: Global, status: Status, value: N) -> Result<Reply, Memory>
-    ensures accepted { IfOk result (Replies Ended.Accepted (accepted_by (status_of status) (N.value value))) }
+    ensures accepted { IfOk result (Replies Ended.Accepted
+        (accepted_by (status_of status) (N.value value))) }
 {
     match status {
         Status::Optimal => {
@@ -98,7 +101,8 @@ pub fn accepted<N: Exact>(alloc: Global, status: Status, value: N) -> Result<Rep
 fn rejected<N: Exact>(alloc: Global, model: &Model<N>, place: Place) -> Result<Reply, Memory>
     requires valid { IsValid N.value model.now }
     requires named { IsPlaceOf (robust N.value model.now) place }
-    ensures rejected { IfOk result (Replies (Ended.Rejected place) (rejected_line (robust N.value model.now) place)) }
+    ensures rejected { IfOk result (Replies (Ended.Rejected place)
+        (rejected_line (robust N.value model.now) place)) }
 {
     let text = place_text(alloc, model, &place)?;
     Ok(Reply {

@@ -94,8 +94,10 @@ fn line_by<N: Exact + Drop, L: Ledger>(
     requires valid { IsValid N.value model.now }
     requires elaborated { IsElaborated N.limit (robust N.value model.now) forms.now set.now }
     requires admitted { HasScenario (robust N.value model.now) }
-    ensures told { IfOk result (λ told. IsLineOf N.limit (robust N.value model.now) route told.spot told.text) }
-    ensures rose { IfOk result (λ told. RoseAtSpot (count (L.wides ledger.old) (L.wides ledger.new)) told.spot) }
+    ensures told { IfOk result (λ told. IsLineOf N.limit
+        (robust N.value model.now) route told.spot told.text) }
+    ensures rose { IfOk result (λ told. RoseAtSpot
+        (count (L.wides ledger.old) (L.wides ledger.new)) told.spot) }
     ensures counted { L.wides ledger.old ≤ L.wides ledger.new }
 {
     match find::<N, L>(alloc, forms, set, route, ledger) {
@@ -134,7 +136,8 @@ fn wide_line<N: Exact>(
     requires valid { IsValid N.value model.now }
     requires named { IsSpotOf (robust N.value model.now) spot }
     requires rounds { All (IsRoundOf (robust N.value model.now)) trace.now.rounds }
-    ensures line { IfOk result (λ told. told.text ≡ with_rounds route (robust N.value model.now) trace.now.rounds
+    ensures line { IfOk result (λ told. told.text
+        ≡ with_rounds route (robust N.value model.now) trace.now.rounds
         (line_of_spot route (robust N.value model.now) spot)) }
     ensures spot { IfOk result (λ told. told.spot ≡ Some spot) }
 {

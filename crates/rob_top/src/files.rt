@@ -42,7 +42,8 @@ pub enum Got {
 
 /// Fetches the files of a command line, in the order of its words.
 pub fn fetch<S: Shelf>(alloc: Global, line: &CommandLine, shelf: &mut S) -> Result<Files, Memory>
-    ensures fetched { IfOk result (IsFetched (own_of line.now.verb) (map string_bytes line.now.own.items)
+    ensures fetched { IfOk result (IsFetched (own_of line.now.verb)
+        (map string_bytes line.now.own.items)
         (source_of (S.files shelf.old) (S.log shelf.old) (S.log shelf.new))
         (count (S.faults shelf.old) (S.faults shelf.new))) }
     ensures short { IfOk result IsShortFetch }
@@ -65,7 +66,8 @@ fn fetch_all<S: Shelf>(
         (count (S.faults shelf.old) (S.faults shelf.new))) }
     ensures short { IfOk result IsShortFetch }
     ensures unchanged { S.files shelf.new ≡ S.files shelf.old }
-    ensures asked { Asks (files_of kinds.now (map string_bytes names.now)) (S.log shelf.old) (S.log shelf.new) }
+    ensures asked { Asks (files_of kinds.now (map string_bytes names.now)) (S.log shelf.old)
+        (S.log shelf.new) }
     ensures counted { S.faults shelf.old ≤ S.faults shelf.new }
 {
     match kinds {
@@ -151,7 +153,8 @@ pub fn get<S: Shelf>(alloc: Global, name: &str, most: usize, shelf: &mut S) -> R
         (count (S.faults shelf.old) (S.faults shelf.new))) }
     ensures within { IfOk result (IsGotWithin most) }
     ensures unchanged { S.files shelf.new ≡ S.files shelf.old }
-    ensures asked { AsksOnce (record { place = 0; name = name.now; most = most }) (S.log shelf.old) (S.log shelf.new) }
+    ensures asked { AsksOnce (record { place = 0; name = name.now; most = most }) (S.log shelf.old)
+        (S.log shelf.new) }
     ensures counted { S.faults shelf.old ≤ S.faults shelf.new }
 {
     let answer = match ask(alloc, name, most, shelf) {
@@ -170,7 +173,8 @@ fn ask<S: Shelf>(alloc: Global, name: &str, most: usize, shelf: &mut S) -> Resul
         (S.log shelf.old) (S.log shelf.new)) (record { place = 0; name = name.now; most = most }) (found_of fetched)) }
     ensures within { IfOk result (IsAtMost most) }
     ensures unchanged { S.files shelf.new ≡ S.files shelf.old }
-    ensures asked { AsksOnce (record { place = 0; name = name.now; most = most }) (S.log shelf.old) (S.log shelf.new) }
+    ensures asked { AsksOnce (record { place = 0; name = name.now; most = most }) (S.log shelf.old)
+        (S.log shelf.new) }
     ensures counted { S.faults shelf.old ≤ S.faults shelf.new }
     ensures fault { result ≡ Err ShelfErr.Failed → Rose (S.faults shelf.old) (S.faults shelf.new) }
 {

@@ -31,7 +31,8 @@ pub fn on_number<L: Ledger>(
 ) -> Result<Reply, Memory>
     requires read { IsRead line.now }
     requires on_number { reads_model line.now.verb ≡ false }
-    ensures answers { IfOk result (AnswersNumber (line_of line.now) (count (L.wides ledger.old) (L.wides ledger.new))) }
+    ensures answers { IfOk result (AnswersNumber (line_of line.now)
+        (count (L.wides ledger.old) (L.wides ledger.new))) }
     ensures counted { L.wides ledger.old ≤ L.wides ledger.new }
 {
     match line.verb {

@@ -56,7 +56,8 @@ ghost use Rattle.rob_words.specs.declared.verb.Verb.TheVariants as verbs;
 /// How a call must end, by its words and files: `specs/Completeness.antt`.
 pub fn completeness()
     // An answer that is allowed is one that must come.
-    ensures complete { (call : Call) (ended : Ended) (text : List ℕ) → Means call ended text → IsComplete call ended }
+    ensures complete { (call : Call) (ended : Ended) (text : List ℕ) → Means call ended text
+        → IsComplete call ended }
 {}
 
 /// The text that `prove` printed, as the certificate's file of a `check` on the same model at the same width.
@@ -76,12 +77,14 @@ pub fn narrow_then_solve()
     ensures narrow { (narrowing : Call) (text front : List ℕ) (narrowed : IsNarrowed narrowing text)
         → text ≡ front ++ narrow_line true → IsNarrowModel (limit_of narrowed.line) narrowed.m }
     // so they are never refused for width;
-    ensures not_refused { (narrowing solving : Call) (text front shown : List ℕ) (narrowed : IsNarrowed narrowing text)
+    ensures not_refused { (narrowing solving : Call) (text front shown : List ℕ)
+        (narrowed : IsNarrowed narrowing text)
         → text ≡ front ++ narrow_line true → (known : Known solving.source) (line : Line)
         → line.width ≡ narrowed.line.width → IsSolving line.verb → line.way ≡ Dual
         → HasModel (known_call solving known) line narrowed.m → (spot : Spot) → Means solving (TooWide spot) shown → ⊥ }
     // and where some scenario is admitted the model's status is answered, or the outside fails, or memory is refused.
-    ensures status { (narrowing solving : Call) (text front shown : List ℕ) (narrowed : IsNarrowed narrowing text)
+    ensures status { (narrowing solving : Call) (text front shown : List ℕ)
+        (narrowed : IsNarrowed narrowing text)
         → text ≡ front ++ narrow_line true → (known : Known solving.source) (line : Line)
         → line.width ≡ narrowed.line.width → IsSolving line.verb → line.way ≡ Dual
         → HasModel (known_call solving known) line narrowed.m → (ended : Ended) → Means solving ended shown
@@ -89,7 +92,8 @@ pub fn narrow_then_solve()
         × HasStatus narrowed.m status v × EndsAs (ended_of status) ended }
     // Where none is, an empty set is answered, with weights that show it, or again the outside fails, or memory is
     // refused.
-    ensures empty { (narrowing solving : Call) (text front shown : List ℕ) (narrowed : IsNarrowed narrowing text)
+    ensures empty { (narrowing solving : Call) (text front shown : List ℕ)
+        (narrowed : IsNarrowed narrowing text)
         → text ≡ front ++ narrow_line true → (known : Known solving.source) (line : Line)
         → line.width ≡ narrowed.line.width → IsSolving line.verb → HasModel (known_call solving known) line narrowed.m
         → (ended : Ended) → Means solving ended shown → IsEmptySet narrowed.m → IsShownAnswer narrowed.m ended }
@@ -98,7 +102,8 @@ pub fn narrow_then_solve()
 /// The plan of a certificate that `check` accepted, as `replay` takes it on the same model.
 pub fn check_then_replay()
     // It has its bound; so each inside line shows no slack below 0, and an objective no worse than the value.
-    ensures shown { (checking replaying : Call) (text shown : List ℕ) (accepted : IsCertificateAccepted checking text)
+    ensures shown { (checking replaying : Call) (text shown : List ℕ)
+        (accepted : IsCertificateAccepted checking text)
         (replayed : IsReplayed replaying shown) → replayed.m ≡ accepted.m → replayed.c ≡ accepted.c
         → Each (ShowsBound replayed.m replayed.c.value) replayed.lines }
 {}
@@ -106,7 +111,8 @@ pub fn check_then_replay()
 /// The plan of a certificate that `check` accepted, as `worst` takes it on the same model.
 pub fn check_then_worst()
     // It has its bound; so a worst scenario is printed, whichever form is named, and no slack below 0.
-    ensures kept { (checking searching : Call) (text shown : List ℕ) (accepted : IsCertificateAccepted checking text)
+    ensures kept { (checking searching : Call) (text shown : List ℕ)
+        (accepted : IsCertificateAccepted checking text)
         (searched : IsSearched searching shown) → searched.m ≡ accepted.m → searched.c ≡ accepted.c
         → ShowsKept searched.m searched.form (certificate_vector searched.c) shown }
 {}
@@ -181,13 +187,16 @@ pub fn compared_models()
     ensures written { (n limit : ℕ) → 255 ≤ limit → IsWritten limit (generated n) }
     // Each number is answered: with a status that its model has, or a wide number on the way of a route, or a put or
     // memory is refused.
-    ensures answered { (word : Word) → IsNumber word → (result : Ended) → MustEnd (gen_call word) result
+    ensures answered { (word : Word) → IsNumber word → (result : Ended)
+        → MustEnd (gen_call word) result
         → IsComparedAnswer greatest (generated (number_of word)) result }
     // Where both routes have a status, calls on one number print one text, at whichever widths;
-    ensures one_summary { (a b : Call) (l k : Line) (n : ℕ) (text other : List ℕ) → AsksFor a l n → AsksFor b k n
+    ensures one_summary { (a b : Call) (l k : Line) (n : ℕ) (text other : List ℕ) → AsksFor a l n
+        → AsksFor b k n
         → Means a Printed text → Means b Printed other → text ≡ other }
     // for 0 it is these lines.
-    ensures first { (text : List ℕ) → Means (gen_call (codes "0")) Printed text → text ≡ first_summary }
+    ensures first { (text : List ℕ) → Means (gen_call (codes "0")) Printed text → text
+        ≡ first_summary }
 {}
 
 /// The text that `celltext` printed, as the model's file of a later call at the same width, where it has no more tokens
@@ -199,31 +208,37 @@ pub fn celltext_then_solve()
     ensures read { (printing : Call) (text : List ℕ) (split : IsSplitText printing text)
         → HasFewTokens (written_split split) ↔ ReadsModel (limit_of split.line) text (written_split split) }
     // so a call that takes it has read the split model,
-    ensures model { (printing : Call) (text : List ℕ) (split : IsSplitText printing text) (later : Call)
+    ensures model { (printing : Call) (text : List ℕ) (split : IsSplitText printing text)
+        (later : Call)
         (known : Known later.source) (line : Line) → TakesSplit split (known_call later known) line
         → HasModel (known_call later known) line (written_split split) }
     // and no other,
-    ensures one_model { (printing : Call) (text : List ℕ) (split : IsSplitText printing text) (later : Call)
+    ensures one_model { (printing : Call) (text : List ℕ) (split : IsSplitText printing text)
+        (later : Call)
         (known : Known later.source) (line : Line) → TakesSplit split (known_call later known) line
         → (l : Line) (m : RobustModel) → HasModel later l m → m ≡ written_split split }
     // and names no rule that the text breaks.
-    ensures unbroken { (printing : Call) (text : List ℕ) (split : IsSplitText printing text) (later : Call)
+    ensures unbroken { (printing : Call) (text : List ℕ) (split : IsSplitText printing text)
+        (later : Call)
         (known : Known later.source) (line : Line) → TakesSplit split (known_call later known) line
         → (rule number : ℕ) (shown : List ℕ) → Means later (Model rule number) shown → ⊥ }
     // A status that `solve` or `prove` shows of it is the first model's over pieces, an optimum with the same value;
-    ensures status { (printing : Call) (text : List ℕ) (split : IsSplitText printing text) (solving : Call)
+    ensures status { (printing : Call) (text : List ℕ) (split : IsSplitText printing text)
+        (solving : Call)
         (known : Known solving.source) (line : Line) → TakesSplit split (known_call solving known) line
         → (status : Status) (shown : List ℕ) (solved : IsSolved solving status shown)
         → HasStatusOverPieces split.m split.cuts status solved.c.value }
     // else they answer an empty set, where not each cell holds an admitted scenario, or a wide number of the split
     // model, or the outside fails, or memory is refused;
-    ensures answer { (printing : Call) (text : List ℕ) (split : IsSplitText printing text) (solving : Call)
+    ensures answer { (printing : Call) (text : List ℕ) (split : IsSplitText printing text)
+        (solving : Call)
         (known : Known solving.source) (line : Line) → TakesSplit split (known_call solving known) line
         → IsSolving line.verb → (ended : Ended) (shown : List ℕ) → Means solving ended shown
         → IsPiecesAnswer line.way (limit_of line) split.m split.cuts ended }
     // and where each cell holds one, and no number is wide, that status is answered, or again the outside fails, or
     // memory is refused.
-    ensures answered { (printing : Call) (text : List ℕ) (split : IsSplitText printing text) (solving : Call)
+    ensures answered { (printing : Call) (text : List ℕ) (split : IsSplitText printing text)
+        (solving : Call)
         (known : Known solving.source) (line : Line) → TakesSplit split (known_call solving known) line
         → IsSolving line.verb → EachCellAdmits split.m split.cuts
         → IsNarrowOnWay line.way (limit_of line) (written_split split)
@@ -232,7 +247,8 @@ pub fn celltext_then_solve()
         × EndsAs (ended_of status) ended }
     // The certificate that `prove` printed of it is accepted by a `check` that takes it too, or a number of the check
     // is wide, and its place is named, or the outside fails, or memory is refused.
-    ensures accepted { (printing : Call) (text : List ℕ) (split : IsSplitText printing text) (proving : Call)
+    ensures accepted { (printing : Call) (text : List ℕ) (split : IsSplitText printing text)
+        (proving : Call)
         (known : Known proving.source) (line : Line) → TakesSplit split (known_call proving known) line
         → (checking : Call) (again : Known checking.source) (other : Line)
         → TakesSplit split (known_call checking again) other
@@ -246,16 +262,19 @@ pub fn celltext_then_solve()
 /// Names of a model that was read stand as words in the text of a certificate or of a branch tree.
 pub fn read_names()
     // No declared name has a space or a line's end.
-    ensures words { (limit : ℕ) (text : List ℕ) (m : RobustModel) → ReadsModel limit text m → IsNamedInWords m }
+    ensures words { (limit : ℕ) (text : List ℕ) (m : RobustModel) → ReadsModel limit text m
+        → IsNamedInWords m }
 {}
 
 /// A model has one status.
 pub fn status_laws()
     // No two of `optimal`, `infeasible` and `unbounded` are allowed,
-    ensures one_status { (call : Call) (known : Known call.source) (a b : Status) (text other : List ℕ)
+    ensures one_status { (call : Call) (known : Known call.source) (a b : Status)
+        (text other : List ℕ)
         → Means call (ended_of a) text → Means call (ended_of b) other → a ≡ b }
     // and none of them where no scenario is admitted.
-    ensures not_empty { (call : Call) (known : Known call.source) (status : Status) (weights : List ℤ)
+    ensures not_empty { (call : Call) (known : Known call.source) (status : Status)
+        (weights : List ℤ)
         (text other : List ℕ) → Means call (ended_of status) text → Means call (EmptySet weights) other → ⊥ }
 {}
 
@@ -265,16 +284,19 @@ pub fn route_laws()
     ensures one_answer { (a b : Call) (s t : Status) (text other : List ℕ) (x : IsSolved a s text)
         (y : IsSolved b t other) → x.m ≡ y.m → (s ≡ t) × (s ≡ optimal → x.c.value ≡ y.c.value) }
     // and where the one has a status, the other doesn't answer an empty set.
-    ensures one_emptiness { (a b : Call) (s : Status) (weights : List ℤ) (text other : List ℕ) (x : IsSolved a s text)
+    ensures one_emptiness { (a b : Call) (s : Status) (weights : List ℤ) (text other : List ℕ)
+        (x : IsSolved a s text)
         (y : AnswersEmptySet b weights other) → x.m ≡ y.m → ⊥ }
     // So two of them whose model's files have the same bytes have one status, and of an optimum one value,
-    ensures same_bytes { (a b : Call) (known : Known a.source) (again : Known b.source) (line other : Line)
+    ensures same_bytes { (a b : Call) (known : Known a.source) (again : Known b.source)
+        (line other : Line)
         (bytes : List ℕ) → HasModelText (known_call a known) line bytes → HasModelText (known_call b again) other bytes
         → IsSolving line.verb → IsSolving other.verb → (s t : Status) (text shown : List ℕ)
         → Means a (ended_of s) text → Means b (ended_of t) shown
         → (x : IsSolved a s text) × (y : IsSolved b t shown) × (s ≡ t) × (s ≡ optimal → x.c.value ≡ y.c.value) }
     // and not the one a status and the other an empty set.
-    ensures same_emptiness { (a b : Call) (known : Known a.source) (again : Known b.source) (line other : Line)
+    ensures same_emptiness { (a b : Call) (known : Known a.source) (again : Known b.source)
+        (line other : Line)
         (bytes : List ℕ) → HasModelText (known_call a known) line bytes → HasModelText (known_call b again) other bytes
         → IsSolving line.verb → IsSolving other.verb → (s : Status) (weights : List ℤ) (text shown : List ℕ)
         → Means a (ended_of s) text → Means b (EmptySet weights) shown → ⊥ }
@@ -283,7 +305,8 @@ pub fn route_laws()
 /// A call of `cells` and one of `solve` or `prove` on the same model, by whichever route and at whichever widths.
 pub fn cells_laws()
     // Of two optima the one over pieces is no worse.
-    ensures no_worse { (cutting solving : Call) (text other : List ℕ) (pieced : IsPieced cutting optimal text)
+    ensures no_worse { (cutting solving : Call) (text other : List ℕ)
+        (pieced : IsPieced cutting optimal text)
         (solved : IsSolved solving optimal other) → pieced.m ≡ solved.m
         → IsNoWorse pieced.m.sense pieced.c.value solved.c.value }
     // Where the model is infeasible over pieces it is so over plans;
@@ -295,7 +318,8 @@ pub fn cells_laws()
         (pieced : IsPieced cutting status text) (solved : IsSolved solving unbounded other)
         → pieced.m ≡ solved.m → status ≡ unbounded }
     // and where it has a status over pieces, `solve` and `prove` don't answer an empty set.
-    ensures one_emptiness { (cutting solving : Call) (status : Status) (weights : List ℤ) (text other : List ℕ)
+    ensures one_emptiness { (cutting solving : Call) (status : Status) (weights : List ℤ)
+        (text other : List ℕ)
         (pieced : IsPieced cutting status text) (empty : AnswersEmptySet solving weights other)
         → pieced.m ≡ empty.m → ⊥ }
 {}

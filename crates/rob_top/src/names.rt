@@ -20,7 +20,8 @@ use std::alloc::Global;
 
 /// The first of a command's own words that is of the kind; empty, where there is no such word.
 pub fn own_word(kind: Own, verb: Verb, words: &[String]) -> &str
-    ensures word { (word : Word) → files.word_of kind (own_of verb) (map string_bytes words.now) ≡ Some word
+    ensures word { (word : Word) → files.word_of kind (own_of verb) (map string_bytes words.now)
+        ≡ Some word
         → result.now ≡ word }
 {
     match word_of(kind, verb.own(), words) {

@@ -23,7 +23,8 @@ use std::alloc::Global;
 pub fn narrow<N: Exact>(alloc: Global, forms: &Forms, set: &SetForm) -> Result<Reply, Memory>
     requires model { AreElaborated N.limit forms.now set.now }
     requires few { IsFew (counterpart_of forms.now set.now) }
-    ensures narrow { IfOk result (λ reply. (m : RobustModel) → IsForms m forms.now → IsSetForm m set.now
+    ensures narrow { IfOk result (λ reply. (m : RobustModel) → IsForms m forms.now
+        → IsSetForm m set.now
         → RepliesNarrow N.limit m reply) }
 {
     let bounds = model_bounds::<N>(alloc, forms, set)?;

@@ -45,7 +45,8 @@ pub fn wide_node<N: Exact>(
 fn put_path<N: Exact>(out: &mut Text, model: &Model<N>, path: &[Branch]) -> Result<(), Memory>
     requires valid { IsValid N.value model.now }
     requires columns { IsPathOf (robust N.value model.now) path.now }
-    ensures appended { OnOk result (out.new ≡ out.old ++ path_lines (robust N.value model.now) path.now) }
+    ensures appended { OnOk result (out.new
+        ≡ out.old ++ path_lines (robust N.value model.now) path.now) }
 {
     match path {
         [branch, path @ ..] => {
@@ -60,7 +61,8 @@ fn put_path<N: Exact>(out: &mut Text, model: &Model<N>, path: &[Branch]) -> Resu
 fn put_branch<N: Exact>(out: &mut Text, model: &Model<N>, branch: Branch) -> Result<(), Memory>
     requires valid { IsValid N.value model.now }
     requires column { branch.column < length (column_names (robust N.value model.now)) }
-    ensures appended { OnOk result (out.new ≡ out.old ++ branch_line (robust N.value model.now) branch) }
+    ensures appended { OnOk result (out.new
+        ≡ out.old ++ branch_line (robust N.value model.now) branch) }
 {
     out.push(b"where ")?;
     put_column_name(model, branch.column, out)?;
@@ -69,7 +71,8 @@ fn put_branch<N: Exact>(out: &mut Text, model: &Model<N>, branch: Branch) -> Res
 
 /// Appends how a branch bounds its variable, and the line's end.
 fn put_bound(out: &mut Text, at_most: bool, k: i64) -> Result<(), Memory>
-    ensures appended { OnOk result (out.new ≡ out.old ++ (branch_relation at_most ++ line (signed_decimal k))) }
+    ensures appended { OnOk result (out.new
+        ≡ out.old ++ (branch_relation at_most ++ line (signed_decimal k))) }
 {
     out.push(relation(at_most))?;
     put_whole(out, k)?;

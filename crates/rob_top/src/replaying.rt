@@ -32,7 +32,8 @@ pub fn replay_text<N: Exact + Drop, L: Ledger>(
     requires valid { IsValid N.value model.now }
     requires named { IsNamed (robust N.value model.now) }
     requires short { length certificate.now ≤ 2 ^ 30 }
-    ensures answers { IfOk result (AnswersReplay N.limit (count (L.wides ledger.old) (L.wides ledger.new))
+    ensures answers { IfOk result (AnswersReplay N.limit
+        (count (L.wides ledger.old) (L.wides ledger.new))
         (robust N.value model.now) certificate.now text.now) }
     ensures counted { L.wides ledger.old ≤ L.wides ledger.new }
 {
@@ -52,7 +53,8 @@ fn replay_cert<N: Exact + Drop, L: Ledger>(
     ledger: &mut L,
 ) -> Result<Reply, Memory>
     requires valid { IsValid N.value model.now }
-    ensures answers { IfOk result (AnswersPlan N.limit (count (L.wides ledger.old) (L.wides ledger.new))
+    ensures answers { IfOk result (AnswersPlan N.limit
+        (count (L.wides ledger.old) (L.wides ledger.new))
         (robust N.value model.now) (certificate_of N.value cert) text.now) }
     ensures counted { L.wides ledger.old ≤ L.wides ledger.new }
 {
@@ -72,7 +74,8 @@ fn replay_plan<N: Exact + Drop, L: Ledger>(
     ledger: &mut L,
 ) -> Result<Reply, Memory>
     requires valid { IsValid N.value model.now }
-    ensures answers { IfOk result (AnswersScenarios N.limit (count (L.wides ledger.old) (L.wides ledger.new))
+    ensures answers { IfOk result (AnswersScenarios N.limit
+        (count (L.wides ledger.old) (L.wides ledger.new))
         (robust N.value model.now) (certificate_of N.value cert) text.now) }
     ensures counted { L.wides ledger.old ≤ L.wides ledger.new }
 {

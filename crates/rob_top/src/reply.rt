@@ -78,7 +78,8 @@ pub fn broken_rule(
 
 /// The answer for a certificate that breaks a rule at a line.
 pub fn certificate_rule(alloc: Global, rule: u8, line: u32) -> Result<Reply, Memory>
-    ensures fault { IfOk result (Replies (Ended.Cert rule line) (certificate_fault_text rule line)) }
+    ensures fault { IfOk result (Replies (Ended.Cert rule line)
+        (certificate_fault_text rule line)) }
 {
     broken_rule(alloc, Ended::Cert(rule, line), b"certificate ", rule, line)
 }

@@ -48,7 +48,8 @@ pub fn search_text<N: Exact + Drop, L: Ledger>(
     requires named { IsNamed (robust N.value model.now) }
     requires elaborated { IsElaborated N.limit (robust N.value model.now) forms.now set.now }
     requires short { length certificate.now ≤ 2 ^ 30 }
-    ensures answers { IfOk result (AnswersSearch N.limit (count (L.wides ledger.old) (L.wides ledger.new))
+    ensures answers { IfOk result (AnswersSearch N.limit
+        (count (L.wides ledger.old) (L.wides ledger.new))
         (robust N.value model.now) certificate.now name.now) }
     ensures counted { L.wides ledger.old ≤ L.wides ledger.new }
 {
@@ -72,7 +73,8 @@ fn search_cert<N: Exact + Drop, L: Ledger>(
     requires valid { IsValid N.value model.now }
     requires elaborated { IsElaborated N.limit (robust N.value model.now) forms.now set.now }
     requires shape { HasShape (robust N.value model.now) (certificate_of N.value cert) }
-    ensures answers { IfOk result (AnswersSearched N.limit (count (L.wides ledger.old) (L.wides ledger.new))
+    ensures answers { IfOk result (AnswersSearched N.limit
+        (count (L.wides ledger.old) (L.wides ledger.new))
         (robust N.value model.now) (certificate_of N.value cert) name.now) }
     ensures counted { L.wides ledger.old ≤ L.wides ledger.new }
 {
@@ -96,7 +98,8 @@ fn search_plan<N: Exact + Drop, L: Ledger>(
     requires valid { IsValid N.value model.now }
     requires elaborated { IsElaborated N.limit (robust N.value model.now) forms.now set.now }
     requires size { length cert.plan ≡ column_count (robust N.value model.now) }
-    ensures answers { IfOk result (AnswersPlanned N.limit (count (L.wides ledger.old) (L.wides ledger.new))
+    ensures answers { IfOk result (AnswersPlanned N.limit
+        (count (L.wides ledger.old) (L.wides ledger.new))
         (robust N.value model.now) (certificate_of N.value cert) name.now) }
     ensures counted { L.wides ledger.old ≤ L.wides ledger.new }
 {
@@ -126,7 +129,8 @@ fn search_form<N: Exact + Drop, L: Ledger>(
     requires elaborated { IsElaborated N.limit (robust N.value model.now) forms.now set.now }
     requires form_in { form < length (model_forms (robust N.value model.now)) }
     requires size { length plan.now.columns ≡ column_count (robust N.value model.now) }
-    ensures answers { IfOk result (λ reply. (c : Certificate) → plan_of N.value plan.now ≡ certificate_vector c
+    ensures answers { IfOk result (λ reply. (c : Certificate) → plan_of N.value plan.now
+        ≡ certificate_vector c
         → AnswersSought N.limit (count (L.wides ledger.old) (L.wides ledger.new))
         (robust N.value model.now) c form reply) }
     ensures counted { L.wides ledger.old ≤ L.wides ledger.new }

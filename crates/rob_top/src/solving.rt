@@ -49,7 +49,8 @@ pub fn solve<N: Exact + Drop, L: Ledger>(
 ) -> Result<Reply, Memory>
     requires valid { IsValid N.value model.now }
     requires elaborated { IsElaborated N.limit (robust N.value model.now) forms.now set.now }
-    ensures answers { IfOk result (AnswersRoute N.limit (count (L.wides ledger.old) (L.wides ledger.new))
+    ensures answers { IfOk result (AnswersRoute N.limit
+        (count (L.wides ledger.old) (L.wides ledger.new))
         (robust N.value model.now) Solve route) }
     ensures counted { L.wides ledger.old ≤ L.wides ledger.new }
 {
@@ -70,7 +71,8 @@ pub fn prove<N: Exact + Drop, L: Ledger>(
 ) -> Result<Reply, Memory>
     requires valid { IsValid N.value model.now }
     requires elaborated { IsElaborated N.limit (robust N.value model.now) forms.now set.now }
-    ensures answers { IfOk result (AnswersRoute N.limit (count (L.wides ledger.old) (L.wides ledger.new))
+    ensures answers { IfOk result (AnswersRoute N.limit
+        (count (L.wides ledger.old) (L.wides ledger.new))
         (robust N.value model.now) Prove route) }
     ensures counted { L.wides ledger.old ≤ L.wides ledger.new }
 {

@@ -48,7 +48,8 @@ pub fn split_words<N: Exact + Drop, L: Ledger>(
     requires valid { IsValid N.value model.now }
     requires named { IsNamed (robust N.value model.now) }
     requires splits { IsSplitting verb }
-    ensures answers { IfOk result (AnswersWords N.limit (count (L.wides ledger.old) (L.wides ledger.new))
+    ensures answers { IfOk result (AnswersWords N.limit
+        (count (L.wides ledger.old) (L.wides ledger.new))
         (robust N.value model.now) verb (map string_bytes words.now)) }
     ensures counted { L.wides ledger.old ≤ L.wides ledger.new }
 {
@@ -67,7 +68,8 @@ fn at_word<N: Exact + Drop, L: Ledger>(
     requires valid { IsValid N.value model.now }
     requires named { IsNamed (robust N.value model.now) }
     requires splits { IsSplitting verb }
-    ensures answers { IfOk result (AnswersCutWord N.limit (count (L.wides ledger.old) (L.wides ledger.new))
+    ensures answers { IfOk result (AnswersCutWord N.limit
+        (count (L.wides ledger.old) (L.wides ledger.new))
         (robust N.value model.now) verb word.now) }
     ensures counted { L.wides ledger.old ≤ L.wides ledger.new }
 {
@@ -161,7 +163,8 @@ fn at_cuts<N: Exact + Drop, L: Ledger>(
     requires few { length cuts.now ≤ 3 }
     requires cuts { AreCuts (robust N.value model.now) (map (cut_of N.value) cuts.now) }
     requires splits { IsSplitting verb }
-    ensures answers { IfOk result (AnswersCuts N.limit (count (L.wides ledger.old) (L.wides ledger.new))
+    ensures answers { IfOk result (AnswersCuts N.limit
+        (count (L.wides ledger.old) (L.wides ledger.new))
         (robust N.value model.now) verb (map (cut_of N.value) cuts.now)) }
     ensures counted { L.wides ledger.old ≤ L.wides ledger.new }
 {
@@ -182,7 +185,8 @@ fn on_split<N: Exact + Drop, L: Ledger>(
 ) -> Result<Reply, Memory>
     requires valid { IsValid N.value model.now }
     requires splits { IsSplitting verb }
-    ensures replies { IfOk result (RepliesSplit N.limit (count (L.wides ledger.old) (L.wides ledger.new))
+    ensures replies { IfOk result (RepliesSplit N.limit
+        (count (L.wides ledger.old) (L.wides ledger.new))
         (robust N.value model.now) cells verb) }
     ensures counted { L.wides ledger.old ≤ L.wides ledger.new }
 {
@@ -201,7 +205,8 @@ fn solved<N: Exact + Drop, L: Ledger>(
     ledger: &mut L,
 ) -> Result<Reply, Memory>
     requires valid { IsValid N.value model.now }
-    ensures pieces { IfOk result (RepliesPieces N.limit (count (L.wides ledger.old) (L.wides ledger.new))
+    ensures pieces { IfOk result (RepliesPieces N.limit
+        (count (L.wides ledger.old) (L.wides ledger.new))
         (robust N.value model.now) cells) }
     ensures counted { L.wides ledger.old ≤ L.wides ledger.new }
 {

@@ -37,7 +37,8 @@ pub fn sweep_words<N: Exact + Drop, L: Ledger>(
     ledger: &mut L,
 ) -> Result<Reply, Memory>
     requires valid { IsValid N.value model.now }
-    ensures answers { IfOk result (AnswersWords N.limit (count (L.wides ledger.old) (L.wides ledger.new))
+    ensures answers { IfOk result (AnswersWords N.limit
+        (count (L.wides ledger.old) (L.wides ledger.new))
         (robust N.value model.now) verbs.Sweep (map string_bytes words.now)) }
     ensures counted { L.wides ledger.old ≤ L.wides ledger.new }
 {
@@ -63,7 +64,8 @@ fn at_limits<N: Exact + Drop, L: Ledger>(
 ) -> Result<Reply, Memory>
     requires valid { IsValid N.value model.now }
     requires few { length limits.now < 2 ^ 32 }
-    ensures answers { IfOk result (AnswersSweep N.limit (count (L.wides ledger.old) (L.wides ledger.new))
+    ensures answers { IfOk result (AnswersSweep N.limit
+        (count (L.wides ledger.old) (L.wides ledger.new))
         (robust N.value model.now) n (map N.value limits.now)) }
     ensures counted { L.wides ledger.old ≤ L.wides ledger.new }
 {
@@ -100,7 +102,8 @@ fn unswept<N: Exact>(
 ) -> Result<Reply, Memory>
     requires valid { IsValid N.value model.now }
     requires cause { HasCause N.limit (robust N.value model.now) n (map N.value limits.now) stop }
-    ensures stop { IfOk result (RepliesUnswept N.limit (robust N.value model.now) n (map N.value limits.now) stop) }
+    ensures stop { IfOk result (RepliesUnswept N.limit (robust N.value model.now) n
+        (map N.value limits.now) stop) }
 {
     match stop {
         SweepStop::Rule(rule) => broken_words(alloc, Ended::Sweep(rule), b"sweep ", rule),
@@ -122,7 +125,8 @@ fn wide_budget<N: Exact>(
 ) -> Result<Reply, Memory>
     requires valid { IsValid N.value model.now }
     requires budget { IsBudgetAt (robust N.value model.now).set_lines n }
-    requires named { IsSpotOf (reach.with_budget (robust N.value model.now) n (N.value limit)) spot }
+    requires named { IsSpotOf (reach.with_budget (robust N.value model.now) n (N.value limit))
+        spot }
     ensures wide { IfOk result (Replies (Ended.WideBudget number spot)
         (wide_budget_text (robust N.value model.now) n (N.value limit) spot)) }
 {
@@ -183,7 +187,8 @@ pub fn limit_words<N: Exact, L: Ledger>(
     ledger: &mut L,
 ) -> Result<Reply, Memory>
     requires valid { IsValid N.value model.now }
-    ensures answers { IfOk result (AnswersWords N.limit (count (L.wides ledger.old) (L.wides ledger.new))
+    ensures answers { IfOk result (AnswersWords N.limit
+        (count (L.wides ledger.old) (L.wides ledger.new))
         (robust N.value model.now) verbs.SweepText (map string_bytes words.now)) }
     ensures counted { L.wides ledger.old ≤ L.wides ledger.new }
 {

@@ -56,7 +56,8 @@ pub fn run<S: Shelf, K: Sink, L: Ledger>(
     // The files are asked for in the order of the words, each word's once at most, and none behind the one that
     // decided.
     ensures fetched { Fetches (map string_bytes words.now) (S.log shelf.old) (S.log shelf.new) }
-    ensures counted { (S.faults shelf.old ≤ S.faults shelf.new) × (K.faults out.old ≤ K.faults out.new)
+    ensures counted { (S.faults shelf.old ≤ S.faults shelf.new)
+        × (K.faults out.old ≤ K.faults out.new)
         × (L.wides ledger.old ≤ L.wides ledger.new) }
 {
     match answer(alloc, words, shelf, ledger) {
@@ -82,7 +83,8 @@ fn answer<S: Shelf, L: Ledger>(
         reply.ended reply.text) }
     ensures files { S.files shelf.new ≡ S.files shelf.old }
     ensures fetched { Fetches (map string_bytes words.now) (S.log shelf.old) (S.log shelf.new) }
-    ensures counted { (S.faults shelf.old ≤ S.faults shelf.new) × (L.wides ledger.old ≤ L.wides ledger.new) }
+    ensures counted { (S.faults shelf.old ≤ S.faults shelf.new)
+        × (L.wides ledger.old ≤ L.wides ledger.new) }
 {
     match read_words(alloc, words) {
         Ok(line) => on_line(alloc, &line, shelf, ledger),
@@ -105,7 +107,8 @@ fn on_line<S: Shelf, L: Ledger>(
         → call.wides ≡ count (L.wides ledger.old) (L.wides ledger.new) → Means call reply.ended reply.text) }
     ensures files { S.files shelf.new ≡ S.files shelf.old }
     ensures asked { Asks (requests (line_of line.now)) (S.log shelf.old) (S.log shelf.new) }
-    ensures counted { (S.faults shelf.old ≤ S.faults shelf.new) × (L.wides ledger.old ≤ L.wides ledger.new) }
+    ensures counted { (S.faults shelf.old ≤ S.faults shelf.new)
+        × (L.wides ledger.old ≤ L.wides ledger.new) }
 {
     let files = fetch(alloc, line, shelf)?;
     match files {
@@ -174,7 +177,8 @@ fn put_reply<K: Sink>(reply: Reply, out: &mut K) -> Ended
 
 /// Puts the line of a want of memory, which takes no memory. Where that is refused too, nothing changes in the answer.
 fn put_memory<K: Sink>(out: &mut K)
-    ensures line { PutMemory (output_of (K.taken out.old) (K.taken out.new) (K.puts out.old) (K.puts out.new)
+    ensures line { PutMemory (output_of (K.taken out.old) (K.taken out.new) (K.puts out.old)
+        (K.puts out.new)
         (count (K.faults out.old) (K.faults out.new))) }
     ensures counted { K.faults out.old ≤ K.faults out.new }
 {

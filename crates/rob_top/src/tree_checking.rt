@@ -38,7 +38,8 @@ pub fn check_tree_text<N: Exact + Drop, L: Ledger>(
     requires valid { IsValid N.value model.now }
     requires named { IsNamed (robust N.value model.now) }
     requires short { length text.now ≤ 2 ^ 30 }
-    ensures answers { IfOk result (AnswersTreeNames N.limit (count (L.wides ledger.old) (L.wides ledger.new))
+    ensures answers { IfOk result (AnswersTreeNames N.limit
+        (count (L.wides ledger.old) (L.wides ledger.new))
         (robust N.value model.now) names.now text.now) }
     ensures counted { L.wides ledger.old ≤ L.wides ledger.new }
 {
@@ -61,7 +62,8 @@ fn on_numbers<N: Exact + Drop, L: Ledger>(
     requires named { IsNamed (robust N.value model.now) }
     requires kept { KeepsNames (robust N.value model.now) numbers.now }
     requires short { length text.now ≤ 2 ^ 30 }
-    ensures answers { IfOk result (AnswersTreeNumbers N.limit (count (L.wides ledger.old) (L.wides ledger.new))
+    ensures answers { IfOk result (AnswersTreeNumbers N.limit
+        (count (L.wides ledger.old) (L.wides ledger.new))
         (robust N.value model.now) numbers.now text.now) }
     ensures counted { L.wides ledger.old ≤ L.wides ledger.new }
 {
@@ -83,7 +85,8 @@ fn on_text<N: Exact + Drop, L: Ledger>(
     requires named { IsNamed (robust N.value model.now) }
     requires rule { ranges.whole_rule (robust N.value model.now) numbers.now ≡ None }
     requires short { length text.now ≤ 2 ^ 30 }
-    ensures answers { IfOk result (AnswersTreeFile N.limit (count (L.wides ledger.old) (L.wides ledger.new))
+    ensures answers { IfOk result (AnswersTreeFile N.limit
+        (count (L.wides ledger.old) (L.wides ledger.new))
         (robust N.value model.now) numbers.now text.now) }
     ensures counted { L.wides ledger.old ≤ L.wides ledger.new }
 {
@@ -106,8 +109,10 @@ fn on_tree<N: Exact, L: Ledger>(
 ) -> Result<Reply, Memory>
     requires valid { IsValid N.value model.now }
     requires rule { ranges.whole_rule (robust N.value model.now) numbers.now ≡ None }
-    requires shape { HasTreeShape N.limit (robust N.value model.now) numbers.now (tree_of N.value tree.now) }
-    ensures answers { IfOk result (AnswersTree N.limit (count (L.wides ledger.old) (L.wides ledger.new))
+    requires shape { HasTreeShape N.limit (robust N.value model.now) numbers.now
+        (tree_of N.value tree.now) }
+    ensures answers { IfOk result (AnswersTree N.limit
+        (count (L.wides ledger.old) (L.wides ledger.new))
         (robust N.value model.now) numbers.now (tree_of N.value tree.now)) }
     ensures counted { L.wides ledger.old ≤ L.wides ledger.new }
 {
@@ -124,7 +129,8 @@ fn judged<N: Exact>(
 ) -> Result<Reply, Memory>
     requires valid { IsValid N.value model.now }
     requires named { IsVerdictOf (robust N.value model.now) verdict }
-    ensures verdict { IfOk result (RepliesVerdict (robust N.value model.now) (tree_of N.value tree.now) verdict) }
+    ensures verdict { IfOk result (RepliesVerdict (robust N.value model.now)
+        (tree_of N.value tree.now) verdict) }
 {
     match verdict {
         TreeVerdict::Accepted => accepted(alloc, tree.status, tree.value),
@@ -161,7 +167,8 @@ fn rejected<N: Exact>(
 fn put_fault<N: Exact>(model: &Model<N>, fault: LeafFault, out: &mut Text) -> Result<(), Memory>
     requires valid { IsValid N.value model.now }
     requires named { IsFaultOf (robust N.value model.now) fault }
-    ensures appended { OnOk result (out.new ≡ out.old ++ line (fault_words (robust N.value model.now) fault)) }
+    ensures appended { OnOk result (out.new
+        ≡ out.old ++ line (fault_words (robust N.value model.now) fault)) }
 {
     match fault {
         LeafFault::At(place) => {

@@ -130,7 +130,8 @@ fn on_model<N: Exact + Drop, L: Ledger>(
     requires named { IsNamed (robust N.value model.now) }
     requires on_model { IsOnModel line.now.verb }
     requires short { IsShort texts.now }
-    ensures answers { IfOk result (AnswersModel N.limit (count (L.wides ledger.old) (L.wides ledger.new))
+    ensures answers { IfOk result (AnswersModel N.limit
+        (count (L.wides ledger.old) (L.wides ledger.new))
         (robust N.value model.now) (line_of line.now) texts.now) }
     ensures counted { L.wides ledger.old ≤ L.wides ledger.new }
 {
@@ -154,7 +155,8 @@ fn unelaborated<N: Exact + Drop, L: Ledger>(
     requires on_model { IsOnModel line.now.verb }
     requires short { IsShort texts.now }
     requires unmade { is_elaborating line.now.verb ≡ false }
-    ensures answers { IfOk result (AnswersModel N.limit (count (L.wides ledger.old) (L.wides ledger.new))
+    ensures answers { IfOk result (AnswersModel N.limit
+        (count (L.wides ledger.old) (L.wides ledger.new))
         (robust N.value model.now) (line_of line.now) texts.now) }
     ensures counted { L.wides ledger.old ≤ L.wides ledger.new }
 {
@@ -192,7 +194,8 @@ fn elaborated<N: Exact + Drop, L: Ledger>(
     requires named { IsNamed (robust N.value model.now) }
     requires short { IsShort texts.now }
     requires elaborates { IsElaborating line.now.verb }
-    ensures answers { IfOk result (AnswersModel N.limit (count (L.wides ledger.old) (L.wides ledger.new))
+    ensures answers { IfOk result (AnswersModel N.limit
+        (count (L.wides ledger.old) (L.wides ledger.new))
         (robust N.value model.now) (line_of line.now) texts.now) }
     ensures counted { L.wides ledger.old ≤ L.wides ledger.new }
 {
@@ -217,7 +220,8 @@ fn on_forms<N: Exact + Drop, L: Ledger>(
     requires elaborated { IsElaborated N.limit (robust N.value model.now) forms.now set.now }
     requires short { IsShort texts.now }
     requires elaborates { IsElaborating line.now.verb }
-    ensures answers { IfOk result (AnswersWhole N.limit (count (L.wides ledger.old) (L.wides ledger.new))
+    ensures answers { IfOk result (AnswersWhole N.limit
+        (count (L.wides ledger.old) (L.wides ledger.new))
         (robust N.value model.now) (line_of line.now) texts.now) }
     ensures counted { L.wides ledger.old ≤ L.wides ledger.new }
 {
@@ -281,7 +285,8 @@ fn not_elaborated<N: Exact>(
 pub fn too_wide<N: Exact>(alloc: Global, model: &Model<N>, spot: Spot) -> Result<Reply, Memory>
     requires valid { IsValid N.value model.now }
     requires named { IsSpotOf (robust N.value model.now) spot }
-    ensures spot { IfOk result (Replies (Ended.TooWide spot) (too_wide_line (robust N.value model.now) spot)) }
+    ensures spot { IfOk result (Replies (Ended.TooWide spot)
+        (too_wide_line (robust N.value model.now) spot)) }
 {
     let text = spot_text(alloc, model, &spot)?;
     Ok(Reply {

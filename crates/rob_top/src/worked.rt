@@ -40,9 +40,11 @@ ghost use Rattle.rob_write.specs.Canonical.{model_text};
 /// `solve`, by both routes, and `narrow`.
 pub fn solving()
     // `solve` on the smallest model is answered with `optimal`,
-    ensures optimal { (result : Ended) → MustEnd (solve_call one_demand) result → EndsAs Optimal result }
+    ensures optimal { (result : Ended) → MustEnd (solve_call one_demand) result
+        → EndsAs Optimal result }
     // by cutting planes too, or it names a wide number of a run,
-    ensures by_cuts { (result : Ended) → MustEnd (cuts_call one_demand) result → EndsAs Optimal result
+    ensures by_cuts { (result : Ended) → MustEnd (cuts_call one_demand) result
+        → EndsAs Optimal result
         ⊎ ((spot : Spot) × IsWideOnWay Cuts greatest one_demand spot × (result ≡ TooWide spot)) }
     // by the default route no wide number is named, as the model is narrow, and its status is answered;
     ensures narrow_spot { (result : Ended) → MustEnd (solve_call one_demand) result → (spot : Spot)
@@ -66,20 +68,24 @@ pub fn solving()
     ensures empty_named_set { (result : Ended) → MustEnd (solve_call never_calm) result
         → IsEmptyAnswer greatest never_calm result }
     // `narrow` prints the bounds of the smallest model.
-    ensures narrow { (result : Ended) → MustEnd (narrow_call one_demand) result → EndsAs Printed result }
+    ensures narrow { (result : Ended) → MustEnd (narrow_call one_demand) result
+        → EndsAs Printed result }
 {}
 
 /// `check`, and `replay` of what it would accept.
 pub fn checking()
     // `check` accepts a certificate that proves,
-    ensures accepted { (result : Ended) → MustEnd (check_call order_12) result → EndsAs Accepted result }
+    ensures accepted { (result : Ended) → MustEnd (check_call order_12) result
+        → EndsAs Accepted result }
     // and rejects one that doesn't, at the first place that fails.
     ensures rejected { (result : Ended) → MustEnd (check_call order_11) result
         → (place : Place) × IsFirstFailing greatest one_demand order_11 place × EndsAs (Rejected place) result }
     // `replay` prints the table of a file with one scenario that is admitted and one that isn't,
-    ensures replayed { (result : Ended) → MustEnd (replay_call order_12 two_demands) result → EndsAs Printed result }
+    ensures replayed { (result : Ended) → MustEnd (replay_call order_12 two_demands) result
+        → EndsAs Printed result }
     // which has these lines, and no other,
-    ensures table { (text : List ℕ) → Means (replay_call order_12 two_demands) Printed text → text ≡ two_demands_table }
+    ensures table { (text : List ℕ) → Means (replay_call order_12 two_demands) Printed text → text
+        ≡ two_demands_table }
     // and it names the first record with a wide number;
     ensures wide { (result : Ended) → MustEnd (replay_call order_least two_demands) result
         → EndsAs (TooWide (ReplaySpot 2)) result }
@@ -94,7 +100,8 @@ pub fn checking()
 /// `worst`.
 pub fn searching()
     // `worst` prints the worst case of a row, or names a wide number on the way to it;
-    ensures worst_case { (result : Ended) → MustEnd (worst_call order_12 (codes "r")) result → EndsAs Printed result
+    ensures worst_case { (result : Ended) → MustEnd (worst_call order_12 (codes "r")) result
+        → EndsAs Printed result
         ⊎ ((spot : Spot) × IsWideSought greatest one_demand 1 (certificate_vector order_12) spot
         × (result ≡ TooWide spot)) }
     // it names a word that is no form's name, and of a certificate without a plan rule 34.
@@ -106,10 +113,12 @@ pub fn searching()
     ensures printed { (result : Ended) → MustEnd (worst_call order_12 (codes "objective")) result
         → EndsAs Printed result }
     // Of a plan with the least number it names a wide number for the objective, whose slack is wide.
-    ensures wide_slack { (result : Ended) → MustEnd (worst_call order_least (codes "objective")) result
+    ensures wide_slack { (result : Ended) → MustEnd
+        (worst_call order_least (codes "objective")) result
         → NamesWideSought greatest one_demand 0 (certificate_vector order_least) result }
     // On a model without a scenario it answers by weights that show it, or a wide row of the set's program.
-    ensures empty_worst { (result : Ended) → MustEnd (worst_on empty_interval order_0 (codes "objective")) result
+    ensures empty_worst { (result : Ended) → MustEnd
+        (worst_on empty_interval order_0 (codes "objective")) result
         → IsEmptyAnswer greatest empty_interval result }
 {}
 
@@ -124,10 +133,12 @@ pub fn branching()
     ensures halves { (result : Ended) → MustEnd (whole_call half_a_demand (codes "x")) result
         → EndsAs Optimal result ⊎ ((path : List Branch) × (spot : Spot) × (result ≡ WideNode path spot)) }
     // Where that model admits no scenario, by weights that show it, or a wide number of the set's program.
-    ensures empty_whole { (result : Ended) → MustEnd (whole_call impossible_demand (codes "x")) result
+    ensures empty_whole { (result : Ended) → MustEnd
+        (whole_call impossible_demand (codes "x")) result
         → IsEmptyWholeAnswer greatest impossible_demand result }
     // `checktree` names rule 71 of a tree's file that is empty;
-    ensures treeless { (result : Ended) → MustEnd (tree_call half_a_demand []) result → EndsAs (NoTree 71 1) result }
+    ensures treeless { (result : Ended) → MustEnd (tree_call half_a_demand []) result
+        → EndsAs (NoTree 71 1) result }
     // it accepts a tree that proves, or names a wide number;
     ensures proved_tree { (result : Ended) → MustEnd (tree_call half_a_demand
         (tree_text half_a_demand whole_orders)) result → EndsAs Accepted result
@@ -144,13 +155,16 @@ pub fn sweeping()
     // `sweep` and `sweeptext` name rule 81 for a model without statements on its set.
     ensures unswept { (result : Ended) → MustEnd (sweep_call (codes "sweep") one_demand) result
         → EndsAs (Sweep 81) result }
-    ensures unlimited { (result : Ended) → MustEnd (sweep_call (codes "sweeptext") one_demand) result
+    ensures unlimited { (result : Ended) → MustEnd
+        (sweep_call (codes "sweeptext") one_demand) result
         → EndsAs (Sweep 81) result }
     // On a model with a budget `sweep` prints its answer at a limit, or names a wide number, and `sweeptext` prints
     // it with that limit.
-    ensures swept { (result : Ended) → MustEnd (sweep_call (codes "sweep") demand_within_a_budget) result
+    ensures swept { (result : Ended) → MustEnd
+        (sweep_call (codes "sweep") demand_within_a_budget) result
         → IsSweepAnswer greatest demand_within_a_budget 1 (limit_value (codes "0") ∷ []) result }
-    ensures limited { (result : Ended) → MustEnd (sweep_call (codes "sweeptext") demand_within_a_budget) result
+    ensures limited { (result : Ended) → MustEnd
+        (sweep_call (codes "sweeptext") demand_within_a_budget) result
         → EndsAs Printed result }
 {}
 
@@ -158,19 +172,24 @@ pub fn sweeping()
 pub fn cutting()
     // `cells` on the smallest model cut at 9 is answered with `optimal`, or a wide number of the split model, which
     // `celltext` prints;
-    ensures pieces { (result : Ended) → MustEnd (cells_call (codes "cells") (codes "d=9") one_demand) result
+    ensures pieces { (result : Ended) → MustEnd
+        (cells_call (codes "cells") (codes "d=9") one_demand) result
         → EndsAs Optimal result
         ⊎ ((spot : Spot) × IsWideIn greatest (split_model one_demand at_9) spot × (result ≡ TooWide spot)) }
-    ensures split { (result : Ended) → MustEnd (cells_call (codes "celltext") (codes "d=9") one_demand) result
+    ensures split { (result : Ended) → MustEnd
+        (cells_call (codes "celltext") (codes "d=9") one_demand) result
         → EndsAs Printed result }
     // cut at 13, above each admitted d, by weights that show an empty cell, or a number that is wide before that is
     // known.
-    ensures empty_cell { (result : Ended) → MustEnd (cells_call (codes "cells") (codes "d=13") one_demand) result
+    ensures empty_cell { (result : Ended) → MustEnd
+        (cells_call (codes "cells") (codes "d=13") one_demand) result
         → IsEmptyCellsAnswer greatest one_demand at_13 result }
     // Of a cut at no parameter rule 52 is named, and of a model with a named set 51.
-    ensures uncut { (result : Ended) → MustEnd (cells_call (codes "cells") (codes "e=9") one_demand) result
+    ensures uncut { (result : Ended) → MustEnd
+        (cells_call (codes "cells") (codes "e=9") one_demand) result
         → EndsAs (Cells 52) result }
-    ensures set_uncut { (result : Ended) → MustEnd (cells_call (codes "cells") (codes "d=9") hard_and_soft) result
+    ensures set_uncut { (result : Ended) → MustEnd
+        (cells_call (codes "cells") (codes "d=9") hard_and_soft) result
         → EndsAs (Cells 51) result }
 {}
 
@@ -186,6 +205,7 @@ pub fn split_text()
 /// `text`.
 pub fn numbers()
     // `text` prints a model, whichever number its word spells.
-    ensures generated { (word : Word) → IsNumber word → (result : Ended) → MustEnd (text_call word) result
+    ensures generated { (word : Word) → IsNumber word → (result : Ended)
+        → MustEnd (text_call word) result
         → (result ≡ Printed) ⊎ IsUnput result }
 {}

@@ -24,7 +24,8 @@ fits-room f n (own word ∷ parts) fits = (fits.0, fits-room f (suc n) parts fit
 fits-room f n (apart setting value ∷ parts) fits = fits-room f n parts fits.1
 fits-room f n (joined setting value ∷ parts) fits = fits-room f n parts fits.1
 
-fits-route : (f : Frame) (n : ℕ) (parts : List Part) → takes f route ≡ false → Fits f n parts → values_of route parts ≡ []
+fits-route : (f : Frame) (n : ℕ) (parts : List Part) → takes f route ≡ false → Fits f n parts
+    → values_of route parts ≡ []
 fits-route f n [] none fits = refl
 fits-route f n (own word ∷ parts) none fits = fits-route f (suc n) parts none fits.1
 fits-route f n (apart bits value ∷ parts) none fits = fits-route f n parts none fits.1

@@ -174,7 +174,8 @@ one_line words a b s t =
     let way : a.way ≡ b.way =
     tells-one (takes_route a.verb) (values_of route s.0) a.way b.way s.1.route
     (subst (λ v. TellsRoute (takes_route v) (values_of route s.0) b.way) (sym verbs) other.route) in
-    let width = says-one width_text SixtyTwo (values_of bits s.0) a.width b.width width_text-one s.1.width other.width in
+    let width =
+    says-one width_text SixtyTwo (values_of bits s.0) a.width b.width width_text-one s.1.width other.width in
     (λ i. record { verb = verbs i; own = words_are i; way = way i; width = width i })
 
 -- ---- no word is empty

@@ -117,7 +117,8 @@ fn with_word<'a>(
     command: Command<'a>,
     name: &'a str,
 ) -> Result<Command<'a>, AllocError>
-    ensures word { IfOk result (λ r. app_of r ≡ with_rule (app_of command.entry) (own_word name.now)) }
+    ensures word { IfOk result (λ r. app_of r
+        ≡ with_rule (app_of command.entry) (own_word name.now)) }
 {
     command.arg(positional(alloc, name))
 }

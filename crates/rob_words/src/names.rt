@@ -12,7 +12,8 @@ pub const MOST_IN_LIST: usize = 20;
 /// The part of a word in front of its first comma, and what stands behind that comma, where there is one.
 #[tactic(auto, using(crate::proofs::CommaLemmas::first_part_at, crate::proofs::CommaLemmas::first_part_all))]
 pub fn first_part(word: &str) -> (&str, Option<&str>)
-    ensures parts { parts_of word.now ≡ result.0.now ∷ parts_behind (option_map (λ rest. rest.now) result.1) }
+    ensures parts { parts_of word.now ≡ result.0.now
+        ∷ parts_behind (option_map (λ rest. rest.now) result.1) }
     ensures shorter { IfSome result.1 (λ rest. length rest.now < length word.now) }
 {
     match word.split_once(',') {

@@ -51,7 +51,8 @@ fn verb(words: &[String]) -> Result<Verb, WordsErr>
 }
 
 fn width(text: Option<&str>) -> Result<Width, WordsErr>
-    ensures judged { Judges width_text SixtyTwo (listed (option_map (λ s. s.now) text.entry)) result }
+    ensures judged { Judges width_text SixtyTwo
+        (listed (option_map (λ s. s.now) text.entry)) result }
 {
     match text {
         Some(text) => Width::spelled(text).ok_or(WordsErr::NoCommandLine),

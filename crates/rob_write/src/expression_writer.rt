@@ -20,7 +20,8 @@ pub fn put_comparison<N: Exact>(
     rel: Rel,
     right: &Expr<N>,
 ) -> Result<(), Memory>
-    ensures written { OnOk result (page.new ≡ fold put page.old (comparison_words (naming_of (robust N.value model.now))
+    ensures written { OnOk result (page.new
+        ≡ fold put page.old (comparison_words (naming_of (robust N.value model.now))
         (written (written_count (robust N.value model.now)) (expression_of N.value left.now)) (relation_of rel)
         (written (written_count (robust N.value model.now)) (expression_of N.value right.now)))) }
 {
@@ -154,7 +155,8 @@ pub fn put_parameter_name<N: Exact>(page: &mut Page, model: &Model<N>, k: u32) -
 
 /// The name of a parameter.
 fn parameter_name<N: Exact>(params: &[Param<N>], k: u32) -> &[u8]
-    ensures name { result.now ≡ get_or (map (λ (x : Parameter). x.name) (map (parameter_of N.value) params.now)) k [] }
+    ensures name { result.now ≡ get_or (map (λ (x : Parameter). x.name)
+        (map (parameter_of N.value) params.now)) k [] }
 {
     if (k as usize) < params.len() {
         params[k as usize].name.bytes()
@@ -165,7 +167,8 @@ fn parameter_name<N: Exact>(params: &[Param<N>], k: u32) -> &[u8]
 
 /// The name of a variable.
 fn variable_name<N: Exact>(vars: &[Var<N>], k: u32) -> &[u8]
-    ensures name { result.now ≡ get_or (map (λ (x : Variable). x.name) (map (variable_of N.value) vars.now)) k [] }
+    ensures name { result.now ≡ get_or (map (λ (x : Variable). x.name)
+        (map (variable_of N.value) vars.now)) k [] }
 {
     if (k as usize) < vars.len() {
         vars[k as usize].name.bytes()

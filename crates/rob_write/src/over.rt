@@ -9,7 +9,8 @@ use rob_syntax::Keyword;
 
 /// Writes a line for each set.
 pub fn put_declared_sets(page: &mut Page, sets: &[Text]) -> Result<(), Memory>
-    ensures written { OnOk result (page.new ≡ fold put_line page.old (map declared_set_words sets.now)) }
+    ensures written { OnOk result (page.new
+        ≡ fold put_line page.old (map declared_set_words sets.now)) }
 {
     for set in sets {
         put_declared_set(page, set)?;

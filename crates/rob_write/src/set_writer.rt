@@ -46,7 +46,8 @@ fn put_parameters<N: Exact>(page: &mut Page, params: &[Param<N>]) -> Result<(), 
 
 /// Writes the line of a parameter.
 fn put_parameter<N: Exact>(page: &mut Page, param: &Param<N>) -> Result<(), Memory>
-    ensures written { OnOk result (page.new ≡ put_line page.old (parameter_words (parameter_of N.value param.now))) }
+    ensures written { OnOk result (page.new
+        ≡ put_line page.old (parameter_words (parameter_of N.value param.now))) }
 {
     page.keyword(Keyword::Uncertain)?;
     page.name(param.name.bytes())?;
@@ -80,7 +81,8 @@ fn put_set_line<N: Exact>(
     model: &Model<N>,
     set_line: &SetLine<N>,
 ) -> Result<(), Memory>
-    ensures written { OnOk result (page.new ≡ fold put page.old (set_words (naming_of (robust N.value model.now))
+    ensures written { OnOk result (page.new
+        ≡ fold put page.old (set_words (naming_of (robust N.value model.now))
         (line_written (written_count (robust N.value model.now)) (set_line_of N.value set_line.now)))) }
 {
     match set_line {

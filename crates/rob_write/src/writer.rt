@@ -58,7 +58,8 @@ fn put_variables<N: Exact>(page: &mut Page, vars: &[Var<N>]) -> Result<(), Memor
 
 /// Writes the line of a variable.
 fn put_variable<N: Exact>(page: &mut Page, var: &Var<N>) -> Result<(), Memory>
-    ensures written { OnOk result (page.new ≡ put_line page.old (variable_words (variable_of N.value var.now))) }
+    ensures written { OnOk result (page.new
+        ≡ put_line page.old (variable_words (variable_of N.value var.now))) }
 {
     page.keyword(Keyword::Var)?;
     page.name(var.name.bytes())?;
@@ -115,7 +116,8 @@ fn put_list<N: Exact>(page: &mut Page, model: &Model<N>, on: &[u32]) -> Result<(
 
 /// Writes the goal's line.
 fn put_goal<N: Exact>(page: &mut Page, model: &Model<N>) -> Result<(), Memory>
-    ensures written { OnOk result (page.new ≡ put_line page.old (goal_words (naming_of (robust N.value model.now))
+    ensures written { OnOk result (page.new
+        ≡ put_line page.old (goal_words (naming_of (robust N.value model.now))
         (sense_of model.now.sense) (written_model (robust N.value model.now)).objective
         ++ over_words model.now.sets model.now.objective_set)) }
 {
@@ -156,7 +158,8 @@ fn put_rows<N: Exact>(
 
 /// Writes a row.
 fn put_row<N: Exact>(page: &mut Page, model: &Model<N>, row: &RowDef<N>) -> Result<(), Memory>
-    ensures written { OnOk result (page.new ≡ fold put page.old (row_words (naming_of (robust N.value model.now))
+    ensures written { OnOk result (page.new
+        ≡ fold put page.old (row_words (naming_of (robust N.value model.now))
         (row_written (written_count (robust N.value model.now)) (row_of N.value row.now)))) }
 {
     page.keyword(Keyword::Row)?;

@@ -21,7 +21,8 @@ pub fn written_number<N: Exact>(model: &Model<N>, k: u32) -> u32
 
 /// The written parameters.
 pub fn written_params<N: Exact>(model: &Model<N>) -> &[Param<N>]
-    ensures list { map (parameter_of N.value) result.now ≡ written_parameters (robust N.value model.now) }
+    ensures list { map (parameter_of N.value) result.now
+        ≡ written_parameters (robust N.value model.now) }
 {
     let params = model.params.items();
     let count = written_count(model);

@@ -42,7 +42,8 @@ module _ (words : List (List ℕ)) (scope : Scope) (old : RobustModel) where
 
   -- a row adds itself, taken in its set
   pub row_added : (r : Row) (s : Statement) → s ≡ parsed.Row r
-      → (sorts : List (Option Sort)) → sorts ≡ scope.sorts.items → (place : Place) → place ≡ place_of scope r.relation.over
+      → (sorts : List (Option Sort)) → sorts ≡ scope.sorts.items → (place : Place)
+      → place ≡ place_of scope r.relation.over
       → (row : model.Row) → row ∷ [] ≡ map (row_taken place.count place.set) (rows words sorts (parsed.Row r))
       → (all : List model.Row) → all ≡ old.rows ++ row ∷ [] → (Ss : List ℕ) → Ss ≡ old.row_sets ++ place.set ∷ []
       → HasAdded words scope s old (record old { rows = all; row_sets = Ss })

@@ -21,7 +21,8 @@ module _ {A B C : Type 0} (g : A → C) (f : B → C) where
   map-append (x ∷ list) y = ap (λ (l : List C). g x ∷ l) (map-append list y)
 
   -- one item more
-  pub map_step : (list : List A) (xs : List B) (i : ℕ) (x : B) (y : A) {new : List A} → i < length xs → x ≡ get_or xs i x → g y ≡ f x → new ≡ list ++ y ∷ []
+  pub map_step : (list : List A) (xs : List B) (i : ℕ) (x : B) (y : A) {new : List A} → i < length xs
+      → x ≡ get_or xs i x → g y ≡ f x → new ≡ list ++ y ∷ []
       → map g list ++ map f (drop i xs) ≡ map f xs → map g new ++ map f (drop (i + 1) xs) ≡ map f xs
   map_step list xs i x y {new} inside is same pushed so_far =
       ap (λ (l : List A). map g l ++ map f (drop (i + 1) xs)) pushed
@@ -32,24 +33,29 @@ module _ {A B C : Type 0} (g : A → C) (f : B → C) where
       ∙ so_far
 
   -- all items
-  pub map_end : (list : List A) (xs : List B) (i : ℕ) → length xs ≤ i → map g list ++ map f (drop i xs) ≡ map f xs → map g list ≡ map f xs
-  map_end list xs i all so_far = sym (append-nil (map g list)) ∙ ap (λ (l : List B). map g list ++ map f l) (sym (drop_past xs i all)) ∙ so_far
+  pub map_end : (list : List A) (xs : List B) (i : ℕ) → length xs ≤ i → map g list ++ map f (drop i xs) ≡ map f xs
+      → map g list ≡ map f xs
+  map_end list xs i all so_far =
+      sym (append-nil (map g list)) ∙ ap (λ (l : List B). map g list ++ map f l) (sym (drop_past xs i all)) ∙ so_far
 
 module _ (sorts : List (Option Sort)) (count S : ℕ) where
   -- a part of a sum as the set takes it, with its sign
   unfoldable pub signed_at : Summand → SignedPart
   signed_at x = (x.minus, taken count S (expression sorts (tree_of x.inner)))
 
-  pub signed_same : (x : Summand) {e : Expression} → e ≡ taken count S (expression sorts (tree_of x.inner)) → ◌≡◌ {A = SignedPart} (x.minus, e) (signed_at x)
+  pub signed_same : (x : Summand) {e : Expression} → e ≡ taken count S (expression sorts (tree_of x.inner))
+      → ◌≡◌ {A = SignedPart} (x.minus, e) (signed_at x)
   unfolding signed_at
   signed_same x same = ap (λ (e : Expression). (x.minus, e)) same
 
-  pub terms_are : (xs : List Summand) → terms_of (map signed_at xs) ≡ terms_taken count S (terms sorts (summands_of (map part_of xs)))
+  pub terms_are : (xs : List Summand)
+      → terms_of (map signed_at xs) ≡ terms_taken count S (terms sorts (summands_of (map part_of xs)))
   unfolding signed_at
   terms_are [] = refl
   terms_are (x ∷ xs) =
       ap (term x.minus (taken count S (expression sorts (tree_of x.inner)))) (terms_are xs)
-      ∙ ap (λ (p : Part). term p.minus (taken count S (expression sorts p.inner)) (terms_taken count S (terms sorts (summands_of (map part_of xs))))) (sym (part_is x))
+      ∙ ap (λ (p : Part). term p.minus (taken count S (expression sorts p.inner))
+      (terms_taken count S (terms sorts (summands_of (map part_of xs))))) (sym (part_is x))
 
   unfoldable pub factor_at : Syntax → Expression
   factor_at x = taken count S (expression sorts (tree_of x))
@@ -58,7 +64,8 @@ module _ (sorts : List (Option Sort)) (count S : ℕ) where
   unfolding factor_at
   factor_same x same = same
 
-  pub factors_are : (xs : List Syntax) → factors_of (map factor_at xs) ≡ factors_taken count S (factors sorts (operands_of (map tree_of xs)))
+  pub factors_are : (xs : List Syntax)
+      → factors_of (map factor_at xs) ≡ factors_taken count S (factors sorts (operands_of (map tree_of xs)))
   unfolding factor_at
   factors_are [] = refl
   factors_are (x ∷ xs) = ap (factor (taken count S (expression sorts (tree_of x)))) (factors_are xs)
@@ -70,23 +77,29 @@ map_behind f g (x ∷ xs) = λ i. f (g x) ∷ map_behind f g xs i
 
 module _ (limit : ℕ) where
   -- the parts from a place on fit: so do the part there and those behind it
-  pub summands_fit : (xs : List Summand) (i : ℕ) (x : Summand) → i < length xs → x ≡ get_or xs i x → FitsSummands limit (summands_of (map part_of (drop i xs)))
+  pub summands_fit : (xs : List Summand) (i : ℕ) (x : Summand) → i < length xs → x ≡ get_or xs i x
+      → FitsSummands limit (summands_of (map part_of (drop i xs)))
       → FitsTree limit (tree_of x.inner) × FitsSummands limit (summands_of (map part_of (drop (i + 1) xs)))
   summands_fit xs i x inside is fits =
-      let both = subst (λ (l : List Summand). FitsSummands limit (summands_of (map part_of l))) (drop_at xs i x inside is) fits in
+      let both =
+      subst (λ (l : List Summand). FitsSummands limit (summands_of (map part_of l))) (drop_at xs i x inside is) fits in
       (subst (λ (p : Part). FitsTree limit p.inner) (part_is x) both.0, both.1)
 
-  pub operands_fit : (xs : List Syntax) (i : ℕ) (x : Syntax) → i < length xs → x ≡ get_or xs i x → FitsOperands limit (operands_of (map tree_of (drop i xs)))
+  pub operands_fit : (xs : List Syntax) (i : ℕ) (x : Syntax) → i < length xs → x ≡ get_or xs i x
+      → FitsOperands limit (operands_of (map tree_of (drop i xs)))
       → FitsTree limit (tree_of x) × FitsOperands limit (operands_of (map tree_of (drop (i + 1) xs)))
-  operands_fit xs i x inside is fits = subst (λ (l : List Syntax). FitsOperands limit (operands_of (map tree_of l))) (drop_at xs i x inside is) fits
+  operands_fit xs i x inside is fits =
+      subst (λ (l : List Syntax). FitsOperands limit (operands_of (map tree_of l))) (drop_at xs i x inside is) fits
 
 -- ---- words by their numbers
-pub word_there : (keys : List (Vec ℕ Global)) (k : ℕ) (o : Option (Vec ℕ Global)) (v : Vec ℕ Global) → o ≡ slice_get keys k → o ≡ Some v → v.items ≡ word_of (texts keys) k
+pub word_there : (keys : List (Vec ℕ Global)) (k : ℕ) (o : Option (Vec ℕ Global)) (v : Vec ℕ Global)
+    → o ≡ slice_get keys k → o ≡ Some v → v.items ≡ word_of (texts keys) k
 word_there [] k o v is some = cc
 word_there (x ∷ keys) zero o v is some = let same : v ≡ x = cc in ap (λ (w : Vec ℕ Global). w.items) same
 word_there (x ∷ keys) (suc k) o v is some = word_there keys k o v is some
 
-pub word_missing : (keys : List (Vec ℕ Global)) (k : ℕ) (o : Option (Vec ℕ Global)) → o ≡ slice_get keys k → o ≡ None → ◌≡◌ {A = List ℕ} [] (word_of (texts keys) k)
+pub word_missing : (keys : List (Vec ℕ Global)) (k : ℕ) (o : Option (Vec ℕ Global)) → o ≡ slice_get keys k → o ≡ None
+    → ◌≡◌ {A = List ℕ} [] (word_of (texts keys) k)
 word_missing [] k o is none = refl
 word_missing (x ∷ keys) zero o is none = cc
 word_missing (x ∷ keys) (suc k) o is none = word_missing keys k o is none
@@ -99,4 +112,13 @@ any_default (x ∷ xs) (suc i) d e inside = any_default xs i d e (omega arith)
 
 -- what stands past the end of a list of members
 abbrev pub no_member : Member
-no_member = record { name = 0; spread = record { centre = record { minus = false; number = record { numerator = 0; divisor = None } }; deviation = record { numerator = 0; divisor = None } } }
+no_member =
+    record {
+      name = 0;
+      spread =
+          record {
+            centre = record { minus = false; number = record { numerator = 0; divisor = None } };
+            deviation =
+                record { numerator = 0; divisor = None };
+          };
+    }

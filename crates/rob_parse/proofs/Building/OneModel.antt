@@ -1,5 +1,5 @@
--- Each text reads as one model, at whichever limits, or breaks one rule at one line. A limit only bounds digits, so that at a
--- greater one more texts are read; what a text reads as is the same.
+-- Each text reads as one model, at whichever limits, or breaks one rule at one line. A limit only bounds digits, so
+-- that at a greater one more texts are read; what a text reads as is the same.
 use Rattle.std.proofs.Common.{◌≡◌, ℕ, ◌⊎◌, inl, inr, ⊎_elim, List, [], ◌∷◌, ◌++◌, map, refl, sym, ap, ◌∙◌, subst}
 use Rattle.rob_index.proofs.Versions.{one_of}
 use Rattle.rob_index.specs.Expansion.{expand}
@@ -26,7 +26,8 @@ use Rattle.rob_syntax.specs.Versions.{text_lines, text_version}
 use Rattle.rob_syntax.specs.declared.syntax.Statement.{Statement}
 
 module _ (limit : ℕ) (text : List ℕ) where
-  pub some_model : ((m : RobustModel) × ReadsModel limit text m) ⊎ ((rule : ℕ) × (line : ℕ) × Breaks limit text rule line)
+  pub some_model : ((m : RobustModel) × ReadsModel limit text m)
+      ⊎ ((rule : ℕ) × (line : ℕ) × Breaks limit text rule line)
   some_model =
       ⊎_elim
       (λ (r : (words : List Name) × (list : List Statement) × (known : Earlier) × Reads limit text words list known).
@@ -58,8 +59,10 @@ module _ (own : List Name) (v : Version) where
     steps_alike k (p ∷ ps) = steps_alike (named_behind k p) ps
 
     -- lines that are read at both are the same statements, and the same is known behind them
-    lines_alike : (ls : List (List is.Symbol)) (e : St limit) (e' : St limit') (a b : List stated.Statement) (f : St limit)
-        (g : St limit') → e.known ≡ e'.known → AreRead limit e ls a f → AreRead limit' e' ls b g → (a ≡ b) × (f.known ≡ g.known)
+    lines_alike : (ls : List (List is.Symbol)) (e : St limit) (e' : St limit') (a b : List stated.Statement)
+        (f : St limit)
+        (g : St limit') → e.known ≡ e'.known → AreRead limit e ls a f → AreRead limit' e' ls b g → (a ≡ b)
+        × (f.known ≡ g.known)
     lines_alike [] e e' a b f g same x y =
         (x.0 ∙ sym y.0, sym (ap (λ (s : St limit). s.known) x.1) ∙ same ∙ ap (λ (s : St limit'). s.known) y.1)
     lines_alike ([] ∷ ls) e e' a b f g same x y = lines_alike ls e e' a b f g same x y
@@ -71,7 +74,8 @@ module _ (own : List Name) (v : Version) where
         (x.4 ∙ (λ i. expand own (line i) ++ rest.0 i) ∙ sym y.4, rest.1)
 
 -- a reading at one limit and one at another are the same
-pub model_alike : (limit limit' : ℕ) (text : List ℕ) (m m' : RobustModel) → ReadsModel limit text m → ReadsModel limit' text m'
+pub model_alike : (limit limit' : ℕ) (text : List ℕ) (m m' : RobustModel) → ReadsModel limit text m
+    → ReadsModel limit' text m'
     → m ≡ m'
 model_alike limit limit' text m m' x y =
     let t = x.reads.tokens in
@@ -82,8 +86,10 @@ model_alike limit limit' text m m' x y =
     (λ (ts : List Token). LinesRead limit' text (words_of text ts) ts y.reads.plain
     (record { words = y.words; earlier = y.known }) y.reads.total)
     (sym tokens) y.reads.lines in
-    let here : St own v limit = record { known = record { words = x.words; earlier = x.known }; total = x.reads.total } in
-    let other : St own v limit' = record { known = record { words = y.words; earlier = y.known }; total = y.reads.total } in
+    let here : St own v limit =
+    record { known = record { words = x.words; earlier = x.known }; total = x.reads.total } in
+    let other : St own v limit' =
+    record { known = record { words = y.words; earlier = y.known }; total = y.reads.total } in
     let same = lines_alike own v limit limit' (map seen_line (text_lines text own t)) (in_front limit v own)
     (in_front limit' v own) x.reads.plain y.reads.plain here other refl x.reads.lines.follows there.follows in
     let list : x.list ≡ y.list =
@@ -91,5 +97,6 @@ model_alike limit limit' text m m' x y =
     x.model_is ∙ (λ i. model_of (same.1 i).words (same.1 i).earlier.sorts (list i)) ∙ sym y.model_is
 
 -- ---- one limit
-pub one_model : (limit : ℕ) (text : List ℕ) (m m' : RobustModel) → ReadsModel limit text m → ReadsModel limit text m' → m ≡ m'
+pub one_model : (limit : ℕ) (text : List ℕ) (m m' : RobustModel) → ReadsModel limit text m → ReadsModel limit text m'
+    → m ≡ m'
 one_model limit = model_alike limit limit

@@ -28,22 +28,36 @@ module _ (limit : ℕ) (text : List ℕ) (m : RobustModel) (read : ReadsModel li
 
   -- the sets that are declared
   declared : read.known.sizes.sets ≡ length names
-  declared = let c = counts read.words read.known.sorts limit (start (length read.words)) read.list read.known (model_chain limit text m read) in omega (arith, c.sets_are)
+  declared =
+      let c =
+      counts read.words read.known.sorts limit (start (length read.words)) read.list read.known
+      (model_chain limit text m read) in
+      omega (arith, c.sets_are)
 
   numbered : AreCounted read.known
-  numbered = counted_all limit read.words (start (length read.words)) read.list read.known (model_chain limit text m read) (counted_start (length read.words))
+  numbered =
+      counted_all limit read.words (start (length read.words)) read.list read.known (model_chain limit text m read)
+      (counted_start (length read.words))
 
   pub of_lines_there : Each (λ S. S < suc (length names)) of_lines
-  of_lines_there = subst (λ (n : ℕ). Each (λ S. S < suc n) of_lines) declared (lines_there read.known.sorts read.known.sizes.sets numbered read.list)
+  of_lines_there =
+      subst (λ (n : ℕ). Each (λ S. S < suc n) of_lines) declared
+      (lines_there read.known.sorts read.known.sizes.sets numbered read.list)
 
   pub of_objective_there : of_objective < suc (length names)
-  of_objective_there = subst (λ (n : ℕ). of_objective < suc n) declared (objective_there read.known.sorts read.known.sizes.sets numbered (goal_in read.list))
+  of_objective_there =
+      subst (λ (n : ℕ). of_objective < suc n) declared
+      (objective_there read.known.sorts read.known.sizes.sets numbered (goal_in read.list))
 
   pub of_rows_there : Each (λ S. S < suc (length names)) of_rows
-  of_rows_there = subst (λ (n : ℕ). Each (λ S. S < suc n) of_rows) declared (rows_there read.known.sorts read.known.sizes.sets numbered read.list)
+  of_rows_there =
+      subst (λ (n : ℕ). Each (λ S. S < suc n) of_rows) declared
+      (rows_there read.known.sorts read.known.sizes.sets numbered read.list)
 
   pub well_formed : 1 ≤ limit → IsModel m
   well_formed low =
       subst IsModel (sym read.model_is)
-      (in_sets_model (written_by limit text m read) refl names of_lines of_objective of_rows (well_formed_written limit text m low read)
-      (lines_beside read.words read.known.sorts read.list) (rows_beside read.words read.known.sorts read.list) of_lines_there of_objective_there of_rows_there)
+      (in_sets_model (written_by limit text m read) refl names of_lines of_objective of_rows
+      (well_formed_written limit text m low read)
+      (lines_beside read.words read.known.sorts read.list) (rows_beside read.words read.known.sorts read.list)
+      of_lines_there of_objective_there of_rows_there)

@@ -54,7 +54,8 @@ module _ (words : List (List ℕ)) where
       token_free kind.Sign t is has = (tt, tt)
       token_free kind.LineEnd t is has = tt
 
-      tokens_free : (ts : List Token) → Each (HasWord words text) ts → Each HasFreeName (symbols_of text version words ts)
+      tokens_free : (ts : List Token) → Each (HasWord words text) ts
+          → Each HasFreeName (symbols_of text version words ts)
       tokens_free [] has = tt
       tokens_free (t ∷ ts) has =
           each_append HasFreeName (symbol_at version words t.kind (bytes_of text t)) (symbols_of text version words ts)

@@ -23,8 +23,11 @@ module _ (P : Name → Type 0) where
 
     from_parts : (ps : Parts) → Each P (part_names ps) → EachPartName P ps
     from_parts stated.no_parts h = tt
-    from_parts (stated.part minus p ps) h =
-        (from_tree p (each_left P (tree_names p) (part_names ps) h), from_parts ps (each_right P (tree_names p) (part_names ps) h))
+    from_parts (stated.part minus p ps) h = (
+      from_tree p (each_left P (tree_names p) (part_names ps) h),
+      from_parts ps
+          (each_right P (tree_names p) (part_names ps) h),
+    )
 
     from_factors : (ps : Factors) → Each P (factor_names ps) → EachFactorName P ps
     from_factors stated.no_factors h = tt
@@ -84,7 +87,8 @@ module _ (P : Name → Type 0) where
 
     of_factors : (ps : Factors) → EachFactorName P ps → Each P (factor_names ps)
     of_factors stated.no_factors h = tt
-    of_factors (stated.factor p ps) h = each_append P (tree_names p) (factor_names ps) (of_tree p h.0) (of_factors ps h.1)
+    of_factors (stated.factor p ps) h =
+        each_append P (tree_names p) (factor_names ps) (of_tree p h.0) (of_factors ps h.1)
 
   of_over : (o : Option Name) → IfThere P o → Each P (option_to_list o)
   of_over None h = tt

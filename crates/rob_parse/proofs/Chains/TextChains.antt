@@ -45,7 +45,8 @@ use Rattle.rob_syntax.specs.declared.symbol.Symbol.TheVariants as symbol
 use Rattle.rob_syntax.specs.declared.syntax.Statement.{Statement as Own}
 
 -- ---- one plain statement
--- what is known of one that a line stands for: its names are words and no keywords, and not too long, and its trees are real
+-- what is known of one that a line stands for: its names are words and no keywords, and not too long, and its trees are
+-- real
 record IsGood (words : List Name) (p : Statement) : Type 0 where
   free : EachNameOf IsFreeWord p
   short : EachNameOf (λ n. length n ≤ longest_name) p
@@ -80,7 +81,8 @@ members_of words (stated.adaptive n on b) h = tt
 members_of words (stated.goal s e o) h = tt
 members_of words (stated.row n l r p o) h = tt
 
-formed_of : (words : List Name) (p : Statement) → EachNameOf (In words) p → IsGood words p → IsFormed words (numbered words p)
+formed_of : (words : List Name) (p : Statement) → EachNameOf (In words) p → IsGood words p
+    → IsFormed words (numbered words p)
 formed_of words p inside good = record {
   declares = declares_of words p inside good;
   trees = good.trees;
@@ -93,7 +95,8 @@ are_in words (n ∷ ns) h = (h.0, are_in words ns h.1)
 
 -- statements one behind another, each as a reader makes it
 chain_of : (limit : ℕ) (words : List Name) (ps : List Statement) (e f : Earlier) → AreLinked limit words e ps f
-    → Each (λ p. AreAmong words (names_of p)) ps → Each (IsGood words) ps → Chain limit words e (map (numbered words) ps) f
+    → Each (λ p. AreAmong words (names_of p)) ps → Each (IsGood words) ps
+    → Chain limit words e (map (numbered words) ps) f
 chain_of limit words [] e f link among good = link
 chain_of limit words (p ∷ ps) e f link among good = (
   record {
@@ -138,7 +141,8 @@ module _ (limit : ℕ) (own : List Name) (v : Version) where
         let s = o.statement in
         let fine = seen_free ls free o.symbols o.line in
         let refs = statement_refs (IsFreeNumber own) v o.symbols s o.is fine in
-        let out = (neither (list_any has_great_digits (places s)) (list_any is_out (places s)) (o.faultless index_out)).1 in
+        let out =
+        (neither (list_any has_great_digits (places s)) (list_any is_out (places s)) (o.faultless index_out)).1 in
         let names = names_of_refs own (λ (r : Ref). IsFreeNumber own r.name) s refs out p o.expanded in
         let is = none_among is_no_statement (expand own s) p (o.faultless no_statement) o.expanded in
         record {
@@ -148,7 +152,8 @@ module _ (limit : ℕ) (own : List Name) (v : Version) where
           is = is;
         }
       where
-        of_line : (symbols : List is.Symbol) (s : Indexed Tree) (q : Statement) → IsStatement symbols s → Among q (expand own s)
+        of_line : (symbols : List is.Symbol) (s : Indexed Tree) (q : Statement) → IsStatement symbols s
+            → Among q (expand own s)
             → Each IsReal (expressions (numbered all q))
         of_line symbols s q stands m =
             expanded_real own all stands.line q
@@ -159,7 +164,8 @@ module _ (limit : ℕ) (own : List Name) (v : Version) where
         real_of one symbols s q stands m = of_line symbols s q stands.0 m
         real_of two symbols s q stands m = of_line symbols s q stands m
 
-        seen_names : (xs : List Symbol) → Each (HasFreeName own) xs → EachItem (IfName (IsFreeNumber own)) (seen_line xs)
+        seen_names : (xs : List Symbol) → Each (HasFreeName own) xs
+            → EachItem (IfName (IsFreeNumber own)) (seen_line xs)
         seen_names [] h = tt
         seen_names (symbol.Name k ∷ xs) h = (h.0, seen_names xs h.1)
         seen_names (symbol.Digits n ∷ xs) h = (tt, seen_names xs h.1)
@@ -236,15 +242,18 @@ module _ (limit : ℕ) (text : List ℕ) (words : List Name) (list : List Own) (
   goods : Each (IsGood words) read.plain
   goods =
       all_good limit own v words ls (text_free text tokens read.are_tokens) read.plain
-      (all_of_lines limit own Named Fault in_order (has_later limit) named_behind is_declared (IsOf v) (map seen_line ls)
+      (all_of_lines limit own Named Fault in_order (has_later limit) named_behind is_declared (IsOf v)
+      (map seen_line ls)
       (in_front limit v own) read.plain last read.lines.follows)
 
   pub text_words : AreWords words
   text_words =
-      let are = lines_words limit own v words (map seen_line ls) (in_front limit v own) read.plain last read.lines.follows goods
+      let are =
+      lines_words limit own v words (map seen_line ls) (in_front limit v own) read.plain last read.lines.follows goods
       (tokens_word text tokens read.are_tokens) in
       record {
-        distinct = lines_distinct limit own v (map seen_line ls) (in_front limit v own) read.plain last read.lines.follows
+        distinct =
+            lines_distinct limit own v (map seen_line ls) (in_front limit v own) read.plain last read.lines.follows
             (words_distinct (flat_map (word_in text) tokens) [] tt);
         are = are;
         plain = each_map IsWord IsPlain word_plain words are;

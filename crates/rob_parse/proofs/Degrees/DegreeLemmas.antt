@@ -44,8 +44,10 @@ pub clean_apart : (xs ys : List Degree) → Clean (xs ++ ys) → Clean xs × Cle
 clean_apart xs ys c =
     let a = none_both has_two_decisions xs ys c.decisions in
     let b = none_both has_two_uncertain xs ys c.uncertain in
-    let d = none_both has_random_recourse xs ys c.recourse in
-    (record { decisions = a.0; uncertain = b.0; recourse = d.0 }, record { decisions = a.1; uncertain = b.1; recourse = d.1 })
+    let d = none_both has_random_recourse xs ys c.recourse in (
+      record { decisions = a.0; uncertain = b.0; recourse = d.0 },
+      record { decisions = a.1; uncertain = b.1; recourse = d.1 },
+    )
 
 at_most_one : (n : ℕ) → nat_lt 1 n ≡ false → n ≤ 1
 at_most_one n h = grind (arith, nat_tests)
@@ -54,8 +56,11 @@ clean_one : (d : Degree) → Clean (d ∷ []) → (d.decision ≤ 1) × (d.uncer
 clean_one d c = (at_most_one d.decision (neither _ _ c.decisions).0, go d.recourse refl)
   where
     go : (b : Bool) → d.recourse ≡ b → d.uncertain ≤ 1
-    go true is = at_most_one d.uncertain (ap (λ (r : Bool). r && nat_lt 1 d.uncertain) (sym is) ∙ (neither _ _ c.recourse).0)
-    go false is = at_most_one d.uncertain (ap (λ (r : Bool). not r && nat_lt 1 d.uncertain) (sym is) ∙ (neither _ _ c.uncertain).0)
+    go true is =
+        at_most_one d.uncertain (ap (λ (r : Bool). r && nat_lt 1 d.uncertain) (sym is) ∙ (neither _ _ c.recourse).0)
+    go false is =
+        at_most_one d.uncertain (ap (λ (r : Bool). not r && nat_lt 1 d.uncertain) (sym is)
+        ∙ (neither _ _ c.uncertain).0)
 
 module _ (m : RobustModel) (sorts before : List (Option Sort)) where
   depends : ℕ → ℕ
@@ -63,7 +68,9 @@ module _ (m : RobustModel) (sorts before : List (Option Sort)) where
 
   -- a name that may be used stands for the same behind the last line, and names what exists
   abbrev pub Stands : ℕ → Type 0
-  Stands k = (sort_at sorts k ≡ sort_at before k) × (is_usable (sort_at before k) ≡ true) × Names (length m.parameters) (length m.variables) m.adaptives (sort_at before k)
+  Stands k =
+      (sort_at sorts k ≡ sort_at before k) × (is_usable (sort_at before k) ≡ true)
+      × Names (length m.parameters) (length m.variables) m.adaptives (sort_at before k)
 
   record Linear (x : Expression) (d : Degree) : Type 0 where
     inside : IsInside m x
@@ -89,39 +96,119 @@ module _ (m : RobustModel) (sorts before : List (Option Sort)) where
     uncertain : p.uncertain + d.uncertain ≤ 1
     decision : p.decision + d.decision ≤ 1
 
-  named_linear : (o : Option Sort) → is_usable o ≡ true → Names (length m.parameters) (length m.variables) m.adaptives o → Linear (named o) (degree_of_sort o)
-  named_linear (Some (Parameter j)) usable names = record { inside = names; linear = tt; uncertain_is = refl; decision_is = refl; uncertain = omega arith; decision = omega arith }
-  named_linear (Some (Decision j)) usable names = record { inside = names; linear = tt; uncertain_is = refl; decision_is = refl; uncertain = omega arith; decision = omega arith }
-  named_linear (Some (Policy j true)) usable names = record { inside = names.0; linear = tt; uncertain_is = names.1; decision_is = refl; uncertain = omega arith; decision = omega arith }
-  named_linear (Some (Policy j false)) usable names = record { inside = names.0; linear = tt; uncertain_is = names.1; decision_is = refl; uncertain = omega arith; decision = omega arith }
+  named_linear : (o : Option Sort) → is_usable o ≡ true → Names (length m.parameters) (length m.variables) m.adaptives o
+      → Linear (named o) (degree_of_sort o)
+  named_linear (Some (Parameter j)) usable names =
+      record {
+        inside = names;
+        linear = tt;
+        uncertain_is = refl;
+        decision_is = refl;
+        uncertain = omega arith;
+        decision =
+            omega arith;
+      }
+  named_linear (Some (Decision j)) usable names =
+      record {
+        inside = names;
+        linear = tt;
+        uncertain_is = refl;
+        decision_is = refl;
+        uncertain = omega arith;
+        decision =
+            omega arith;
+      }
+  named_linear (Some (Policy j true)) usable names =
+      record {
+        inside = names.0;
+        linear = tt;
+        uncertain_is = names.1;
+        decision_is = refl;
+        uncertain =
+            omega arith;
+        decision = omega arith;
+      }
+  named_linear (Some (Policy j false)) usable names =
+      record {
+        inside = names.0;
+        linear = tt;
+        uncertain_is = names.1;
+        decision_is = refl;
+        uncertain =
+            omega arith;
+        decision = omega arith;
+      }
   named_linear (Some RowName) usable names = cc
   named_linear (Some (sort.Set S)) usable names = cc
   named_linear None usable names = cc
 
   mutual
-    linear_tree : (t : Tree) → EachName Stands t → Clean (products before t) → Linear (expression sorts t) (degree before t)
-    linear_tree (number n) stands clean = record { inside = tt; linear = tt; uncertain_is = refl; decision_is = refl; uncertain = omega arith; decision = omega arith }
-    linear_tree (name k) stands clean = subst (λ (o : Option Sort). Linear (named o) (degree before (name k))) (sym stands.0) (named_linear (sort_at before k) stands.1 stands.2)
+    linear_tree : (t : Tree) → EachName Stands t → Clean (products before t)
+        → Linear (expression sorts t) (degree before t)
+    linear_tree (number n) stands clean =
+        record {
+          inside = tt;
+          linear = tt;
+          uncertain_is = refl;
+          decision_is = refl;
+          uncertain = omega arith;
+          decision =
+              omega arith;
+        }
+    linear_tree (name k) stands clean =
+        subst (λ (o : Option Sort). Linear (named o) (degree before (name k))) (sym stands.0)
+        (named_linear (sort_at before k) stands.1 stands.2)
     linear_tree (sum ts) stands clean =
         let l = linear_summands ts stands clean in
-        record { inside = l.inside; linear = l.linear; uncertain_is = l.uncertain_is; decision_is = l.decision_is; uncertain = l.uncertain; decision = l.decision }
+        record {
+          inside = l.inside;
+          linear = l.linear;
+          uncertain_is = l.uncertain_is;
+          decision_is =
+              l.decision_is;
+          uncertain = l.uncertain;
+          decision = l.decision;
+        }
     linear_tree (product no_operands) stands clean =
-        record { inside = tt; linear = (omega arith, omega arith, tt); uncertain_is = refl; decision_is = refl; uncertain = omega arith; decision = omega arith }
+        record {
+          inside = tt;
+          linear = (omega arith, omega arith, tt);
+          uncertain_is = refl;
+          decision_is =
+              refl;
+          uncertain = omega arith;
+          decision = omega arith;
+        }
     linear_tree (product (operand f fs)) stands clean =
         let both = clean_apart (products before f) (more_products before (degree before f) fs) clean in
         let a = linear_tree f stands.0 both.0 in
         let b = linear_operands fs (degree before f) a.uncertain a.decision stands.1 both.1 in
         record {
           inside = (a.inside, b.inside);
-          linear = (omega (arith, a.uncertain_is, b.uncertain_is, b.uncertain), omega (arith, a.decision_is, b.decision_is, b.decision), (a.linear, b.linear));
+          linear = (
+            omega (arith, a.uncertain_is, b.uncertain_is, b.uncertain),
+            omega
+                (arith, a.decision_is, b.decision_is, b.decision),
+            (a.linear, b.linear),
+          );
           uncertain_is = omega (arith, a.uncertain_is, b.uncertain_is);
           decision_is = omega (arith, a.decision_is, b.decision_is);
           uncertain = b.uncertain;
           decision = b.decision;
         }
 
-    linear_summands : (ts : Summands) → EachSummand Stands ts → Clean (sum_products before ts) → LinearTerms (terms sorts ts) (sum_degree before ts)
-    linear_summands no_summands stands clean = record { inside = tt; linear = tt; uncertain_is = refl; decision_is = refl; uncertain = omega arith; decision = omega arith }
+    linear_summands : (ts : Summands) → EachSummand Stands ts → Clean (sum_products before ts)
+        → LinearTerms (terms sorts ts) (sum_degree before ts)
+    linear_summands no_summands stands clean =
+        record {
+          inside = tt;
+          linear = tt;
+          uncertain_is = refl;
+          decision_is = refl;
+          uncertain = omega arith;
+          decision =
+              omega arith;
+        }
     linear_summands (summand minus t ts) stands clean =
         let both = clean_apart (products before t) (sum_products before ts) clean in
         let a = linear_tree t stands.0 both.0 in
@@ -135,10 +222,22 @@ module _ (m : RobustModel) (sorts before : List (Option Sort)) where
           decision = omega (arith, a.decision, b.decision);
         }
 
-    linear_operands : (fs : Operands) (p : Degree) → p.uncertain ≤ 1 → p.decision ≤ 1 → EachOperand Stands fs → Clean (more_products before p fs) → LinearFactors (factors sorts fs) (product_degree before fs) p
-    linear_operands no_operands p u d stands clean = record { inside = tt; linear = tt; uncertain_is = refl; decision_is = refl; uncertain = omega (arith, u); decision = omega (arith, d) }
+    linear_operands : (fs : Operands) (p : Degree) → p.uncertain ≤ 1 → p.decision ≤ 1 → EachOperand Stands fs
+        → Clean (more_products before p fs) → LinearFactors (factors sorts fs) (product_degree before fs) p
+    linear_operands no_operands p u d stands clean =
+        record {
+          inside = tt;
+          linear = tt;
+          uncertain_is = refl;
+          decision_is = refl;
+          uncertain =
+              omega (arith, u);
+          decision = omega (arith, d);
+        }
     linear_operands (operand f fs) p u d stands clean =
-        let one = clean_apart (times p (degree before f) ∷ []) (products before f ++ more_products before (times p (degree before f)) fs) clean in
+        let one =
+        clean_apart (times p (degree before f) ∷ [])
+        (products before f ++ more_products before (times p (degree before f)) fs) clean in
         let both = clean_apart (products before f) (more_products before (times p (degree before f)) fs) one.1 in
         let q = clean_one (times p (degree before f)) one.0 in
         let a = linear_tree f stands.0 both.0 in
@@ -152,12 +251,14 @@ module _ (m : RobustModel) (sorts before : List (Option Sort)) where
           decision = omega (arith, b.decision);
         }
 
-  pub inside_and_linear : (t : Tree) → EachName Stands t → Clean (products before t) → IsInside m (expression sorts t) × meaning.IsLinear m (expression sorts t)
+  pub inside_and_linear : (t : Tree) → EachName Stands t → Clean (products before t) → IsInside m (expression sorts t)
+      × meaning.IsLinear m (expression sorts t)
   inside_and_linear t stands clean = let l = linear_tree t stands clean in (l.inside, l.linear)
 
   -- where no name is a decision's, the degree in the decisions is 0
   mutual
-    without_decision : (t : Tree) → EachName (λ k. is_decision (sort_at before k) ≡ false) t → (degree before t).decision ≡ 0
+    without_decision : (t : Tree) → EachName (λ k. is_decision (sort_at before k) ≡ false) t
+        → (degree before t).decision ≡ 0
     without_decision (number n) none = refl
     without_decision (name k) none = no_degree (sort_at before k) none
       where
@@ -171,13 +272,16 @@ module _ (m : RobustModel) (sorts before : List (Option Sort)) where
     without_decision (sum ts) none = without_summands ts none
     without_decision (product fs) none = without_operands fs none
 
-    without_summands : (ts : Summands) → EachSummand (λ k. is_decision (sort_at before k) ≡ false) ts → (sum_degree before ts).decision ≡ 0
+    without_summands : (ts : Summands) → EachSummand (λ k. is_decision (sort_at before k) ≡ false) ts
+        → (sum_degree before ts).decision ≡ 0
     without_summands no_summands none = refl
     without_summands (summand minus t ts) none = omega (arith, without_decision t none.0, without_summands ts none.1)
 
-    without_operands : (fs : Operands) → EachOperand (λ k. is_decision (sort_at before k) ≡ false) fs → (product_degree before fs).decision ≡ 0
+    without_operands : (fs : Operands) → EachOperand (λ k. is_decision (sort_at before k) ≡ false) fs
+        → (product_degree before fs).decision ≡ 0
     without_operands no_operands none = refl
     without_operands (operand f fs) none = omega (arith, without_decision f none.0, without_operands fs none.1)
 
-  pub no_decision : (t : Tree) → EachName Stands t → Clean (products before t) → EachName (λ k. is_decision (sort_at before k) ≡ false) t → meaning.decision_degree m (expression sorts t) ≡ 0
+  pub no_decision : (t : Tree) → EachName Stands t → Clean (products before t)
+      → EachName (λ k. is_decision (sort_at before k) ≡ false) t → meaning.decision_degree m (expression sorts t) ≡ 0
   no_decision t stands clean none = (linear_tree t stands clean).decision_is ∙ without_decision t none

@@ -16,12 +16,14 @@ some zero h = cc
 some (suc n) h = omega arith
 
 -- a member's deviation is positive
-deviation_positive : (limit : ℕ) (h : Member) → is_certain h ≡ false → FitsMember limit h → 0ℚ <ℚ fraction h.spread.deviation
+deviation_positive : (limit : ℕ) (h : Member) → is_certain h ≡ false → FitsMember limit h
+    → 0ℚ <ℚ fraction h.spread.deviation
 deviation_positive limit h deviates fits =
     let n = h.spread.deviation.numerator in
     is_pos_in (is_of_pair (pos n) (unwrap_or h.spread.deviation.divisor 1) fits.1.positive) (pos_lt n (some n deviates))
 
-pub deviations_positive : (limit : ℕ) (ms : List Member) → list_any is_certain ms ≡ false → Each (FitsMember limit) ms → Each (λ (h : Member). 0ℚ <ℚ fraction h.spread.deviation) ms
+pub deviations_positive : (limit : ℕ) (ms : List Member) → list_any is_certain ms ≡ false → Each (FitsMember limit) ms
+    → Each (λ (h : Member). 0ℚ <ℚ fraction h.spread.deviation) ms
 deviations_positive limit [] deviate fits = tt
 deviations_positive limit (h ∷ ms) deviate fits =
     let b = neither (is_certain h) (list_any is_certain ms) deviate in

@@ -49,18 +49,24 @@ module _ (limit : ℕ) (low : 1 ≤ limit) where
   not_zero zero h = cc
   not_zero (suc n) h = omega arith
 
-  number_fits : (a : ℕ) (d : Option ℕ) → nat_lt limit a ≡ false → has_divisor_over limit d ≡ false → is_zero_divisor d ≡ false → FitsNumber limit (record { numerator = a; divisor = d })
-  number_fits a None low_enough divisor some = record { numerator = not_over a low_enough; divisor = low; positive = omega arith }
-  number_fits a (Some d) low_enough divisor some = record { numerator = not_over a low_enough; divisor = not_over d divisor; positive = not_zero d some }
+  number_fits : (a : ℕ) (d : Option ℕ) → nat_lt limit a ≡ false → has_divisor_over limit d ≡ false
+      → is_zero_divisor d ≡ false → FitsNumber limit (record { numerator = a; divisor = d })
+  number_fits a None low_enough divisor some =
+      record { numerator = not_over a low_enough; divisor = low; positive = omega arith }
+  number_fits a (Some d) low_enough divisor some =
+      record { numerator = not_over a low_enough; divisor = not_over d divisor; positive = not_zero d some }
 
   fits_number : (n : Numeral) → Fine limit (Number n ∷ []) → FitsNumber limit n
   fits_number n fine =
-      let w = neither (nat_lt limit n.numerator) (has_divisor_over limit n.divisor) (neither (is_over limit (Number n)) false fine.within).0 in
+      let w =
+      neither (nat_lt limit n.numerator) (has_divisor_over limit n.divisor)
+      (neither (is_over limit (Number n)) false fine.within).0 in
       number_fits n.numerator n.divisor w.0 w.1 (neither (is_zero_divisor n.divisor) false fine.divisors).0
 
   fits_bounds : (b : Option Bounds) → Fine limit (bound_leaves b) → FitsBounds limit b
   fits_bounds None fine = tt
-  fits_bounds (Some (Between both)) fine = (fits_number both.lower.number (first _ _ fine), fits_number both.upper.number (rest _ _ fine))
+  fits_bounds (Some (Between both)) fine =
+      (fits_number both.lower.number (first _ _ fine), fits_number both.upper.number (rest _ _ fine))
   fits_bounds (Some (AtLeast a)) fine = fits_number a.number fine
   fits_bounds (Some (AtMost b)) fine = fits_number b.number fine
 
@@ -68,8 +74,10 @@ module _ (limit : ℕ) (low : 1 ≤ limit) where
   fits_members [] fine = tt
   fits_members (m ∷ ms) fine =
       let both = apart (member_leaves m) (flat_map member_leaves ms) fine in
-      let numbers = rest (Name m.name) (Number m.spread.centre.number ∷ Number m.spread.deviation ∷ []) both.0 in
-      ((fits_number m.spread.centre.number (first _ _ numbers), fits_number m.spread.deviation (rest _ _ numbers)), fits_members ms both.1)
+      let numbers = rest (Name m.name) (Number m.spread.centre.number ∷ Number m.spread.deviation ∷ []) both.0 in (
+        (fits_number m.spread.centre.number (first _ _ numbers), fits_number m.spread.deviation (rest _ _ numbers)),
+        fits_members ms both.1,
+      )
 
   mutual
     fits_tree : (t : Tree) → Fine limit (leaves t) → FitsTree limit t
@@ -99,13 +107,18 @@ module _ (limit : ℕ) (low : 1 ≤ limit) where
   fits_statement (parsed.Uncertain d) fine = fits_bounds d.bounds fine
   fits_statement (parsed.Over k) fine = tt
   fits_statement (parsed.Set r) fine = fits_relation r fine
-  fits_statement (parsed.Budget b) fine = (fits_number b.limit (first _ _ fine), fits_members b.members (rest (Number b.limit) (flat_map member_leaves b.members) fine))
+  fits_statement (parsed.Budget b) fine = (
+    fits_number b.limit (first _ _ fine),
+    fits_members b.members
+        (rest (Number b.limit) (flat_map member_leaves b.members) fine),
+  )
   fits_statement (parsed.Var d) fine = fits_bounds d.bounds fine
   fits_statement (parsed.Adaptive p) fine = fits_bounds p.bounds (apart (map Name p.on) (bound_leaves p.bounds) fine).1
   fits_statement (parsed.Goal g) fine = fits_tree (tree_of g.objective) fine
   fits_statement (parsed.Row r) fine = fits_relation r.relation fine
 
-  pub statement_fits : (before now : Earlier) (s : Statement) → first_fault limit before now s ≡ None → FitsStatement limit s
+  pub statement_fits : (before now : Earlier) (s : Statement) → first_fault limit before now s ≡ None
+      → FitsStatement limit s
   statement_fits before now s clean =
       fits_statement s (record {
         within = none_found (has_fault limit before now s) in_order 2 NoObjective clean (omega arith);

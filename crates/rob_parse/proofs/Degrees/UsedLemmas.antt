@@ -45,8 +45,11 @@ module _ (test : Leaf → Bool) where
 
     free_factors : (fs : Operands) → Free (factor_leaves fs) → EachOperand IsFreeName fs
     free_factors no_operands free = tt
-    free_factors (operand f fs) free =
-        (free_tree f (left (leaves f) (factor_leaves fs) free), free_factors fs (right (leaves f) (factor_leaves fs) free))
+    free_factors (operand f fs) free = (
+      free_tree f (left (leaves f) (factor_leaves fs) free),
+      free_factors fs
+          (right (leaves f) (factor_leaves fs) free),
+    )
 
   pub free_list : (on : List ℕ) → Free (map Name on) → Each IsFreeName on
   free_list [] free = tt
@@ -54,5 +57,7 @@ module _ (test : Leaf → Bool) where
 
   pub free_members : (ms : List Member) → Free (flat_map member_leaves ms) → Each (λ (h : Member). IsFreeName h.name) ms
   free_members [] free = tt
-  free_members (h ∷ ms) free =
-      (head (Name h.name) (Number h.spread.centre.number ∷ Number h.spread.deviation ∷ flat_map member_leaves ms) free, free_members ms (right (member_leaves h) (flat_map member_leaves ms) free))
+  free_members (h ∷ ms) free = (
+    head (Name h.name) (Number h.spread.centre.number ∷ Number h.spread.deviation ∷ flat_map member_leaves ms) free,
+    free_members ms (right (member_leaves h) (flat_map member_leaves ms) free),
+  )

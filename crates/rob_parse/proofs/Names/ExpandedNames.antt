@@ -1,5 +1,5 @@
--- The name of a ref may be declared, where its word is a word and no keyword, its indices are within bounds, and it isn't too
--- long: behind the word stand `_` and digits, and no keyword has a `_`.
+-- The name of a ref may be declared, where its word is a word and no keyword, its indices are within bounds, and it
+-- isn't too long: behind the word stand `_` and digits, and no keyword has a `_`.
 use Rattle.std.proofs.Common.{◌≡◌, ◌≢◌, ℕ, ◌+◌, ◌%◌, ◌^◌, ◌<◌, ◌≤◌, Bool, true, false, List, [], ◌∷◌, ◌++◌, length, refl, sym, subst, arith, append-nil, append_assoc}
 use Rattle.std.specs.Fmt.{decimal}
 use Rattle.std.specs.List.{flat_map}
@@ -59,7 +59,8 @@ marked : (name tail word : List ℕ) → is_unmarked word ≡ true → name ++ 9
 marked name tail word h e =
     (each_right (λ b. b ≢ 95) name (95 ∷ tail) (subst (Each (λ b. b ≢ 95)) (sym e) (unmarked word h))).0 refl
 
-no_keyword : (name tail : List ℕ) (ks : List (List ℕ × Keyword)) → Each (λ (k : List ℕ × Keyword). is_unmarked k.0 ≡ true) ks
+no_keyword : (name tail : List ℕ) (ks : List (List ℕ × Keyword))
+    → Each (λ (k : List ℕ × Keyword). is_unmarked k.0 ≡ true) ks
     → keyword_among ks (name ++ 95 ∷ tail) ≡ None
 no_keyword name tail [] h = refl
 no_keyword name tail (k ∷ ks) h = by (bytes_eq (name ++ 95 ∷ tail) k.0) refl (no_keyword name tail ks h.1)
@@ -70,7 +71,31 @@ no_keyword name tail (k ∷ ks) h = by (bytes_eq (name ++ 95 ∷ tail) k.0) refl
     by false e rest = rest
 
 keywords_unmarked : Each (λ (k : List ℕ × Keyword). is_unmarked k.0 ≡ true) keywords
-keywords_unmarked = (refl, (refl, (refl, (refl, (refl, (refl, (refl, (refl, (refl, (refl, (refl, (refl, (refl, (refl, (refl, (refl, (refl, (refl, (refl, (refl, tt))))))))))))))))))))
+keywords_unmarked = (
+  refl,
+  (
+    refl,
+    (
+      refl,
+      (
+        refl,
+        (
+          refl,
+          (
+            refl,
+            (
+              refl,
+              (
+                refl,
+                (refl, (refl, (refl, (refl, (refl, (refl, (refl, (refl, (refl, (refl, (refl, (refl, tt)))))))))))),
+              ),
+            ),
+          ),
+        ),
+      ),
+    ),
+  ),
+)
 
 -- a word, and no keyword
 abbrev pub IsFreeWord : List ℕ → Type 0
@@ -78,8 +103,11 @@ IsFreeWord name = IsWord name × (keyword_among keywords name ≡ None)
 
 -- it stays so with `_` and a number behind it
 pub marked_word : (name : List ℕ) (v : ℕ) → v < 2 ^ 64 → IsWord name → IsFreeWord (name ++ 95 ∷ decimal v)
-marked_word name v small h =
-    (word_more name (95 ∷ decimal v) h (refl, decimal_goes v small), no_keyword name (decimal v) keywords keywords_unmarked)
+marked_word name v small h = (
+  word_more name (95 ∷ decimal v) h (refl, decimal_goes v small),
+  no_keyword name (decimal v) keywords
+      keywords_unmarked,
+)
 
 -- ---- refs
 within_small : (z : ℤ) → (int_lt z (pos 0) || int_lt (pos 999) z) ≡ false → nat_abs z < 2 ^ 64
@@ -90,7 +118,8 @@ within_small (pos n) h = let few = under n h in omega (arith, few)
 within_small (negsuc n) h = cc
 
 module _ (words : List (List ℕ)) (setting : Setting) where
-  pub indexed_word : (xs : List Index) (name : List ℕ) → EachItem (λ (x : Index). is_out_at x setting ≡ false) xs → IsFreeWord name
+  pub indexed_word : (xs : List Index) (name : List ℕ) → EachItem (λ (x : Index). is_out_at x setting ≡ false) xs
+      → IsFreeWord name
       → IsFreeWord (name ++ flat_map (index_text words setting) xs)
   indexed_word [] name within free = subst IsFreeWord (sym (append-nil name)) free
   indexed_word (x ∷ xs) name within free =

@@ -45,7 +45,8 @@ list_once (k ∷ on) rest h =
     let b = neither (list_any (is_name k) (map Name on ++ rest)) (has_twice (map Name on ++ rest)) h in
     (others k on (free_list (is_name k) on (none_both (is_name k) (map Name on) rest b.0).0), list_once on rest b.1)
 
-other_members : (k : ℕ) (ms : List Member) → Each (λ (h : Member). IsFreeName (is_name k) h.name) ms → Each (λ j. k ≢ j) (map (λ (h : Member). h.name) ms)
+other_members : (k : ℕ) (ms : List Member) → Each (λ (h : Member). IsFreeName (is_name k) h.name) ms
+    → Each (λ j. k ≢ j) (map (λ (h : Member). h.name) ms)
 other_members k [] h = tt
 other_members k (m ∷ ms) h = (other k m.name h.0, other_members k ms h.1)
 
@@ -59,20 +60,25 @@ members_once (m ∷ ms) h =
 abbrev pub IsInjective : List (Option Sort) → Type 0
 IsInjective sorts = (j k n : ℕ) → sort_at sorts j ≡ Some (Parameter n) → sort_at sorts k ≡ Some (Parameter n) → j ≡ k
 
-set_where : (sorts : List (Option Sort)) (i k : ℕ) (v : Sort) → (k ≡ i) ⊎ (sort_at (set sorts i (Some v)) k ≡ sort_at sorts k)
+set_where : (sorts : List (Option Sort)) (i k : ℕ) (v : Sort) → (k ≡ i)
+    ⊎ (sort_at (set sorts i (Some v)) k ≡ sort_at sorts k)
 set_where [] i k v = inr refl
 set_where (o ∷ sorts) zero zero v = inl refl
 set_where (o ∷ sorts) zero (suc k) v = inr refl
 set_where (o ∷ sorts) (suc i) zero v = inr refl
 set_where (o ∷ sorts) (suc i) (suc k) v = go (set_where sorts i k v)
   where
-    go : (k ≡ i) ⊎ (sort_at (set sorts i (Some v)) k ≡ sort_at sorts k) → (suc k ≡ suc i) ⊎ (sort_at (set sorts i (Some v)) k ≡ sort_at sorts k)
+    go : (k ≡ i) ⊎ (sort_at (set sorts i (Some v)) k ≡ sort_at sorts k) → (suc k ≡ suc i)
+        ⊎ (sort_at (set sorts i (Some v)) k ≡ sort_at sorts k)
     go (inl e) = inl (ap suc e)
     go (inr e) = inr e
 
-module _ (sorts : List (Option Sort)) (i : ℕ) (v : Sort) (bound : ℕ) (below : (k n : ℕ) → sort_at sorts k ≡ Some (Parameter n) → n < bound) (fresh : is_some (sort_at sorts i) ≡ false) (numbered : (n : ℕ) → v ≡ Parameter n → n ≡ bound) where
+module _ (sorts : List (Option Sort)) (i : ℕ) (v : Sort) (bound : ℕ)
+    (below : (k n : ℕ) → sort_at sorts k ≡ Some (Parameter n) → n < bound) (fresh : is_some (sort_at sorts i) ≡ false)
+    (numbered : (n : ℕ) → v ≡ Parameter n → n ≡ bound) where
   -- the written name has a number that no other has
-  not_both : (k n : ℕ) → sort_at (set sorts i (Some v)) i ≡ Some (Parameter n) → sort_at sorts k ≡ Some (Parameter n) → ⊥
+  not_both : (k n : ℕ) → sort_at (set sorts i (Some v)) i ≡ Some (Parameter n) → sort_at sorts k ≡ Some (Parameter n)
+      → ⊥
   not_both k n new old = go (set_cases sorts i i v)
     where
       go : (sort_at (set sorts i (Some v)) i ≡ Some v) ⊎ (sort_at (set sorts i (Some v)) i ≡ sort_at sorts i) → ⊥
@@ -82,22 +88,36 @@ module _ (sorts : List (Option Sort)) (i : ℕ) (v : Sort) (bound : ℕ) (below 
   injective_set : IsInjective sorts → IsInjective (set sorts i (Some v))
   injective_set inj j k n a b = go (set_where sorts i j v) (set_where sorts i k v)
     where
-      go : (j ≡ i) ⊎ (sort_at (set sorts i (Some v)) j ≡ sort_at sorts j) → (k ≡ i) ⊎ (sort_at (set sorts i (Some v)) k ≡ sort_at sorts k) → j ≡ k
+      go : (j ≡ i) ⊎ (sort_at (set sorts i (Some v)) j ≡ sort_at sorts j) → (k ≡ i)
+          ⊎ (sort_at (set sorts i (Some v)) k ≡ sort_at sorts k) → j ≡ k
       go (inl p) (inl q) = p ∙ sym q
-      go (inl p) (inr q) = absurd (not_both k n (subst (λ (x : ℕ). sort_at (set sorts i (Some v)) x ≡ Some (Parameter n)) p a) (sym q ∙ b))
-      go (inr p) (inl q) = absurd (not_both j n (subst (λ (x : ℕ). sort_at (set sorts i (Some v)) x ≡ Some (Parameter n)) q b) (sym p ∙ a))
+      go (inl p) (inr q) =
+          absurd (not_both k n (subst (λ (x : ℕ). sort_at (set sorts i (Some v)) x ≡ Some (Parameter n)) p a)
+          (sym q ∙ b))
+      go (inr p) (inl q) =
+          absurd (not_both j n (subst (λ (x : ℕ). sort_at (set sorts i (Some v)) x ≡ Some (Parameter n)) q b)
+          (sym p ∙ a))
       go (inr p) (inr q) = inj j k n (sym p ∙ a) (sym q ∙ b)
 
 module _ (limit : ℕ) (words : List (List ℕ)) (sorts : List (Option Sort)) where
-  below_all : (e : Earlier) (ys : List model.AdaptiveVariable) → AllNamed e ys → (k n : ℕ) → sort_at e.sorts k ≡ Some (Parameter n) → n < e.sizes.parameters
+  below_all : (e : Earlier) (ys : List model.AdaptiveVariable) → AllNamed e ys → (k n : ℕ)
+      → sort_at e.sorts k ≡ Some (Parameter n) → n < e.sizes.parameters
   below_all e ys all k n is = subst (Names e.sizes.parameters e.sizes.variables ys) is (all.1 k)
 
-  injective_behind : (e : Earlier) (s : Statement) (ys : List model.AdaptiveVariable) → AllNamed e ys → is_declared e.sorts (declared_by e.sizes s) ≡ false → IsInjective e.sorts → IsInjective (declare e.sorts (declared_by e.sizes s))
-  injective_behind e (parsed.Uncertain d) ys all fresh inj = injective_set e.sorts d.name (Parameter e.sizes.parameters) e.sizes.parameters (below_all e ys all) fresh (λ n same. cc) inj
-  injective_behind e (parsed.Var d) ys all fresh inj = injective_set e.sorts d.name _ e.sizes.parameters (below_all e ys all) fresh (λ n same. cc) inj
-  injective_behind e (parsed.Adaptive p) ys all fresh inj = injective_set e.sorts p.name _ e.sizes.parameters (below_all e ys all) fresh (λ n same. cc) inj
-  injective_behind e (parsed.Row r) ys all fresh inj = injective_set e.sorts r.name _ e.sizes.parameters (below_all e ys all) fresh (λ n same. cc) inj
-  injective_behind e (parsed.Over k) ys all fresh inj = injective_set e.sorts k _ e.sizes.parameters (below_all e ys all) fresh (λ n same. cc) inj
+  injective_behind : (e : Earlier) (s : Statement) (ys : List model.AdaptiveVariable) → AllNamed e ys
+      → is_declared e.sorts (declared_by e.sizes s) ≡ false → IsInjective e.sorts
+      → IsInjective (declare e.sorts (declared_by e.sizes s))
+  injective_behind e (parsed.Uncertain d) ys all fresh inj =
+      injective_set e.sorts d.name (Parameter e.sizes.parameters) e.sizes.parameters (below_all e ys all) fresh
+      (λ n same. cc) inj
+  injective_behind e (parsed.Var d) ys all fresh inj =
+      injective_set e.sorts d.name _ e.sizes.parameters (below_all e ys all) fresh (λ n same. cc) inj
+  injective_behind e (parsed.Adaptive p) ys all fresh inj =
+      injective_set e.sorts p.name _ e.sizes.parameters (below_all e ys all) fresh (λ n same. cc) inj
+  injective_behind e (parsed.Row r) ys all fresh inj =
+      injective_set e.sorts r.name _ e.sizes.parameters (below_all e ys all) fresh (λ n same. cc) inj
+  injective_behind e (parsed.Over k) ys all fresh inj =
+      injective_set e.sorts k _ e.sizes.parameters (below_all e ys all) fresh (λ n same. cc) inj
   injective_behind e (parsed.Set r) ys all fresh inj = inj
   injective_behind e (parsed.Budget b) ys all fresh inj = inj
   injective_behind e (parsed.Goal g) ys all fresh inj = inj
@@ -117,21 +137,26 @@ abbrev IsParameter : List (Option Sort) → ℕ → Type 0
 IsParameter sorts k = (n : ℕ) × (sort_at sorts k ≡ Some (Parameter n))
 
 module _ (sorts : List (Option Sort)) (inj : IsInjective sorts) where
-  two_numbers : (j k : ℕ) → IsParameter sorts j → IsParameter sorts k → j ≢ k → parameter_at sorts j ≢ parameter_at sorts k
+  two_numbers : (j k : ℕ) → IsParameter sorts j → IsParameter sorts k → j ≢ k
+      → parameter_at sorts j ≢ parameter_at sorts k
   two_numbers j k a b apart same =
       let p : parameter_at sorts j ≡ a.0 = ap parameter_number a.1 in
       let q : parameter_at sorts k ≡ b.0 = ap parameter_number b.1 in
       apart (inj j k a.0 a.1 (b.1 ∙ ap (λ (n : ℕ). Some (Parameter n)) (sym q ∙ sym same ∙ p)))
 
-  others_apart : (k : ℕ) (js : List ℕ) → IsParameter sorts k → Each (IsParameter sorts) js → Each (λ j. k ≢ j) js → Each (λ n. parameter_at sorts k ≢ n) (map (parameter_at sorts) js)
+  others_apart : (k : ℕ) (js : List ℕ) → IsParameter sorts k → Each (IsParameter sorts) js → Each (λ j. k ≢ j) js
+      → Each (λ n. parameter_at sorts k ≢ n) (map (parameter_at sorts) js)
   others_apart k [] a b d = tt
   others_apart k (j ∷ js) a b d = (two_numbers k j a b.0 d.0, others_apart k js a b.1 d.1)
 
-  numbers_distinct : (on : List ℕ) → Each (IsParameter sorts) on → AreDistinct on → AreDistinct (map (parameter_at sorts) on)
+  numbers_distinct : (on : List ℕ) → Each (IsParameter sorts) on → AreDistinct on
+      → AreDistinct (map (parameter_at sorts) on)
   numbers_distinct [] a d = tt
   numbers_distinct (k ∷ on) a d = (others_apart k on a.0 a.1 d.0, numbers_distinct on a.1 d.1)
 
-members_numbers : (sorts : List (Option Sort)) (ms : List Member) → map (λ (h : model.Member). h.parameter) (map (member sorts) ms) ≡ map (parameter_at sorts) (map (λ (h : Member). h.name) ms)
+members_numbers : (sorts : List (Option Sort)) (ms : List Member)
+    → map (λ (h : model.Member). h.parameter) (map (member sorts) ms) ≡ map (parameter_at sorts)
+    (map (λ (h : Member). h.name) ms)
 members_numbers sorts [] = refl
 members_numbers sorts (m ∷ ms) = ap (λ (l : List ℕ). parameter_at sorts m.name ∷ l) (members_numbers sorts ms)
 
@@ -143,10 +168,12 @@ module _ (limit : ℕ) (f : Earlier) (inj : IsInjective f.sorts) where
   IsOnce _ = Unit {0}
 
   module _ (e : Earlier) (kept : Keeps e f) where
-    a_parameter : (k : ℕ) → IsFreeName (is_unknown e.sorts) k → IsFreeName (names_decision e.sorts) k → IsParameter f.sorts k
+    a_parameter : (k : ℕ) → IsFreeName (is_unknown e.sorts) k → IsFreeName (names_decision e.sorts) k
+        → IsParameter f.sorts k
     a_parameter k known undecided = go (sort_at e.sorts k) refl (true_of_not _ known) undecided
       where
-        go : (o : Option Sort) → sort_at e.sorts k ≡ o → is_usable o ≡ true → is_decision o ≡ false → IsParameter f.sorts k
+        go : (o : Option Sort) → sort_at e.sorts k ≡ o → is_usable o ≡ true → is_decision o ≡ false
+            → IsParameter f.sorts k
         go (Some (Parameter n)) is u d = (n, kept k (Parameter n) is)
         go (Some (Decision n)) is u d = cc
         go (Some (Policy n b)) is u d = cc
@@ -154,11 +181,14 @@ module _ (limit : ℕ) (f : Earlier) (inj : IsInjective f.sorts) where
         go (Some (sort.Set S)) is u d = cc
         go None is u d = cc
 
-    parameters_of : (on : List ℕ) → Each (IsFreeName (is_unknown e.sorts)) on → Each (IsFreeName (names_decision e.sorts)) on → Each (IsParameter f.sorts) on
+    parameters_of : (on : List ℕ) → Each (IsFreeName (is_unknown e.sorts)) on
+        → Each (IsFreeName (names_decision e.sorts)) on → Each (IsParameter f.sorts) on
     parameters_of [] a b = tt
     parameters_of (k ∷ on) a b = (a_parameter k a.0 b.0, parameters_of on a.1 b.1)
 
-    members_of : (ms : List Member) → Each (λ (h : Member). IsFreeName (is_unknown e.sorts) h.name) ms → Each (λ (h : Member). IsFreeName (names_decision e.sorts) h.name) ms → Each (IsParameter f.sorts) (map (λ (h : Member). h.name) ms)
+    members_of : (ms : List Member) → Each (λ (h : Member). IsFreeName (is_unknown e.sorts) h.name) ms
+        → Each (λ (h : Member). IsFreeName (names_decision e.sorts) h.name) ms
+        → Each (IsParameter f.sorts) (map (λ (h : Member). h.name) ms)
     members_of [] a b = tt
     members_of (m ∷ ms) a b = (a_parameter m.name a.0 b.0, members_of ms a.1 b.1)
 
@@ -170,7 +200,9 @@ module _ (limit : ℕ) (f : Earlier) (inj : IsInjective f.sorts) where
       known_in = (neither (list_any (is_unknown e.sorts) (statement_leaves s)) _ (free_of 1 (omega arith))).0
 
       undecided_in : is_of_set s ≡ true → Free (names_decision e.sorts) (statement_leaves s)
-      undecided_in of_set = ap (λ (b : Bool). b && list_any (names_decision e.sorts) (statement_leaves s)) (sym of_set) ∙ free_of 7 (omega arith)
+      undecided_in of_set =
+          ap (λ (b : Bool). b && list_any (names_decision e.sorts) (statement_leaves s)) (sym of_set)
+          ∙ free_of 7 (omega arith)
 
       once_in : is_listing s ≡ true → Once (statement_leaves s)
       once_in listing =
@@ -190,9 +222,11 @@ module _ (limit : ℕ) (f : Earlier) (inj : IsInjective f.sorts) where
         let unknown = is_unknown e.sorts in
         let decided = names_decision e.sorts in
         let known = free_members unknown b.members (tail unknown (Number b.limit) names (known_in now s clean)) in
-        let undecided = free_members decided b.members (tail decided (Number b.limit) names (undecided_in now s clean refl)) in
+        let undecided =
+        free_members decided b.members (tail decided (Number b.limit) names (undecided_in now s clean refl)) in
         subst AreDistinct (sym (members_numbers f.sorts b.members))
-        (numbers_distinct f.sorts inj (map (λ (h : Member). h.name) b.members) (members_of b.members known undecided) (members_once b.members (once_in now s clean refl)))
+        (numbers_distinct f.sorts inj (map (λ (h : Member). h.name) b.members) (members_of b.members known undecided)
+        (members_once b.members (once_in now s clean refl)))
     once_statement now (parsed.Adaptive p) clean =
         let s = parsed.Adaptive p in
         let names = map Name p.on in
@@ -201,9 +235,11 @@ module _ (limit : ℕ) (f : Earlier) (inj : IsInjective f.sorts) where
         let decided = names_decision e.sorts in
         let known = free_list unknown p.on (left unknown names rest (known_in now s clean)) in
         let undecided = free_list decided p.on (left decided names rest (undecided_in now s clean refl)) in
-        numbers_distinct f.sorts inj p.on (parameters_of p.on known undecided) (list_once p.on rest (once_in now s clean refl))
+        numbers_distinct f.sorts inj p.on (parameters_of p.on known undecided)
+        (list_once p.on rest (once_in now s clean refl))
 
-  pub all_once : (words : List (List ℕ)) (e : Earlier) (list : List Statement) → Chain limit words e list f → Each IsOnce list
+  pub all_once : (words : List (List ℕ)) (e : Earlier) (list : List Statement) → Chain limit words e list f
+      → Each IsOnce list
   all_once words e [] chain = tt
   all_once words e (s ∷ list) chain = (
     once_statement chain.0.before (kept_behind limit words e s list f chain) e s chain.0.faultless,

@@ -22,7 +22,8 @@ use Rattle.rob_parse.proofs.Names.OnceLemmas.{IsInjective, IsOnce, all_once, inj
 use Rattle.rob_parse.proofs.Names.SortLemmas.{none_named}
 
 module _ (limit : ℕ) (f : Earlier) (inj : IsInjective f.sorts) where
-  once_list : (words : List (List ℕ)) (s : Statement) → IsOnce limit f inj s → Each (λ (y : model.AdaptiveVariable). AreDistinct y.on) (adaptives words f.sorts s)
+  once_list : (words : List (List ℕ)) (s : Statement) → IsOnce limit f inj s
+      → Each (λ (y : model.AdaptiveVariable). AreDistinct y.on) (adaptives words f.sorts s)
   once_list words (parsed.Adaptive p) once = (once, tt)
   once_list words (parsed.Set r) once = tt
   once_list words (parsed.Budget b) once = tt
@@ -56,7 +57,8 @@ module _ (limit : ℕ) (words : List (List ℕ)) (list : List Statement) (f : Ea
   once = all_once limit f inj words (start (length words)) list chain
 
   pub written_members : Each HasDistinctMembers (flat_map (set_lines f.sorts) list)
-  written_members = each_flat HasDistinctMembers (set_lines f.sorts) (IsOnce limit f inj) (once_members limit f inj) list once
+  written_members =
+      each_flat HasDistinctMembers (set_lines f.sorts) (IsOnce limit f inj) (once_members limit f inj) list once
 
   pub named_parts : Each IsPlain words → AreDistinct words → length (model_of words f.sorts list).set_lines < 2 ^ 32
       → IsNamed (model_of words f.sorts list)
@@ -71,7 +73,8 @@ module _ (limit : ℕ) (words : List (List ℕ)) (list : List Statement) (f : Ea
             (once_list limit f inj words) list once;
         members =
             lines_distinct (written_of words f.sorts list) refl (flat_map (sets words) list)
-            (flat_map (line_sets f.sorts) list) (objective_set f.sorts (goal_in list)) (flat_map (row_sets f.sorts) list)
+            (flat_map (line_sets f.sorts) list) (objective_set f.sorts (goal_in list))
+            (flat_map (row_sets f.sorts) list)
             (flat_map (set_lines f.sorts) list) (flat_map (line_sets f.sorts) list) written_members;
         few = few;
       }
@@ -95,7 +98,8 @@ well_named limit text m read =
     (named_parts limit read.words read.list read.known (model_chain limit text m read) words.plain words.distinct few)
 
 -- the declared names are words, no keywords, and not too long
-pub well_spelled : (limit : ℕ) (text : List ℕ) (m : RobustModel) → ReadsModel limit text m → Each IsSpelled (declared_names m)
+pub well_spelled : (limit : ℕ) (text : List ℕ) (m : RobustModel) → ReadsModel limit text m
+    → Each IsSpelled (declared_names m)
 well_spelled limit text m read =
     subst (λ (x : RobustModel). Each IsSpelled (declared_names x)) (sym read.model_is)
     (spelled_parts limit read.words read.list read.known (model_chain limit text m read)

@@ -22,7 +22,8 @@ use Rattle.rob_syntax.specs.Names.{GoesOn, IsWord}
 use Rattle.rob_syntax.specs.Symbols.{add_word, word_at, word_in, words_of, number_of}
 
 -- ---- lists without repetition
-pub distinct_push : {A : Type 0} (xs : List A) (y : A) → AreDistinct xs → Each (λ x. x ≢ y) xs → AreDistinct (xs ++ y ∷ [])
+pub distinct_push : {A : Type 0} (xs : List A) (y : A) → AreDistinct xs → Each (λ x. x ≢ y) xs
+    → AreDistinct (xs ++ y ∷ [])
 distinct_push [] y d other = (tt, tt)
 distinct_push {A = A} (x ∷ xs) y d other = (push xs d.0, distinct_push xs y d.1 other.1)
   where
@@ -31,7 +32,8 @@ distinct_push {A = A} (x ∷ xs) y d other = (push xs d.0, distinct_push xs y d.
     push (z ∷ zs) h = (h.0, push zs h.1)
 
 -- one more item in the middle
-pub distinct_between : {A : Type 0} (xs ys : List A) (y : A) → AreDistinct (xs ++ ys) → Each (λ x. y ≢ x) (xs ++ ys) → AreDistinct (xs ++ y ∷ ys)
+pub distinct_between : {A : Type 0} (xs ys : List A) (y : A) → AreDistinct (xs ++ ys) → Each (λ x. y ≢ x) (xs ++ ys)
+    → AreDistinct (xs ++ y ∷ ys)
 distinct_between [] ys y d other = (other, d)
 distinct_between {A = A} (x ∷ xs) ys y d other = (between xs d.0, distinct_between xs ys y d.1 other.1)
   where
@@ -57,7 +59,8 @@ others : (words : List (List ℕ)) (w : List ℕ) → list_any (bytes_eq w) word
 others [] w h = tt
 others (x ∷ words) w h = go (λ k. others words w k) (bytes_eq w x) refl h
   where
-    go : (list_any (bytes_eq w) words ≡ false → Each (λ x. x ≢ w) words) → (b : Bool) → bytes_eq w x ≡ b → b || list_any (bytes_eq w) words ≡ false → Each (λ x. x ≢ w) (x ∷ words)
+    go : (list_any (bytes_eq w) words ≡ false → Each (λ x. x ≢ w) words) → (b : Bool) → bytes_eq w x ≡ b
+        → b || list_any (bytes_eq w) words ≡ false → Each (λ x. x ≢ w) (x ∷ words)
     go more true is h = cc
     go more false is h = (λ e. other_word w x is (sym e), more h)
 
@@ -65,7 +68,8 @@ in_front : (words more : List (List ℕ)) (w : List ℕ) → In words w → In (
 in_front [] more w h = cc
 in_front (x ∷ words) more w h = go (λ k. in_front words more w k) (bytes_eq w x) h
   where
-    go : (list_any (bytes_eq w) words ≡ true → list_any (bytes_eq w) (words ++ more) ≡ true) → (b : Bool) → b || list_any (bytes_eq w) words ≡ true → b || list_any (bytes_eq w) (words ++ more) ≡ true
+    go : (list_any (bytes_eq w) words ≡ true → list_any (bytes_eq w) (words ++ more) ≡ true) → (b : Bool)
+        → b || list_any (bytes_eq w) words ≡ true → b || list_any (bytes_eq w) (words ++ more) ≡ true
     go rest true h = refl
     go rest false h = rest h
 
@@ -114,7 +118,8 @@ pub words_distinct : (ws words : List (List ℕ)) → AreDistinct words → AreD
 words_distinct [] words d = d
 words_distinct (w ∷ ws) words d = words_distinct ws (add_word words w) (added_distinct words w d)
 
-pub words_plain : (ws words : List (List ℕ)) → Each IsPlain words → Each IsPlain ws → Each IsPlain (fold add_word words ws)
+pub words_plain : (ws words : List (List ℕ)) → Each IsPlain words → Each IsPlain ws
+    → Each IsPlain (fold add_word words ws)
 words_plain [] words a b = a
 words_plain (w ∷ ws) words a b = words_plain ws (add_word words w) (added_plain words w a b.0) b.1
 
@@ -140,20 +145,25 @@ run_plain (b ∷ bytes) after run = (byte_plain b run.0, run_plain bytes after r
 abbrev pub word_lexed : Lexed → List (List ℕ)
 word_lexed l = word_at l.kind l.bytes
 
-piece_plain : (s : Shape) (bytes after : List ℕ) (more : List Lexed) → Stands s bytes after → Each IsPlain (flat_map word_lexed more) → Each IsPlain (flat_map word_lexed (lexed_at s bytes ++ more))
+piece_plain : (s : Shape) (bytes after : List ℕ) (more : List Lexed) → Stands s bytes after
+    → Each IsPlain (flat_map word_lexed more) → Each IsPlain (flat_map word_lexed (lexed_at s bytes ++ more))
 piece_plain (shape.Lexeme kind.Word) [] after more stands rest = absurd stands
-piece_plain (shape.Lexeme kind.Word) (b ∷ bytes) after more stands rest = ((first_plain b stands.0, run_plain bytes after stands.1), rest)
+piece_plain (shape.Lexeme kind.Word) (b ∷ bytes) after more stands rest =
+    ((first_plain b stands.0, run_plain bytes after stands.1), rest)
 piece_plain (shape.Lexeme kind.Digits) bytes after more stands rest = rest
 piece_plain (shape.Lexeme kind.Sign) bytes after more stands rest = rest
 piece_plain (shape.Lexeme kind.LineEnd) bytes after more stands rest = rest
 piece_plain shape.Gap bytes after more stands rest = rest
 piece_plain shape.Comment bytes after more stands rest = rest
 
-pieces_plain : (text : List ℕ) (pieces : List Piece) (rest : List ℕ) → IsPlace text pieces rest → Each IsPlain (flat_map word_lexed (lexed_of pieces))
+pieces_plain : (text : List ℕ) (pieces : List Piece) (rest : List ℕ) → IsPlace text pieces rest
+    → Each IsPlain (flat_map word_lexed (lexed_of pieces))
 pieces_plain text [] rest place = tt
-pieces_plain text (p ∷ pieces) rest place = piece_plain p.shape p.bytes place.0 (lexed_of pieces) place.2 (pieces_plain place.0 pieces rest place.3)
+pieces_plain text (p ∷ pieces) rest place =
+    piece_plain p.shape p.bytes place.0 (lexed_of pieces) place.2 (pieces_plain place.0 pieces rest place.3)
 
-pub lexed_words : (text : List ℕ) (ts : List Token) → flat_map word_lexed (map (lexed text) ts) ≡ flat_map (word_in text) ts
+pub lexed_words : (text : List ℕ) (ts : List Token)
+    → flat_map word_lexed (map (lexed text) ts) ≡ flat_map (word_in text) ts
 lexed_words text [] = refl
 lexed_words text (t ∷ ts) = ap (λ (l : List (List ℕ)). word_in text t ++ l) (lexed_words text ts)
 
@@ -162,15 +172,20 @@ tokens_plain text tokens are =
     words_plain (flat_map (word_in text) tokens) [] tt
     (subst (λ (ts : List Token). Each IsPlain (flat_map (word_in text) ts)) are.tokens
     (subst (Each IsPlain) (lexed_words text (tokens_of start are.pieces))
-    (subst (λ (l : List Lexed). Each IsPlain (flat_map word_lexed l)) (sym (slices text are.pieces are.whole)) (pieces_plain text are.pieces [] are.whole))))
+    (subst (λ (l : List Lexed). Each IsPlain (flat_map word_lexed l)) (sym (slices text are.pieces are.whole))
+    (pieces_plain text are.pieces [] are.whole))))
 
 -- ---- words by their numbers
-found : (words : List (List ℕ)) (w : List ℕ) → In words w → (position_or_len (bytes_eq w) words < length words) × (word_of words (position_or_len (bytes_eq w) words) ≡ w)
+found : (words : List (List ℕ)) (w : List ℕ) → In words w → (position_or_len (bytes_eq w) words < length words)
+    × (word_of words (position_or_len (bytes_eq w) words) ≡ w)
 found [] w h = cc
 found (x ∷ words) w h = go (λ k. found words w k) (bytes_eq w x) refl h
   where
-    go : (list_any (bytes_eq w) words ≡ true → (position_or_len (bytes_eq w) words < length words) × (word_of words (position_or_len (bytes_eq w) words) ≡ w)) → (b : Bool) → bytes_eq w x ≡ b → b || list_any (bytes_eq w) words ≡ true
-        → (cond (not b) (1 + position_or_len (bytes_eq w) words) 0 < length (x ∷ words)) × (word_of (x ∷ words) (cond (not b) (1 + position_or_len (bytes_eq w) words) 0) ≡ w)
+    go : (list_any (bytes_eq w) words ≡ true → (position_or_len (bytes_eq w) words < length words)
+        × (word_of words (position_or_len (bytes_eq w) words) ≡ w)) → (b : Bool) → bytes_eq w x ≡ b
+        → b || list_any (bytes_eq w) words ≡ true
+        → (cond (not b) (1 + position_or_len (bytes_eq w) words) 0 < length (x ∷ words))
+        × (word_of (x ∷ words) (cond (not b) (1 + position_or_len (bytes_eq w) words) 0) ≡ w)
     go more true is h = (omega arith, sym (same_word w x is))
     go more false is h =
         let one : 1 + position_or_len (bytes_eq w) words ≡ suc (position_or_len (bytes_eq w) words) = omega arith in
@@ -179,14 +194,16 @@ found (x ∷ words) w h = go (λ k. found words w k) (bytes_eq w x) refl h
 never : (a b : ℕ) → a < b → nat_lt a b ≡ false → ⊥
 never a b h is = grind (arith, nat_tests)
 
-pub number_found : (words : List (List ℕ)) (w : List ℕ) → In words w → (number_of words w < length words) × (word_of words (number_of words w) ≡ w)
+pub number_found : (words : List (List ℕ)) (w : List ℕ) → In words w → (number_of words w < length words)
+    × (word_of words (number_of words w) ≡ w)
 number_found words w h = go (nat_lt (position_or_len (bytes_eq w) words) (length words)) refl
   where
     f : (position_or_len (bytes_eq w) words < length words) × (word_of words (position_or_len (bytes_eq w) words) ≡ w)
     f = found words w h
 
     go : (b : Bool) → nat_lt (position_or_len (bytes_eq w) words) (length words) ≡ b
-        → (unwrap_or (cond b (Some (position_or_len (bytes_eq w) words)) None) 0 < length words) × (word_of words (unwrap_or (cond b (Some (position_or_len (bytes_eq w) words)) None) 0) ≡ w)
+        → (unwrap_or (cond b (Some (position_or_len (bytes_eq w) words)) None) 0 < length words)
+        × (word_of words (unwrap_or (cond b (Some (position_or_len (bytes_eq w) words)) None) 0) ≡ w)
     go true is = f
     go false is = absurd (never _ _ f.0 is)
 
@@ -201,7 +218,8 @@ in_place (w ∷ words) (suc k) inside = go (bytes_eq (word_of words k) w) (in_pl
     go false h = h
 
 -- two numbers of one word are one
-pub one_number : (words : List (List ℕ)) (j k : ℕ) → AreDistinct words → j < length words → k < length words → word_of words j ≡ word_of words k → j ≡ k
+pub one_number : (words : List (List ℕ)) (j k : ℕ) → AreDistinct words → j < length words → k < length words
+    → word_of words j ≡ word_of words k → j ≡ k
 one_number [] j k d a b same = absurd (omega arith)
 one_number (w ∷ words) zero zero d a b same = refl
 one_number (w ∷ words) zero (suc k) d a b same = absurd (apart words k d.0 (omega arith) same)
@@ -239,22 +257,27 @@ run_goes : (bytes after : List ℕ) → IsRun goes_on_word bytes after → GoesO
 run_goes [] after run = tt
 run_goes (b ∷ bytes) after run = (run.0, run_goes bytes after run.1)
 
-piece_word : (s : Shape) (bytes after : List ℕ) (more : List Lexed) → Stands s bytes after → Each IsWord (flat_map word_lexed more) → Each IsWord (flat_map word_lexed (lexed_at s bytes ++ more))
+piece_word : (s : Shape) (bytes after : List ℕ) (more : List Lexed) → Stands s bytes after
+    → Each IsWord (flat_map word_lexed more) → Each IsWord (flat_map word_lexed (lexed_at s bytes ++ more))
 piece_word (shape.Lexeme kind.Word) [] after more stands rest = absurd stands
-piece_word (shape.Lexeme kind.Word) (b ∷ bytes) after more stands rest = ((stands.0, run_goes bytes after stands.1), rest)
+piece_word (shape.Lexeme kind.Word) (b ∷ bytes) after more stands rest =
+    ((stands.0, run_goes bytes after stands.1), rest)
 piece_word (shape.Lexeme kind.Digits) bytes after more stands rest = rest
 piece_word (shape.Lexeme kind.Sign) bytes after more stands rest = rest
 piece_word (shape.Lexeme kind.LineEnd) bytes after more stands rest = rest
 piece_word shape.Gap bytes after more stands rest = rest
 piece_word shape.Comment bytes after more stands rest = rest
 
-pieces_word : (text : List ℕ) (pieces : List Piece) (rest : List ℕ) → IsPlace text pieces rest → Each IsWord (flat_map word_lexed (lexed_of pieces))
+pieces_word : (text : List ℕ) (pieces : List Piece) (rest : List ℕ) → IsPlace text pieces rest
+    → Each IsWord (flat_map word_lexed (lexed_of pieces))
 pieces_word text [] rest place = tt
-pieces_word text (p ∷ pieces) rest place = piece_word p.shape p.bytes place.0 (lexed_of pieces) place.2 (pieces_word place.0 pieces rest place.3)
+pieces_word text (p ∷ pieces) rest place =
+    piece_word p.shape p.bytes place.0 (lexed_of pieces) place.2 (pieces_word place.0 pieces rest place.3)
 
 pub tokens_word : (text : List ℕ) (tokens : List Token) → AreTokens text tokens → Each IsWord (words_of text tokens)
 tokens_word text tokens are =
     words_words (flat_map (word_in text) tokens) [] tt
     (subst (λ (ts : List Token). Each IsWord (flat_map (word_in text) ts)) are.tokens
     (subst (Each IsWord) (lexed_words text (tokens_of start are.pieces))
-    (subst (λ (l : List Lexed). Each IsWord (flat_map word_lexed l)) (sym (slices text are.pieces are.whole)) (pieces_word text are.pieces [] are.whole))))
+    (subst (λ (l : List Lexed). Each IsWord (flat_map word_lexed l)) (sym (slices text are.pieces are.whole))
+    (pieces_word text are.pieces [] are.whole))))

@@ -30,7 +30,8 @@ number_below p v ys None h = omega arith
 room_small : (S p k : ℕ) → S ≤ 8 → p ≤ 96 → k ≤ p → S * p + k < 2 ^ 32
 room_small S p k some few small = let h : S * p ≤ 8 * 96 = mul-le-mul some few in omega (arith, h)
 
-pub has_room : (limit : ℕ) (text : List ℕ) (words : List (List ℕ)) (list : List Statement) (scope : Scope) → Reads limit text words list (earlier_of scope) → HasRoomForAll scope
+pub has_room : (limit : ℕ) (text : List ℕ) (words : List (List ℕ)) (list : List Statement) (scope : Scope)
+    → Reads limit text words list (earlier_of scope) → HasRoomForAll scope
 has_room limit text words list scope read =
     let begin = start (length words) in
     let e = earlier_of scope in
@@ -42,12 +43,14 @@ has_room limit text words list scope read =
     record {
       count = omega (arith, w.parameters, more);
       room = λ over name.
-          room_small (set_at e.sorts over) e.sizes.parameters _ (omega (arith, w.sets, set_there e.sorts e.sizes.sets numbered over)) (omega (arith, w.parameters, more))
+          room_small (set_at e.sorts over) e.sizes.parameters _
+          (omega (arith, w.sets, set_there e.sorts e.sizes.sets numbered over)) (omega (arith, w.parameters, more))
           (number_below e.sizes.parameters e.sizes.variables _ _ (all.1 name));
     }
 
 -- the written parameters are counted
-pub written_count_is : (limit : ℕ) (text : List ℕ) (words : List (List ℕ)) (list : List Statement) (scope : Scope) → Reads limit text words list (earlier_of scope)
+pub written_count_is : (limit : ℕ) (text : List ℕ) (words : List (List ℕ)) (list : List Statement) (scope : Scope)
+    → Reads limit text words list (earlier_of scope)
     → scope.sizes.parameters ≡ length (flat_map (parameters words) list)
 written_count_is limit text words list scope read =
     let e = earlier_of scope in

@@ -19,11 +19,13 @@ use Rattle.rob_parse.proofs.Names.SortLemmas.{set_cases}
 abbrev pub AreCounted : Earlier → Type 0
 AreCounted e = (k : ℕ) → set_number (sort_at e.sorts k) ≤ e.sizes.sets
 
-one_more : (sorts : List (Option Sort)) (i : ℕ) (v : Sort) (n : ℕ) → ((k : ℕ) → set_number (sort_at sorts k) ≤ n) → set_number (Some v) ≤ n
+one_more : (sorts : List (Option Sort)) (i : ℕ) (v : Sort) (n : ℕ) → ((k : ℕ) → set_number (sort_at sorts k) ≤ n)
+    → set_number (Some v) ≤ n
     → (k : ℕ) → set_number (sort_at (set sorts i (Some v)) k) ≤ n
 one_more sorts i v n all new k = either (set_cases sorts i k v)
   where
-    either : (sort_at (set sorts i (Some v)) k ≡ Some v) ⊎ (sort_at (set sorts i (Some v)) k ≡ sort_at sorts k) → set_number (sort_at (set sorts i (Some v)) k) ≤ n
+    either : (sort_at (set sorts i (Some v)) k ≡ Some v) ⊎ (sort_at (set sorts i (Some v)) k ≡ sort_at sorts k)
+        → set_number (sort_at (set sorts i (Some v)) k) ≤ n
     either (inl h) = subst (λ (o : Option Sort). set_number o ≤ n) (sym h) new
     either (inr h) = subst (λ (o : Option Sort). set_number o ≤ n) (sym h) (all k)
 
@@ -76,10 +78,14 @@ module _ (sorts : List (Option Sort)) (n : ℕ) (all : (k : ℕ) → set_number 
   all_units (s ∷ list) = (tt, all_units list)
 
   pub lines_there : (list : List Statement) → Each (λ S. S < suc n) (flat_map (line_sets sorts) list)
-  lines_there list = each_flat (λ S. S < suc n) (line_sets sorts) (λ (s : Statement). Unit {0}) (λ s h. lines_of_one s) list (all_units list)
+  lines_there list =
+      each_flat (λ S. S < suc n) (line_sets sorts) (λ (s : Statement). Unit {0}) (λ s h. lines_of_one s) list
+      (all_units list)
 
   pub rows_there : (list : List Statement) → Each (λ S. S < suc n) (flat_map (row_sets sorts) list)
-  rows_there list = each_flat (λ S. S < suc n) (row_sets sorts) (λ (s : Statement). Unit {0}) (λ s h. rows_of_one s) list (all_units list)
+  rows_there list =
+      each_flat (λ S. S < suc n) (row_sets sorts) (λ (s : Statement). Unit {0}) (λ s h. rows_of_one s) list
+      (all_units list)
 
   pub objective_there : (goal : Option Goal) → objective_set sorts goal < suc n
   objective_there None = omega arith
@@ -87,7 +93,8 @@ module _ (sorts : List (Option Sort)) (n : ℕ) (all : (k : ℕ) → set_number 
 
 -- ---- each statement on a set and each row has a set beside it
 module _ (words : List (List ℕ)) (sorts : List (Option Sort)) where
-  pub lines_beside : (list : List Statement) → length (flat_map (line_sets sorts) list) ≡ length (flat_map (set_lines sorts) list)
+  pub lines_beside : (list : List Statement)
+      → length (flat_map (line_sets sorts) list) ≡ length (flat_map (set_lines sorts) list)
   lines_beside [] = refl
   lines_beside (parsed.Set r ∷ list) = ap suc (lines_beside list)
   lines_beside (parsed.Budget b ∷ list) = ap suc (lines_beside list)
@@ -98,7 +105,8 @@ module _ (words : List (List ℕ)) (sorts : List (Option Sort)) where
   lines_beside (parsed.Goal g ∷ list) = lines_beside list
   lines_beside (parsed.Row r ∷ list) = lines_beside list
 
-  pub rows_beside : (list : List Statement) → length (flat_map (row_sets sorts) list) ≡ length (flat_map (rows words sorts) list)
+  pub rows_beside : (list : List Statement)
+      → length (flat_map (row_sets sorts) list) ≡ length (flat_map (rows words sorts) list)
   rows_beside [] = refl
   rows_beside (parsed.Row r ∷ list) = ap suc (rows_beside list)
   rows_beside (parsed.Set r ∷ list) = rows_beside list

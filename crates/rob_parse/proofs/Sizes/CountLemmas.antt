@@ -32,25 +32,138 @@ module _ (words : List (List ℕ)) (sorts : List (Option Sort)) where
     pub sets_are : after.sets ≡ length (flat_map (sets words) list) + before.sets
     pub variables_are : after.variables ≡ length (flat_map (variables words) list) + before.variables
     pub adaptives_are : after.adaptives ≡ length (flat_map (adaptives words sorts) list) + before.adaptives
-    pub columns_are : after.columns + before.variables ≡ (after.variables + rule_columns (flat_map (adaptives words sorts) list)) + before.columns
+    pub columns_are : after.columns + before.variables
+        ≡ (after.variables + rule_columns (flat_map (adaptives words sorts) list)) + before.columns
     pub rows_are : after.rows ≡ length (flat_map (rows words sorts) list) + before.rows
     pub set_lines_are : after.set_lines ≡ length (flat_map (set_lines sorts) list) + before.set_lines
     pub members_are : after.members ≡ lift_count (flat_map (set_lines sorts) list) + before.members
 
   pub counts_none : (s : Sizes) → Counts [] s s
   unfolding rule_columns
-  counts_none s = record { parameters_are = omega arith; sets_are = omega arith; variables_are = omega arith; adaptives_are = omega arith; columns_are = omega arith; rows_are = omega arith; set_lines_are = omega arith; members_are = omega arith }
+  counts_none s =
+      record {
+        parameters_are = omega arith;
+        sets_are = omega arith;
+        variables_are = omega arith;
+        adaptives_are =
+            omega arith;
+        columns_are = omega arith;
+        rows_are = omega arith;
+        set_lines_are = omega arith;
+        members_are =
+            omega arith;
+      }
 
-  pub counts_more : (st : Statement) (list : List Statement) (s t : Sizes) → Counts list (counted s st) t → Counts (st ∷ list) s t
+  pub counts_more : (st : Statement) (list : List Statement) (s t : Sizes) → Counts list (counted s st) t
+      → Counts (st ∷ list) s t
   unfolding rule_columns
-  counts_more (Uncertain d) list s t c = record { parameters_are = omega (arith, c.parameters_are); sets_are = c.sets_are; variables_are = c.variables_are; adaptives_are = c.adaptives_are; columns_are = c.columns_are; rows_are = c.rows_are; set_lines_are = c.set_lines_are; members_are = c.members_are }
-  counts_more (Var d) list s t c = record { parameters_are = c.parameters_are; sets_are = c.sets_are; variables_are = omega (arith, c.variables_are); adaptives_are = c.adaptives_are; columns_are = omega (arith, c.columns_are); rows_are = c.rows_are; set_lines_are = c.set_lines_are; members_are = c.members_are }
-  counts_more (Adaptive p) list s t c = record { parameters_are = c.parameters_are; sets_are = c.sets_are; variables_are = c.variables_are; adaptives_are = omega (arith, c.adaptives_are); columns_are = omega (arith, c.columns_are, length-map p.on (parameter_at sorts)); rows_are = c.rows_are; set_lines_are = c.set_lines_are; members_are = c.members_are }
-  counts_more (Set r) list s t c = record { parameters_are = c.parameters_are; sets_are = c.sets_are; variables_are = c.variables_are; adaptives_are = c.adaptives_are; columns_are = c.columns_are; rows_are = c.rows_are; set_lines_are = omega (arith, c.set_lines_are); members_are = c.members_are }
-  counts_more (Budget b) list s t c = record { parameters_are = c.parameters_are; sets_are = c.sets_are; variables_are = c.variables_are; adaptives_are = c.adaptives_are; columns_are = c.columns_are; rows_are = c.rows_are; set_lines_are = omega (arith, c.set_lines_are); members_are = omega (arith, c.members_are, length-map b.members (member sorts)) }
-  counts_more (Row r) list s t c = record { parameters_are = c.parameters_are; sets_are = c.sets_are; variables_are = c.variables_are; adaptives_are = c.adaptives_are; columns_are = c.columns_are; rows_are = omega (arith, c.rows_are); set_lines_are = c.set_lines_are; members_are = c.members_are }
-  counts_more (Over k) list s t c = record { parameters_are = c.parameters_are; sets_are = omega (arith, c.sets_are); variables_are = c.variables_are; adaptives_are = c.adaptives_are; columns_are = c.columns_are; rows_are = c.rows_are; set_lines_are = c.set_lines_are; members_are = c.members_are }
-  counts_more (Goal g) list s t c = record { parameters_are = c.parameters_are; sets_are = c.sets_are; variables_are = c.variables_are; adaptives_are = c.adaptives_are; columns_are = c.columns_are; rows_are = c.rows_are; set_lines_are = c.set_lines_are; members_are = c.members_are }
+  counts_more (Uncertain d) list s t c =
+      record {
+        parameters_are = omega (arith, c.parameters_are);
+        sets_are = c.sets_are;
+        variables_are =
+            c.variables_are;
+        adaptives_are = c.adaptives_are;
+        columns_are = c.columns_are;
+        rows_are =
+            c.rows_are;
+        set_lines_are = c.set_lines_are;
+        members_are = c.members_are;
+      }
+  counts_more (Var d) list s t c =
+      record {
+        parameters_are = c.parameters_are;
+        sets_are = c.sets_are;
+        variables_are =
+            omega (arith, c.variables_are);
+        adaptives_are = c.adaptives_are;
+        columns_are =
+            omega (arith, c.columns_are);
+        rows_are = c.rows_are;
+        set_lines_are = c.set_lines_are;
+        members_are =
+            c.members_are;
+      }
+  counts_more (Adaptive p) list s t c =
+      record {
+        parameters_are = c.parameters_are;
+        sets_are = c.sets_are;
+        variables_are =
+            c.variables_are;
+        adaptives_are = omega (arith, c.adaptives_are);
+        columns_are =
+            omega (arith, c.columns_are, length-map p.on (parameter_at sorts));
+        rows_are = c.rows_are;
+        set_lines_are =
+            c.set_lines_are;
+        members_are = c.members_are;
+      }
+  counts_more (Set r) list s t c =
+      record {
+        parameters_are = c.parameters_are;
+        sets_are = c.sets_are;
+        variables_are =
+            c.variables_are;
+        adaptives_are = c.adaptives_are;
+        columns_are = c.columns_are;
+        rows_are =
+            c.rows_are;
+        set_lines_are = omega (arith, c.set_lines_are);
+        members_are = c.members_are;
+      }
+  counts_more (Budget b) list s t c =
+      record {
+        parameters_are = c.parameters_are;
+        sets_are = c.sets_are;
+        variables_are =
+            c.variables_are;
+        adaptives_are = c.adaptives_are;
+        columns_are = c.columns_are;
+        rows_are =
+            c.rows_are;
+        set_lines_are = omega (arith, c.set_lines_are);
+        members_are =
+            omega (arith, c.members_are, length-map b.members (member sorts));
+      }
+  counts_more (Row r) list s t c =
+      record {
+        parameters_are = c.parameters_are;
+        sets_are = c.sets_are;
+        variables_are =
+            c.variables_are;
+        adaptives_are = c.adaptives_are;
+        columns_are = c.columns_are;
+        rows_are =
+            omega (arith, c.rows_are);
+        set_lines_are = c.set_lines_are;
+        members_are = c.members_are;
+      }
+  counts_more (Over k) list s t c =
+      record {
+        parameters_are = c.parameters_are;
+        sets_are = omega (arith, c.sets_are);
+        variables_are =
+            c.variables_are;
+        adaptives_are = c.adaptives_are;
+        columns_are = c.columns_are;
+        rows_are =
+            c.rows_are;
+        set_lines_are = c.set_lines_are;
+        members_are = c.members_are;
+      }
+  counts_more (Goal g) list s t c =
+      record {
+        parameters_are = c.parameters_are;
+        sets_are = c.sets_are;
+        variables_are =
+            c.variables_are;
+        adaptives_are = c.adaptives_are;
+        columns_are = c.columns_are;
+        rows_are =
+            c.rows_are;
+        set_lines_are = c.set_lines_are;
+        members_are = c.members_are;
+      }
 
   pub counts : (limit : ℕ) (e : Earlier) (list : List Statement) (f : Earlier) → Chain limit words e list f
       → Counts list e.sizes f.sizes

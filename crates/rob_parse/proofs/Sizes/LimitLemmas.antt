@@ -48,13 +48,15 @@ module _ (w : RobustModel) (names : List (List ℕ)) (of_lines : List ℕ) (of_o
 
   forms_are : s.forms ≡ length (forms m)
   forms_are =
-      ap (λ (n : ℕ). 1 + ((variable_bounds w.variables + adaptive_bounds w.adaptives) + n)) (sym (rows_taken p w.rows of_rows))
+      ap (λ (n : ℕ). 1 + ((variable_bounds w.variables + adaptive_bounds w.adaptives) + n))
+      (sym (rows_taken p w.rows of_rows))
       ∙ sym (length-forms m)
 
   set_rows_are : s.bounds * (s.sets + 1) + s.set_rows ≡ length (set_rows m)
   set_rows_are =
       (λ i. (each_set (parameter_bounds w.parameters) (length names) ∙ sym (bounds-joint w.parameters names)) i
-      + (let e : 0 + line_rows w.set_lines ≡ line_rows m.set_lines = omega (arith, lines_taken p w.set_lines of_lines) in e) i)
+      + (let e : 0 + line_rows w.set_lines ≡ line_rows m.set_lines =
+      omega (arith, lines_taken p w.set_lines of_lines) in e) i)
       ∙ sym (length-set_rows m)
 
   pub in_sets_sizes : AreSizesOf m s

@@ -186,7 +186,8 @@ bounds-copies : (ps : List model.Parameter) (names : List (List ℕ))
 bounds-copies ps [] = sym (zero-mul (parameter_bounds ps))
 bounds-copies ps (name ∷ names) =
     bounds-append (map (in_set name) ps) (flat_map (λ name. map (in_set name) ps) names)
-    ∙ (let e : parameter_bounds (map (in_set name) ps) + parameter_bounds (flat_map (λ name. map (in_set name) ps) names)
+    ∙ (let e : parameter_bounds (map (in_set name) ps) + parameter_bounds
+    (flat_map (λ name. map (in_set name) ps) names)
     ≡ suc (length names) * parameter_bounds ps
     = omega (arith, bounds-in_set name ps, bounds-copies ps names, suc-mul (length names) (parameter_bounds ps)) in e)
 

@@ -52,7 +52,8 @@ inequalities_are rel.Equal = refl
 
 -- ---- the sizes of statements are those of their model
 -- the counts one by one, in their order
-same_sizes : (s t : Sizes) → s.parameters ≡ t.parameters → s.bounds ≡ t.bounds → s.sets ≡ t.sets → s.variables ≡ t.variables → s.adaptives ≡ t.adaptives → s.columns ≡ t.columns → s.rows ≡ t.rows
+same_sizes : (s t : Sizes) → s.parameters ≡ t.parameters → s.bounds ≡ t.bounds → s.sets ≡ t.sets
+    → s.variables ≡ t.variables → s.adaptives ≡ t.adaptives → s.columns ≡ t.columns → s.rows ≡ t.rows
     → s.set_lines ≡ t.set_lines → s.members ≡ t.members → s.forms ≡ t.forms → s.set_rows ≡ t.set_rows → s ≡ t
 same_sizes s t parameters bounds sets variables adaptives columns rows set_lines members forms set_rows = λ i. record {
   parameters = parameters i;
@@ -72,33 +73,48 @@ module _ (words : List (List ℕ)) (sorts : List (Option Sort)) where
   added_none : (s : Sizes) → s ≡ added s 0 (written_of words sorts [])
   unfolding rule_columns
   added_none s =
-      same_sizes _ _ (omega arith) (omega arith) (omega arith) (omega arith) (omega arith) (omega arith) (omega arith) (omega arith) (omega arith) (omega arith) (omega arith)
+      same_sizes _ _ (omega arith) (omega arith) (omega arith) (omega arith) (omega arith) (omega arith) (omega arith)
+      (omega arith) (omega arith) (omega arith) (omega arith)
 
   -- how many sets a statement and those behind it declare
   abbrev named : List Statement → ℕ
   named list = length (flat_map (sets words) list)
 
   -- to count a statement first is to count it with the model
-  added_more : (s : Sizes) (st : Statement) (list : List Statement) → added (counted s st) (named list) (written_of words sorts list) ≡ added s (named (st ∷ list)) (written_of words sorts (st ∷ list))
+  added_more : (s : Sizes) (st : Statement) (list : List Statement)
+      → added (counted s st) (named list) (written_of words sorts list) ≡ added s (named (st ∷ list))
+      (written_of words sorts (st ∷ list))
   unfolding rule_columns
-  added_more s (Uncertain d) list = same_sizes _ _ (omega arith) (omega (arith, some_bounds_are d.bounds)) refl refl refl refl refl refl refl refl refl
+  added_more s (Uncertain d) list =
+      same_sizes _ _ (omega arith) (omega (arith, some_bounds_are d.bounds)) refl refl refl refl refl refl refl refl
+      refl
   added_more s (Over k) list = same_sizes _ _ refl refl (omega arith) refl refl refl refl refl refl refl refl
-  added_more s (Var d) list = same_sizes _ _ refl refl refl (omega arith) refl (omega arith) refl refl refl (omega (arith, some_bounds_are d.bounds)) refl
+  added_more s (Var d) list =
+      same_sizes _ _ refl refl refl (omega arith) refl (omega arith) refl refl refl
+      (omega (arith, some_bounds_are d.bounds)) refl
   added_more s (Adaptive p) list =
-      same_sizes _ _ refl refl refl refl (omega arith) (omega (arith, length-map p.on (parameter_at sorts))) refl refl refl (omega (arith, some_bounds_are p.bounds)) refl
-  added_more s (Set r) list = same_sizes _ _ refl refl refl refl refl refl refl (omega arith) refl refl (omega (arith, inequalities_are r.rel))
+      same_sizes _ _ refl refl refl refl (omega arith) (omega (arith, length-map p.on (parameter_at sorts))) refl refl
+      refl (omega (arith, some_bounds_are p.bounds)) refl
+  added_more s (Set r) list =
+      same_sizes _ _ refl refl refl refl refl refl refl (omega arith) refl refl (omega (arith, inequalities_are r.rel))
   added_more s (Budget b) list =
       let members = length-map b.members (member sorts) in
-      same_sizes _ _ refl refl refl refl refl refl refl (omega arith) (omega (arith, members)) refl (omega (arith, members))
-  added_more s (Row r) list = same_sizes _ _ refl refl refl refl refl refl (omega arith) refl refl (omega (arith, inequalities_are r.relation.rel)) refl
+      same_sizes _ _ refl refl refl refl refl refl refl (omega arith) (omega (arith, members)) refl
+      (omega (arith, members))
+  added_more s (Row r) list =
+      same_sizes _ _ refl refl refl refl refl refl (omega arith) refl refl
+      (omega (arith, inequalities_are r.relation.rel)) refl
   added_more s (Goal g) list = refl
 
-  sizes_from : (s : Sizes) (list : List Statement) → fold counted s list ≡ added s (named list) (written_of words sorts list)
+  sizes_from : (s : Sizes) (list : List Statement)
+      → fold counted s list ≡ added s (named list) (written_of words sorts list)
   sizes_from s [] = added_none s
   sizes_from s (st ∷ list) = sizes_from (counted s st) list ∙ added_more s st list
 
   -- the sizes behind some statements are those of what they write
-  pub sizes_are : (list : List Statement) → fold counted start_sizes list ≡ added start_sizes (length (flat_map (sets words) list)) (written_of words sorts list)
+  pub sizes_are : (list : List Statement)
+      → fold counted start_sizes list ≡ added start_sizes (length (flat_map (sets words) list))
+      (written_of words sorts list)
   sizes_are list = sizes_from start_sizes list
 
 passes : (a b : ℕ) → a ≤ b → nat_le a b ≡ true
@@ -106,8 +122,10 @@ passes a b h = grind (arith, nat_tests)
 
 pub within_again : (s : Sizes) → Within s → is_within s ≡ true
 within_again s w = λ i.
-    passes s.sets most_sets w.sets i && passes (joint_count s) most_parameters w.parameters i && passes s.columns most_columns w.columns i && passes s.rows most_rows w.rows i
-    && passes s.set_lines most_set_lines w.set_lines i && passes s.members most_members w.members i && passes (size s) most_size w.whole i
+    passes s.sets most_sets w.sets i && passes (joint_count s) most_parameters w.parameters i && passes s.columns
+    most_columns w.columns i && passes s.rows most_rows w.rows i
+    && passes s.set_lines most_set_lines w.set_lines i && passes s.members most_members w.members i && passes (size s)
+    most_size w.whole i
 
 -- ---- the sizes that are known behind some statements
 pub sizes_behind : (limit : ℕ) (words : List (List ℕ)) (e : Earlier) (list : List Statement) (f : Earlier)

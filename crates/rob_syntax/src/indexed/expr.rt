@@ -167,7 +167,8 @@ fn boxed(alloc: Global, tree: Tree) -> Result<Box<Tree>, Memory>
 
 /// Whether a term with these symbols behind it is a whole expression.
 fn is_one_term(minus: bool, symbols: &[Symbol]) -> bool
-    ensures one_term { MatchBool result ((minus ≡ false) × BeginsNone sign_of (seen_line symbols.now))
+    ensures one_term { MatchBool result ((minus ≡ false)
+        × BeginsNone sign_of (seen_line symbols.now))
         (minus ≡ false → BeginsNone sign_of (seen_line symbols.now) → ⊥) }
 {
     if minus {

@@ -51,7 +51,8 @@ fn are_few_sides(sides: &Sides) -> bool
 
 /// So of the name of each member.
 fn are_few_members(members: &[Ranged<Share>]) -> bool
-    ensures few { result ≡ spec.are_few_items (λ m. m.name) (map (seen_ranged seen_share) members.now) }
+    ensures few { result ≡ spec.are_few_items (λ m. m.name)
+        (map (seen_ranged seen_share) members.now) }
 {
     for member in members {
         if !has_few(&member.item.name) {

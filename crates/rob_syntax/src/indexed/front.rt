@@ -22,7 +22,8 @@ pub fn behind_mark(symbols: &[Symbol], mark: Mark) -> Option<&[Symbol]>
 
 /// The symbols behind the keyword, if it is the first.
 pub fn behind_word(symbols: &[Symbol], keyword: Keyword) -> Option<&[Symbol]>
-    ensures read { MatchOption result (BeginsNot (word (seen_keyword keyword)) (seen_line symbols.now))
+    ensures read { MatchOption result (BeginsNot (word (seen_keyword keyword))
+        (seen_line symbols.now))
         (λ rest. seen_line symbols.now ≡ word (seen_keyword keyword) ∷ seen_line rest.now) }
 {
     match symbol::behind_word(symbols, keyword) {

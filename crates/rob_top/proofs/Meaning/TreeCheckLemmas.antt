@@ -164,7 +164,13 @@ module _ (limit : ℕ) (m : RobustModel) where
   nameless_answers wides names text (Err want) none said = tt
   nameless_answers wides names text (Ok reply) none said = λ call line at given.
       subst (λ (ended : Ended). Means call ended reply.text) (sym said.0)
-      (record { line = line; m = m; breaks = no_variables (parts_of names) given.0 given.1 none refl; printed = said.1 })
+      (record {
+        line = line;
+        m = m;
+        breaks = no_variables (parts_of names) given.0 given.1 none refl;
+        printed =
+            said.1;
+      })
 
   -- ---- the command is `checktree`, so a list of names and the file of a tree came
   own_kind : (verb : Verb) (kind : Own) → verb ≡ CheckTree → has_kind kind (own_of CheckTree) ≡ true

@@ -12,7 +12,8 @@ invariant-loop-spot l = record {
   words :
       fold add_name (texts l.words.keys)
       (flat_map (λ (s : Spot). line_names (texts l.own.keys) l.line s.values) (drop l.spot-index l.spots))
-      ≡ fold add_name (texts l.fn.words.keys) (flat_map (λ (s : Spot). line_names (texts l.own.keys) l.line s.values) l.spots);
+      ≡ fold add_name (texts l.fn.words.keys)
+      (flat_map (λ (s : Spot). line_names (texts l.own.keys) l.line s.values) l.spots);
   long :
       (l.long || list_any is_long_name
       (flat_map (λ (s : Spot). line_names (texts l.own.keys) l.line s.values) (drop l.spot-index l.spots)))

@@ -32,7 +32,8 @@ loop-spot-preserved c =
     in
     made_more (λ (s : Spot). f s ∷ []) c.loop-spot.list _ _ _ c.spot-item.result step
     (c.in_ok-push.ensures.appended
-    ∙ ap (λ (s : Statement). c.loop-spot.list ++ s ∷ []) (c.in_ok-plain.ensures.made ∙ ap g c.items-values.ensures.list))
+    ∙ ap (λ (s : Statement). c.loop-spot.list ++ s ∷ [])
+    (c.in_ok-plain.ensures.made ∙ ap g c.items-values.ensures.list))
     c.loop-spot.invariant
 
 pub returns : goal.returns

@@ -10,7 +10,9 @@ pub loop-k-preserved : goal.loop-k-preserved
 loop-k-preserved c =
     let own = texts c.args.own.now.keys in
     let words = texts c.args.words.now.keys in
-    let step = place_apart c.args.items.now c.args.kept.now c.loop-k.k-index (get_or c.args.kept.now c.loop-k.k-index 0) c.one_at.result.now
+    let step =
+    place_apart c.args.items.now c.args.kept.now c.loop-k.k-index (get_or c.args.kept.now c.loop-k.k-index 0)
+    c.one_at.result.now
     c.loop-k-test.true refl c.one_at.ensures.one in
     let old = picks c.args.items.now (drop c.loop-k.k-index c.args.kept.now) in
     let rest = picks c.args.items.now (drop (c.loop-k.k-index + 1) c.args.kept.now) in

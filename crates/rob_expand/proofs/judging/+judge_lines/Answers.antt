@@ -58,7 +58,8 @@ returns-in-len1 t c =
     let one : length c.args.settings.now ≡ 1 = omega (arith, c.in-len1.len_at_least, c.in-len1.len_below) in
     record {
       found =
-          found_if_only f c.args.settings.now c.setting-item.result c.items.result.now one c.setting-item.is c.judge_line.result
+          found_if_only f c.args.settings.now c.setting-item.result c.items.result.now one c.setting-item.is
+          c.judge_line.result
           c.items.ensures.list c.judge_line.ensures.found;
     }
 

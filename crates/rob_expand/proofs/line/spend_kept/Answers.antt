@@ -11,7 +11,8 @@ pub loop-k-preserved : goal.loop-k-preserved
 loop-k-preserved c =
     ap (λ (b : Bool). items_left b (picks c.args.items.now (drop (c.loop-k.k-index + 1) c.args.kept.now))
     c.args.values.now c.in_ok-behind.behind) c.both-first.ensures.both
-    ∙ place_more c.args.items.now c.args.kept.now c.loop-k.k-index (get_or c.args.kept.now c.loop-k.k-index 0) c.args.values.now c.loop-k.first
+    ∙ place_more c.args.items.now c.args.kept.now c.loop-k.k-index (get_or c.args.kept.now c.loop-k.k-index 0)
+    c.args.values.now c.loop-k.first
     c.loop-k.left c.loop-k-test.true refl c.one_at.result.now c.one_at.ensures.one c.in_ok-behind.behind
     c.in_ok-behind.ensures.left c.loop-k.invariant
 
@@ -23,7 +24,8 @@ returns-in_err-behind c = record {
       (items_left c.loop-k.first c.one_at.result.now c.args.values.now c.loop-k.left)
       (items_left true (picks c.args.items.now c.args.kept.now) c.args.values.now c.args.room)
       c.in_err-behind.field-0.0 p.0 p.1 p.2
-      (λ none. place_stop c.args.items.now c.args.kept.now c.loop-k.k-index (get_or c.args.kept.now c.loop-k.k-index 0) c.args.values.now
+      (λ none. place_stop c.args.items.now c.args.kept.now c.loop-k.k-index (get_or c.args.kept.now c.loop-k.k-index 0)
+      c.args.values.now
       c.loop-k.first c.loop-k.left c.loop-k-test.true refl c.one_at.result.now c.one_at.ensures.one
       c.loop-k.invariant none)
       c.in_err-behind.ensures.left;

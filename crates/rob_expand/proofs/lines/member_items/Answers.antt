@@ -16,7 +16,8 @@ loop-member-preserved c =
     let name =
     c.in_ok-name.ensures.named ∙ ap (λ (ns : List ℕ). placed_name ns (seen_ref x.item.name)) names in
     let ends =
-    c.in_ok-ranges.ensures.ranges ∙ c.in_ok-nest.ensures.ends ∙ ap (λ (rs : List Range). nest_of [] (seen_ranges rs)) c.items.ensures.list in
+    c.in_ok-ranges.ensures.ranges ∙ c.in_ok-nest.ensures.ends
+    ∙ ap (λ (rs : List Range). nest_of [] (seen_ranges rs)) c.items.ensures.list in
     let centre = c.signed_tokens-centre.ensures.tokens in
     let deviation = c.number_tokens-deviation.ensures.tokens in
     listed_more (member_item c.args.limit []) (seen_ranged seen_share) c.loop-member.made _ c.args.members.now

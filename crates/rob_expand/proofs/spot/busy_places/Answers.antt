@@ -8,7 +8,8 @@ use Rattle.rob_expand.proofs.spot.busy_places.Goals as goal
 pub loop-k-preserved : goal.loop-k-preserved
 loop-k-preserved c vs within =
     let here = c.loop-k in
-    kept_more c.args.short c.args.items.now here.places _ c.args.kept.now here.k-index (get_or c.args.kept.now c.loop-k.k-index 0) c.are_idle-idle.result vs
+    kept_more c.args.short c.args.items.now here.places _ c.args.kept.now here.k-index
+    (get_or c.args.kept.now c.loop-k.k-index 0) c.are_idle-idle.result vs
     c.loop-k-test.true refl
     (λ idle. ap (λ (l : List Item). busy c.args.short l vs) (sym c.one_at.ensures.one)
     ∙ c.are_idle-idle.ensures.idle idle vs within)

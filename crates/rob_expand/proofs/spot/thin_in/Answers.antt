@@ -5,13 +5,15 @@ use Rattle.rob_expand.proofs.spot.thin_in.Goals as goal
 pub returns-in-None : goal.returns-in-None
 returns-in-None c = record {
   thin =
-      thin_if_same c.args.short c.args.items.now c.args.kept.now c.args.settings.now c.copied.result c.copied.ensures.names
+      thin_if_same c.args.short c.args.items.now c.args.kept.now c.args.settings.now c.copied.result
+      c.copied.ensures.names
       c.requires.kept;
 }
 
 pub returns-in-Some : goal.returns-in-Some
 returns-in-Some c = record {
   thin =
-      thin_if_busy c.args.short c.args.items.now c.args.kept.now c.args.settings.now (IsIn c.in-Some.span) c.busy_places.result
+      thin_if_busy c.args.short c.args.items.now c.args.kept.now c.args.settings.now (IsIn c.in-Some.span)
+      c.busy_places.result
       c.busy_places.ensures.busy c.in-Some.ensures.span c.requires.kept;
 }

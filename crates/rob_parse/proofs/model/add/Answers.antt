@@ -24,5 +24,6 @@ returns-in_ok-push-in-Row-clause-added g c =
     c.as_slice-in-Row.result.now c.as_slice-in-Row.ensures.value
     c.place_of-place-in-Row.result c.place_of-place-in-Row.ensures.place
     _ c.in_ok-row_def-in-Row.ensures.read
-    _ (ap (map (row_of g.N.Exact.value)) c.in_ok-push-in-Row.ensures.appended ∙ map-append (row_of g.N.Exact.value) c.args.model.now.rows (c.in_ok-row_def-in-Row.field-0 ∷ [])) _)
+    _ (ap (map (row_of g.N.Exact.value)) c.in_ok-push-in-Row.ensures.appended
+    ∙ map-append (row_of g.N.Exact.value) c.args.model.now.rows (c.in_ok-row_def-in-Row.field-0 ∷ [])) _)
     c.push-in-Row-2.ensures.appended

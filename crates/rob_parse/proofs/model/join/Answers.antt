@@ -26,9 +26,16 @@ loop-set-preserved g c =
     let base = map view c.args.params.now in
     record {
       count = c.loop-set.invariant.count;
-      long = longer view c.args.params.now c.loop-set.params c.join_set.new.params _ c.loop-set.invariant.long c.in_ok-join_set.ensures.joint;
-      front = front_stays view base c.loop-set.params _ _ (omega (arith, c.loop-set.invariant.count, c.loop-set.invariant.long)) c.loop-set.invariant.front c.in_ok-join_set.ensures.joint;
-      so_far = sets_step in_set base c.args.sets.now _ now _ c.loop-set.set-index c.set-item.result c.loop-set-test.true c.set-item.is c.loop-set.invariant.front c.in_ok-join_set.ensures.joint
+      long =
+          longer view c.args.params.now c.loop-set.params c.join_set.new.params _ c.loop-set.invariant.long
+          c.in_ok-join_set.ensures.joint;
+      front =
+          front_stays view base c.loop-set.params _ _
+          (omega (arith, c.loop-set.invariant.count, c.loop-set.invariant.long)) c.loop-set.invariant.front
+          c.in_ok-join_set.ensures.joint;
+      so_far =
+          sets_step in_set base c.args.sets.now _ now _ c.loop-set.set-index c.set-item.result c.loop-set-test.true
+          c.set-item.is c.loop-set.invariant.front c.in_ok-join_set.ensures.joint
           c.loop-set.invariant.so_far;
     }
 
@@ -37,5 +44,6 @@ returns g c =
     record {
       joint =
           let view = parameter_of g.N.Exact.value in
-          sets_end in_set (map view c.args.params.now) c.args.sets.now _ (map view c.loop-set.params) c.loop-set.set-index c.loop-set-test.false c.loop-set.invariant.so_far;
+          sets_end in_set (map view c.args.params.now) c.args.sets.now _ (map view c.loop-set.params)
+          c.loop-set.set-index c.loop-set-test.false c.loop-set.invariant.so_far;
     }

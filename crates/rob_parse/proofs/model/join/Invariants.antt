@@ -9,6 +9,9 @@ invariant-loop-set g l =
     record {
       count : l.count ≡ length l.fn.params;
       long : length l.fn.params ≤ length l.params;
-      front : take l.count (map (parameter_of g.N.Exact.value) l.params) ≡ map (parameter_of g.N.Exact.value) l.fn.params;
-      so_far : map (parameter_of g.N.Exact.value) l.params ++ copies in_set (map (parameter_of g.N.Exact.value) l.fn.params) (drop l.set-index l.sets) ≡ joint_parameters (map (parameter_of g.N.Exact.value) l.fn.params) l.sets;
+      front : take l.count (map (parameter_of g.N.Exact.value) l.params) ≡ map (parameter_of g.N.Exact.value)
+          l.fn.params;
+      so_far : map (parameter_of g.N.Exact.value) l.params ++ copies in_set
+          (map (parameter_of g.N.Exact.value) l.fn.params) (drop l.set-index l.sets) ≡ joint_parameters
+          (map (parameter_of g.N.Exact.value) l.fn.params) l.sets;
     }

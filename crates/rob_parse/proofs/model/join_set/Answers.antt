@@ -20,15 +20,19 @@ bounds-items-k g c =
 pub loop-k-preserved : goal.loop-k-preserved
 loop-k-preserved g c =
     let long = long_enough (parameter_of g.N.Exact.value) c.args.params.now c.loop-k.params _ c.loop-k.invariant in
-    join_step (parameter_of g.N.Exact.value) (in_set c.args.set.now) c.args.params.now c.loop-k.params c.loop-k.k c.index-items-k.result c.in_ok-param.param
-    (omega (arith, c.loop-k-test.true, c.requires.count)) (omega (arith, long, c.loop-k-test.true, c.requires.count)) c.loop-k.invariant
-    (subst (λ l. c.index-items-k.result ≡ get_or l c.loop-k.k c.index-items-k.result) c.items.ensures.list c.index-items-k.is) c.in_ok-param.ensures.parameter c.in_ok-push.ensures.appended
+    join_step (parameter_of g.N.Exact.value) (in_set c.args.set.now) c.args.params.now c.loop-k.params c.loop-k.k
+    c.index-items-k.result c.in_ok-param.param
+    (omega (arith, c.loop-k-test.true, c.requires.count)) (omega (arith, long, c.loop-k-test.true, c.requires.count))
+    c.loop-k.invariant
+    (subst (λ l. c.index-items-k.result ≡ get_or l c.loop-k.k c.index-items-k.result) c.items.ensures.list
+    c.index-items-k.is) c.in_ok-param.ensures.parameter c.in_ok-push.ensures.appended
 
 pub returns : goal.returns
 returns g c =
     record {
       joint =
           c.loop-k.invariant
-          ∙ ap (λ n. map (parameter_of g.N.Exact.value) c.args.params.now ++ map (in_set c.args.set.now) (take n (map (parameter_of g.N.Exact.value) c.args.params.now)))
+          ∙ ap (λ n. map (parameter_of g.N.Exact.value) c.args.params.now ++ map (in_set c.args.set.now)
+          (take n (map (parameter_of g.N.Exact.value) c.args.params.now)))
           (same_end c.loop-k.k c.args.count c.loop-k.auto.k-end c.loop-k-test.false);
     }

@@ -21,7 +21,11 @@ use Rattle.rob_parse.proofs.model.read_model.Goals as goal
 
 pub model-requires-clause-fits : goal.model-requires-clause-fits
 model-requires-clause-fits g c =
-    let read = subst (λ k. Reads k c.args.text.now (texts c.in-Ok.found.words.keys) c.in-Ok.found.list (earlier_of c.in-Ok.found.scope)) (limit_seen _ g.N.Exact.limit (c.LIMIT.ensures ∙ g.met.N.Exact.limit_told) g.met.N.Exact.limit_high) c.in-Ok.ensures.read in
+    let read =
+    subst (λ k. Reads k c.args.text.now (texts c.in-Ok.found.words.keys) c.in-Ok.found.list
+    (earlier_of c.in-Ok.found.scope))
+    (limit_seen _ g.N.Exact.limit (c.LIMIT.ensures ∙ g.met.N.Exact.limit_told) g.met.N.Exact.limit_high)
+    c.in-Ok.ensures.read in
     let words = texts c.in-Ok.found.words.keys in
     let known = earlier_of c.in-Ok.found.scope in
     subst (Each (FitsStatement g.N.Exact.limit)) (sym c.items-list.ensures.list)
@@ -30,7 +34,11 @@ model-requires-clause-fits g c =
 
 pub model-requires-clause-goal : goal.model-requires-clause-goal
 model-requires-clause-goal g c =
-    let read = subst (λ k. Reads k c.args.text.now (texts c.in-Ok.found.words.keys) c.in-Ok.found.list (earlier_of c.in-Ok.found.scope)) (limit_seen _ g.N.Exact.limit (c.LIMIT.ensures ∙ g.met.N.Exact.limit_told) g.met.N.Exact.limit_high) c.in-Ok.ensures.read in
+    let read =
+    subst (λ k. Reads k c.args.text.now (texts c.in-Ok.found.words.keys) c.in-Ok.found.list
+    (earlier_of c.in-Ok.found.scope))
+    (limit_seen _ g.N.Exact.limit (c.LIMIT.ensures ∙ g.met.N.Exact.limit_told) g.met.N.Exact.limit_high)
+    c.in-Ok.ensures.read in
     let words = texts c.in-Ok.found.words.keys in
     let known = earlier_of c.in-Ok.found.scope in
     subst (λ (l : List Statement). IsSome (goal_in l)) (sym c.items-list.ensures.list)
@@ -39,34 +47,56 @@ model-requires-clause-goal g c =
 
 pub model-requires-clause-room : goal.model-requires-clause-room
 model-requires-clause-room g c =
-    let read = subst (λ k. Reads k c.args.text.now (texts c.in-Ok.found.words.keys) c.in-Ok.found.list (earlier_of c.in-Ok.found.scope)) (limit_seen _ g.N.Exact.limit (c.LIMIT.ensures ∙ g.met.N.Exact.limit_told) g.met.N.Exact.limit_high) c.in-Ok.ensures.read in
-    has_room g.N.Exact.limit c.args.text.now (texts c.in-Ok.found.words.keys) c.in-Ok.found.list c.in-Ok.found.scope read
+    let read =
+    subst (λ k. Reads k c.args.text.now (texts c.in-Ok.found.words.keys) c.in-Ok.found.list
+    (earlier_of c.in-Ok.found.scope))
+    (limit_seen _ g.N.Exact.limit (c.LIMIT.ensures ∙ g.met.N.Exact.limit_told) g.met.N.Exact.limit_high)
+    c.in-Ok.ensures.read in
+    has_room g.N.Exact.limit c.args.text.now (texts c.in-Ok.found.words.keys) c.in-Ok.found.list c.in-Ok.found.scope
+    read
 
 pub model-requires-clause-count : goal.model-requires-clause-count
 model-requires-clause-count g c =
-    let read = subst (λ k. Reads k c.args.text.now (texts c.in-Ok.found.words.keys) c.in-Ok.found.list (earlier_of c.in-Ok.found.scope)) (limit_seen _ g.N.Exact.limit (c.LIMIT.ensures ∙ g.met.N.Exact.limit_told) g.met.N.Exact.limit_high) c.in-Ok.ensures.read in
-    subst (λ (l : List Statement). c.in-Ok.found.scope.sizes.parameters ≡ length (flat_map (parameters (texts c.in-Ok.found.words.keys)) l)) (sym c.items-list.ensures.list)
-    (written_count_is g.N.Exact.limit c.args.text.now (texts c.in-Ok.found.words.keys) c.in-Ok.found.list c.in-Ok.found.scope read)
+    let read =
+    subst (λ k. Reads k c.args.text.now (texts c.in-Ok.found.words.keys) c.in-Ok.found.list
+    (earlier_of c.in-Ok.found.scope))
+    (limit_seen _ g.N.Exact.limit (c.LIMIT.ensures ∙ g.met.N.Exact.limit_told) g.met.N.Exact.limit_high)
+    c.in-Ok.ensures.read in
+    subst (λ (l : List Statement).
+    c.in-Ok.found.scope.sizes.parameters ≡ length (flat_map (parameters (texts c.in-Ok.found.words.keys)) l))
+    (sym c.items-list.ensures.list)
+    (written_count_is g.N.Exact.limit c.args.text.now (texts c.in-Ok.found.words.keys) c.in-Ok.found.list
+    c.in-Ok.found.scope read)
 
 pub returns-in-Ok-model-clause-read : goal.returns-in-Ok-model-clause-read
 returns-in-Ok-model-clause-read g c =
-    let read = subst (λ k. Reads k c.args.text.now (texts c.in-Ok.found.words.keys) c.in-Ok.found.list (earlier_of c.in-Ok.found.scope)) (limit_seen _ g.N.Exact.limit (c.LIMIT.ensures ∙ g.met.N.Exact.limit_told) g.met.N.Exact.limit_high) c.in-Ok.ensures.read in
+    let read =
+    subst (λ k. Reads k c.args.text.now (texts c.in-Ok.found.words.keys) c.in-Ok.found.list
+    (earlier_of c.in-Ok.found.scope))
+    (limit_seen _ g.N.Exact.limit (c.LIMIT.ensures ∙ g.met.N.Exact.limit_told) g.met.N.Exact.limit_high)
+    c.in-Ok.ensures.read in
     record {
       words = texts c.in-Ok.found.words.keys;
       list = c.in-Ok.found.list;
       known = earlier_of c.in-Ok.found.scope;
       reads = read;
-      model_is = c.in-Ok-model.ensures.read ∙ ap (model_of (texts c.in-Ok.found.words.keys) c.in-Ok.found.scope.sorts.items) c.items-list.ensures.list;
+      model_is =
+          c.in-Ok-model.ensures.read
+          ∙ ap (model_of (texts c.in-Ok.found.words.keys) c.in-Ok.found.scope.sorts.items) c.items-list.ensures.list;
     }
 
 pub returns-in-Ok-model-clause-valid : goal.returns-in-Ok-model-clause-valid
 returns-in-Ok-model-clause-valid g c =
-    let read : ReadsModel g.N.Exact.limit c.args.text.now (robust g.N.Exact.value c.in-Ok-model.model) = returns-in-Ok-model-clause-read g c in
+    let read : ReadsModel g.N.Exact.limit c.args.text.now (robust g.N.Exact.value c.in-Ok-model.model) =
+    returns-in-Ok-model-clause-read g c in
     record {
-      well_formed = well_formed g.N.Exact.limit c.args.text.now (robust g.N.Exact.value c.in-Ok-model.model) read g.met.N.Exact.limit_low;
+      well_formed =
+          well_formed g.N.Exact.limit c.args.text.now (robust g.N.Exact.value c.in-Ok-model.model) read
+          g.met.N.Exact.limit_low;
       limits = within_limits g.N.Exact.limit c.args.text.now (robust g.N.Exact.value c.in-Ok-model.model) read;
     }
 
 pub returns-in-Ok-model-clause-named : goal.returns-in-Ok-model-clause-named
 returns-in-Ok-model-clause-named g c =
-    well_named g.N.Exact.limit c.args.text.now (robust g.N.Exact.value c.in-Ok-model.model) (returns-in-Ok-model-clause-read g c)
+    well_named g.N.Exact.limit c.args.text.now (robust g.N.Exact.value c.in-Ok-model.model)
+    (returns-in-Ok-model-clause-read g c)

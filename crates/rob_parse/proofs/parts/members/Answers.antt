@@ -10,20 +10,30 @@ use Rattle.rob_parse.proofs.parts.members.Goals as goal
 pub member-requires-clause-fits : goal.member-requires-clause-fits
 member-requires-clause-fits g c =
     let next = get_or c.args.members.now c.loop-next.next-index no_member in
-    (each_at (FitsMember g.N.Exact.limit) c.args.members.now c.loop-next.next-index next c.loop-next-test.true (any_default c.args.members.now c.loop-next.next-index no_member next c.loop-next-test.true) c.loop-next.invariant.fits).0
+    (each_at (FitsMember g.N.Exact.limit) c.args.members.now c.loop-next.next-index next c.loop-next-test.true
+    (any_default c.args.members.now c.loop-next.next-index no_member next c.loop-next-test.true)
+    c.loop-next.invariant.fits).0
 
 pub loop-next-preserved : goal.loop-next-preserved
 loop-next-preserved g c =
     let next = get_or c.args.members.now c.loop-next.next-index no_member in
     let is = any_default c.args.members.now c.loop-next.next-index no_member next c.loop-next-test.true in
     record {
-      read = map_step (member_of g.N.Exact.value) (λ (h : Member). member_taken c.args.place.count c.args.place.set (member c.args.sorts.now h)) c.loop-next.list c.args.members.now c.loop-next.next-index next _ c.loop-next-test.true is
+      read =
+          map_step (member_of g.N.Exact.value)
+          (λ (h : Member). member_taken c.args.place.count c.args.place.set (member c.args.sorts.now h))
+          c.loop-next.list c.args.members.now c.loop-next.next-index next _ c.loop-next-test.true is
           c.member.ensures.read c.in_ok-push.ensures.appended c.loop-next.invariant.read;
-      fits = (each_at (FitsMember g.N.Exact.limit) c.args.members.now c.loop-next.next-index next c.loop-next-test.true is c.loop-next.invariant.fits).1;
+      fits =
+          (each_at (FitsMember g.N.Exact.limit) c.args.members.now c.loop-next.next-index next c.loop-next-test.true is
+          c.loop-next.invariant.fits).1;
       ops = omega (arith, c.loop-next.invariant.ops, c.member.ensures.ops);
       wides = c.loop-next.invariant.wides ∙ c.member.ensures.wides;
     }
 
 pub returns-clause-read : goal.returns-clause-read
-returns-clause-read g c = map_end (member_of g.N.Exact.value) (λ (h : Member). member_taken c.args.place.count c.args.place.set (member c.args.sorts.now h)) c.loop-next.list c.args.members.now c.loop-next.next-index c.loop-next-test.false c.loop-next.invariant.read
+returns-clause-read g c =
+    map_end (member_of g.N.Exact.value)
+    (λ (h : Member). member_taken c.args.place.count c.args.place.set (member c.args.sorts.now h)) c.loop-next.list
+    c.args.members.now c.loop-next.next-index c.loop-next-test.false c.loop-next.invariant.read
     ∙ map_behind (member_taken c.args.place.count c.args.place.set) (member c.args.sorts.now) c.args.members.now

@@ -8,7 +8,9 @@ use Rattle.rob_parse.proofs.parts.members.Given as goal
 
 abbrev pub invariant-loop-next : goal.invariant-loop-next
 invariant-loop-next g l = record {
-  read : map (member_of g.N.Exact.value) l.list ++ map (λ (h : Member). member_taken l.place.count l.place.set (member l.sorts h)) (drop l.next-index l.members) ≡ map (λ (h : Member). member_taken l.place.count l.place.set (member l.sorts h)) l.members;
+  read : map (member_of g.N.Exact.value) l.list ++ map
+      (λ (h : Member). member_taken l.place.count l.place.set (member l.sorts h)) (drop l.next-index l.members) ≡ map
+      (λ (h : Member). member_taken l.place.count l.place.set (member l.sorts h)) l.members;
   fits : Each (FitsMember g.N.Exact.limit) (drop l.next-index l.members);
   ops : g.L.Ledger.ops l.fn.ledger ≤ g.L.Ledger.ops l.ledger;
   wides : g.L.Ledger.wides l.fn.ledger ≡ g.L.Ledger.wides l.ledger;

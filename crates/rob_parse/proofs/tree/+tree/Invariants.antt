@@ -7,7 +7,8 @@ use Rattle.rob_parse.proofs.tree.+tree.Given as goal
 
 abbrev pub invariant-terms-loop-part : goal.invariant-terms-loop-part
 invariant-terms-loop-part g l = record {
-  read : map (signed_of g.N.Exact.value) l.list ++ map (signed_at l.sorts l.place.count l.place.set) (drop l.part-index l.parts) ≡ map (signed_at l.sorts l.place.count l.place.set) l.parts;
+  read : map (signed_of g.N.Exact.value) l.list ++ map (signed_at l.sorts l.place.count l.place.set)
+      (drop l.part-index l.parts) ≡ map (signed_at l.sorts l.place.count l.place.set) l.parts;
   fits : FitsSummands g.N.Exact.limit (summands_of (map part_of (drop l.part-index l.parts)));
   ops : g.L.Ledger.ops l.fn.ledger ≤ g.L.Ledger.ops l.ledger;
   wides : g.L.Ledger.wides l.fn.ledger ≡ g.L.Ledger.wides l.ledger;
@@ -15,7 +16,8 @@ invariant-terms-loop-part g l = record {
 
 abbrev pub invariant-factors-loop-tree : goal.invariant-factors-loop-tree
 invariant-factors-loop-tree g l = record {
-  read : map (expression_of g.N.Exact.value) l.list ++ map (factor_at l.sorts l.place.count l.place.set) (drop l.tree-index l.trees) ≡ map (factor_at l.sorts l.place.count l.place.set) l.trees;
+  read : map (expression_of g.N.Exact.value) l.list ++ map (factor_at l.sorts l.place.count l.place.set)
+      (drop l.tree-index l.trees) ≡ map (factor_at l.sorts l.place.count l.place.set) l.trees;
   fits : FitsOperands g.N.Exact.limit (operands_of (map tree_of (drop l.tree-index l.trees)));
   ops : g.L.Ledger.ops l.fn.ledger ≤ g.L.Ledger.ops l.ledger;
   wides : g.L.Ledger.wides l.fn.ledger ≡ g.L.Ledger.wides l.ledger;

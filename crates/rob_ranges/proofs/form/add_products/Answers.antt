@@ -5,7 +5,8 @@ use Rattle.rob_ranges.proofs.form.add_products.Goals as goal
 pub loop-other-preserved : goal.loop-other-preserved
 loop-other-preserved c =
     let here = c.loop-other in
-    let longer = joined_longer here.place c.args.factor.now c.other-item.result here.factors.items here.invariant.within in
+    let longer =
+    joined_longer here.place c.args.factor.now c.other-item.result here.factors.items here.invariant.within in
     let within : here.place < length c.add_product.new.factors.items =
     subst (λ fs. here.place < length fs) (sym c.in_ok-add_product.ensures.added) longer in
     record {

@@ -22,7 +22,8 @@ pub loop-statement-preserved : goal.loop-statement-preserved
 loop-statement-preserved c =
     judged_more c.args.limit (earlier_of c.args.front.now) _ _ c.args.statements.now c.loop-statement.statement-index
     c.statement-item.result (earlier_of c.loop-statement.scope) _ c.loop-statement.lowest _ _ c.loop-statement-test.true
-    c.statement-item.is c.loop-statement.invariant c.in_ok-fault.ensures.fault c.lower-lowest.ensures.lower c.note.ensures.noted
+    c.statement-item.is c.loop-statement.invariant c.in_ok-fault.ensures.fault c.lower-lowest.ensures.lower
+    c.note.ensures.noted
 
 pub returns : goal.returns
 returns c =

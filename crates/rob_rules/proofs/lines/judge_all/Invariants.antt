@@ -8,4 +8,5 @@ abbrev pub invariant-loop-statement : goal.invariant-loop-statement
 invariant-loop-statement l =
     IsJudged l.limit (earlier_of l.front)
     (lowest_fault l.limit (earlier_of l.front) (earlier_of l.fn.scope) l.statements)
-    (behind_all (earlier_of l.fn.scope) l.statements) (drop l.statement-index l.statements) (earlier_of l.scope) l.lowest
+    (behind_all (earlier_of l.fn.scope) l.statements) (drop l.statement-index l.statements) (earlier_of l.scope)
+    l.lowest

@@ -12,14 +12,17 @@ expand-requires c =
     let s = seen_statement c.args.statement.now in
     record {
       within = within_named c.args.limit own (is_set c.args.self.now.declared.items) c.args.self.now.total s
-          (late_only c.args.limit own s c.args.self.now c.requires.between c.as_slice.result.now c.as_slice.ensures.value
+          (late_only c.args.limit own s c.args.self.now c.requires.between c.as_slice.result.now
+          c.as_slice.ensures.value
           c.in_ok-fault.fault c.in_default.is c.in_ok-fault.ensures.named own);
     }
 
 pub returns-in-Some : goal.returns-in-Some
 returns-in-Some c = record {
-  expanded = stops_early c.args.limit (texts c.args.self.now.own.keys) (seen_statement c.args.statement.now) c.args.self.now
-      c.requires.between c.as_slice.result.now c.as_slice.ensures.value c.in_ok-fault.fault c.in-Some.fault c.rule.result
+  expanded =
+      stops_early c.args.limit (texts c.args.self.now.own.keys) (seen_statement c.args.statement.now) c.args.self.now
+      c.requires.between c.as_slice.result.now c.as_slice.ensures.value c.in_ok-fault.fault c.in-Some.fault
+      c.rule.result
       c.in-Some.is c.rule.ensures.rule c.in_ok-fault.ensures.named;
 }
 
@@ -29,7 +32,8 @@ returns-in-Err-NoStatement c =
     let s = seen_statement c.args.statement.now in
     record {
       expanded = stops_late c.args.limit own s c.args.self.now c.requires.between
-          (late_only c.args.limit own s c.args.self.now c.requires.between c.as_slice.result.now c.as_slice.ensures.value
+          (late_only c.args.limit own s c.args.self.now c.requires.between c.as_slice.result.now
+          c.as_slice.ensures.value
           c.in_ok-fault.fault c.in_default.is c.in_ok-fault.ensures.named own)
           c.in-Err-NoStatement.field-0 11 c.in-Err-NoStatement.field-0-is c.in-Err-NoStatement.ensures.refused refl;
     }
@@ -40,7 +44,8 @@ returns c =
     let s = seen_statement c.args.statement.now in
     record {
       expanded = expanded c.args.limit own s c.args.self.now c.requires.between
-          (late_only c.args.limit own s c.args.self.now c.requires.between c.as_slice.result.now c.as_slice.ensures.value
+          (late_only c.args.limit own s c.args.self.now c.requires.between c.as_slice.result.now
+          c.as_slice.ensures.value
           c.in_ok-fault.fault c.in_default.is c.in_ok-fault.ensures.named own) _ _ c.in_ok-widen.ensures.widened
           (record {
             list = c.in-Ok.ensures.list;
