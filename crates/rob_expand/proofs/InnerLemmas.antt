@@ -9,11 +9,12 @@ use mir.Val.{SFits, to_z, of_z}
 use Rattle.rob_index.specs.Membership.{Among, here, there}
 use Rattle.rob_index.specs.Forms.{Form, Ends, AreWithin, fixed, value_of, values_of, length_form, without, extensions, first_factor, only, plus_times}
 use Rattle.rob_algebra.specs.Integer.{mul_nonneg}
+use Rattle.rob_index.proofs.DecisionLemmas.{fixed_within}
 use Rattle.rob_index.proofs.FormLemmas.{minus_is, plus_times_is}
 use Rattle.rob_index.proofs.ListLemmas.{values_within}
 use Rattle.rob_index.proofs.NestLemmas.{never_over, lt_from}
 use Rattle.rob_ranges.proofs.DigitLemmas.{lt_no}
-use Rattle.rob_ranges.proofs.NestLemmas.{greatest_fixed, run_over}
+use Rattle.rob_ranges.proofs.NestLemmas.{greatest_fixed, le_no, run_over}
 use Rattle.rob_ranges.specs.declared.short.Short.{Short}
 use Rattle.rob_ranges.specs.DigitLists.{wide_of}
 use Rattle.rob_ranges.specs.Shorts.{first_of, second_of, short_value}
@@ -30,19 +31,12 @@ any_none p [] h = refl
 any_none p (x ∷ xs) h = (λ i. h x here i || list_any p xs) ∙ any_none p xs (λ y m. h y (there m))
 
 -- ---- a range whose length is below 0
-no_le : (a b : ℤ) → b <ℤ a → int_le a b ≡ false
-no_le a b h = grind (arith, ints)
-
 pub no_values : (r : Ends) (vs : List ℤ) → value_of (length_form r) vs <ℤ pos 0 → values_of r vs ≡ []
 no_values r vs h =
     run_over (value_of r.from vs) (value_of r.upto vs)
-    (no_le (value_of r.from vs) (value_of r.upto vs) (omega (arith, ints, h, minus_is r.upto r.from vs)))
+    (le_no (value_of r.from vs) (value_of r.upto vs) (omega (arith, ints, h, minus_is r.upto r.from vs)))
 
 -- ---- a range inside another: its length is at most that at the end that makes it greatest
-fixed_within : (vs : List ℤ) → AreWithin (fixed vs) vs
-fixed_within [] = tt
-fixed_within (v ∷ vs) = (fixed_within vs, omega (arith, ints), omega (arith, ints))
-
 inner_most : (r s : Ends) (vs : List ℤ) (v : ℤ) → Among v (values_of r vs)
     → value_of (length_form s) (v ∷ vs) ≤ℤ value_of (without r (length_form s)) vs
 inner_most r s vs v m =

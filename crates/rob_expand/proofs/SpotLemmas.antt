@@ -10,7 +10,7 @@ use Rattle.std.proofs.lemmas.Option.{same_Some, none-some}
 use Rattle.rob_index.specs.Forms.{extensions}
 use Rattle.rob_index.specs.Rules.{is_long_name}
 use Rattle.rob_index.specs.Statements.{Name}
-use Rattle.rob_index.proofs.ListLemmas.{or_assoc, any_append}
+use Rattle.rob_index.proofs.ListLemmas.{both_true, or_assoc, any_append}
 use Rattle.rob_expand.specs.declared.judging.Finding.{Finding}
 use Rattle.rob_expand.specs.declared.line.Item.{Item}
 use Rattle.rob_expand.specs.declared.spot.Spot.{Spot}
@@ -34,11 +34,6 @@ empty_is : {A : Type 0} (xs : List A) → is_empty xs ≡ true → xs ≡ []
 empty_is [] h = refl
 empty_is (x ∷ xs) h = cc
 
-both_hold : (a b : Bool) → (a && b) ≡ true → (a ≡ true) × (b ≡ true)
-both_hold true true h = (refl, refl)
-both_hold true false h = cc
-both_hold false b h = cc
-
 not_is : (b : Bool) → not b ≡ true → b ≡ false
 not_is true h = cc
 not_is false h = refl
@@ -46,12 +41,12 @@ not_is false h = refl
 idle_none : (short : Bool) (x : Item) (vs : List ℤ) → is_idle short x vs ≡ true → extensions x.ranges vs ≡ []
 idle_none short x vs h =
     empty_is (extensions x.ranges vs)
-    (both_hold (is_empty (extensions x.ranges vs)) (not (short && is_long_in x.ranges vs)) h).0
+    (both_true (is_empty (extensions x.ranges vs)) (not (short && is_long_in x.ranges vs)) h).0
 
 idle_short : (x : Item) (vs : List ℤ) → is_idle true x vs ≡ true → is_long_in x.ranges vs ≡ false
 idle_short x vs h =
     not_is (is_long_in x.ranges vs)
-    (both_hold (is_empty (extensions x.ranges vs)) (not (is_long_in x.ranges vs)) h).1
+    (both_true (is_empty (extensions x.ranges vs)) (not (is_long_in x.ranges vs)) h).1
 
 pub idle_if_short : (x : Item) (vs : List ℤ) → extensions x.ranges vs ≡ [] → is_long_in x.ranges vs ≡ false
     → is_idle true x vs ≡ true

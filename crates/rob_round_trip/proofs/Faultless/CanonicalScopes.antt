@@ -108,7 +108,7 @@ inside_words [] k h = absurd h
 inside_words (w ∷ words) zero h = omega arith
 inside_words (w ∷ words) (suc k) h = omega (arith, inside_words words k h)
 
-each_mapped : {A B : Type 0} (P : B → Type 0) (f : A → B) (xs : List A) → Each (λ x. P (f x)) xs → Each P (map f xs)
+pub each_mapped : {A B : Type 0} (P : B → Type 0) (f : A → B) (xs : List A) → Each (λ x. P (f x)) xs → Each P (map f xs)
 each_mapped P f [] h = tt
 each_mapped P f (x ∷ xs) h = (h.0, each_mapped P f xs h.1)
 

@@ -47,6 +47,7 @@ use Rattle.rob_top.specs.declared.ended.Ended.TheVariants.{Accepted, Rejected, T
 use Rattle.rob_top.specs.declared.files.Texts.{Texts}
 use Rattle.rob_top.specs.declared.reply.Reply.{Reply}
 use Rattle.rob_top.proofs.Fetching.OwnLemmas.{file_came, has_kind}
+use Rattle.rob_round_trip.proofs.Faultless.CanonicalScopes.{each_mapped}
 use Rattle.rob_top.proofs.Meaning.WorkLemmas.{call_of_verb, call_within, rose_earlier}
 use Rattle.rob_words.specs.Commands.{Line}
 use Rattle.rob_words.specs.Verbs.{own_of}
@@ -56,10 +57,6 @@ use Rattle.rob_words.specs.declared.verb.Verb.{Verb}
 use Rattle.rob_words.specs.declared.verb.Verb.TheVariants.{Check}
 
 -- ---- the places of conditions are the model's
-
-each_mapped : {A B : Type 0} (P : B → Type 0) (f : A → B) (xs : List A) → Each (λ x. P (f x)) xs → Each P (map f xs)
-each_mapped P f [] h = tt
-each_mapped P f (x ∷ xs) h = (h.0, each_mapped P f xs h.1)
 
 filtered_more : {A : Type 0} (P : A → Type 0) (b : Bool) (x : A) (xs : List A) → P x → Each P xs
     → Each P (if b then x ∷ xs else xs)
