@@ -1,13 +1,13 @@
 -- What the lengths of the ranges of an item tell: where there is no setting, and no range with more than 100 values.
 use Rattle.std.proofs.Common.{◌≡◌, ◌<◌, ◌≤◌, ◌*◌, ℕ, suc, Bool, true, false, List, [], ◌∷◌, ◌++◌, length, get_or}
 use Rattle.std.proofs.Common.{refl, sym, ap, ◌∙◌, subst, Option, Some, None, arith}
-use Rattle.std.specs.Prelude.{ℤ, pos, negsuc, nat_abs, ◌+ℤ◌, ◌*ℤ◌, ◌≤ℤ◌, ◌<ℤ◌, ◌||◌, int_lt, int_le, IfSome}
+use Rattle.std.specs.Prelude.{ℤ, pos, negsuc, nat_abs, ◌+ℤ◌, ◌*ℤ◌, ◌≤ℤ◌, ◌<ℤ◌, ◌||◌, int_lt, IfSome}
 use Rattle.std.specs.List.{list_any, flat_map}
 use Rattle.std.specs.Int.{w128}
 use Rattle.std.proofs.lemmas.Int.{ints, to_z-of_z}
 use mir.Val.{SFits, to_z, of_z}
 use Rattle.rob_index.specs.Membership.{Among, here, there}
-use Rattle.rob_index.specs.Forms.{Form, Ends, AreWithin, fixed, value_of, values_of, length_form, without, extensions, first_factor, only, plus_times}
+use Rattle.rob_index.specs.Forms.{Form, Ends, fixed, value_of, values_of, length_form, without, extensions, first_factor, only, plus_times}
 use Rattle.rob_algebra.specs.Integer.{mul_nonneg}
 use Rattle.rob_index.proofs.DecisionLemmas.{fixed_within}
 use Rattle.rob_index.proofs.FormLemmas.{minus_is, plus_times_is}
