@@ -12,7 +12,7 @@ ghost use Rattle.rob_expand.specs.Count.{is_sum, is_compound, of_shape, tree_lef
 
 use crate::placed::{Part, Placed};
 use crate::room::{Stop, spend};
-use crate::setting::{next, with_value};
+use crate::setting::{begun_with, next, put_first, with_value};
 use crate::tokens::number_tokens;
 use rob_ranges::{Ends, Whole};
 use std::alloc::Global;
@@ -216,16 +216,17 @@ fn count_more(
         (upwards from (span from upto.now)) room) e) }
 {
     let mut left = room;
+    let mut inside = begun_with(alloc, &from, values)?;
     let mut value = from;
     'values: loop {
         if upto.is_less(alloc, &value)? {
             return Ok(left);
         }
         let signed = spend(1, left)?;
-        let inside = with_value(alloc, &value, values)?;
-        let counted = count(alloc, limit, inner, inside.items(), signed)?;
+        let counted = count(alloc, limit, inner, inside.as_slice(), signed)?;
         let behind = spend(part_parens(counted.shape), counted.left)?;
         left = behind;
         value = next(alloc, &value)?;
+        put_first(alloc, &mut inside, &value)?;
     }
 }

@@ -126,8 +126,16 @@ pub fn from_ends(
 pub fn in_front(alloc: Global, value: &Whole, values: &[Whole]) -> Result<List<Whole>, Memory>
     ensures all { IfOk result (λ all. all ≡ value.now ∷ values.now) }
 {
+    let all = vec_in_front(alloc, value, values)?;
+    Ok(List::from(all))
+}
+
+/// The same as a vector.
+pub fn vec_in_front(alloc: Global, value: &Whole, values: &[Whole]) -> Result<Vec<Whole>, Memory>
+    ensures all { IfOk result (λ all. all.items ≡ value.now ∷ values.now) }
+{
     let mut all = Vec::with_capacity(alloc, values.len() + 1)?;
     all.push(value.copy(alloc)?)?;
     append_copies(&mut all, alloc, values)?;
-    Ok(List::from(all))
+    Ok(all)
 }

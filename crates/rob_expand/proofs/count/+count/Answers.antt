@@ -1,5 +1,5 @@
 use Rattle.std.proofs.Common.{◌≡◌, ℕ, ◌∷◌, true, false, List, ap, sym, ◌∙◌}
-use Rattle.std.specs.Prelude.{ℤ, pos, ◌+ℤ◌, int_lt, Option}
+use Rattle.std.specs.Prelude.{ℤ, pos, ◌+ℤ◌, int_lt, set, Option}
 use Rattle.rob_expand.specs.declared.count.Shape.TheVariants.{Single, Sum}
 use Rattle.rob_expand.specs.declared.count.Counted.{Counted}
 use Rattle.std.proofs.lemmas.Result.{err_from_is_err_and}
@@ -152,7 +152,7 @@ count_more-returns-in_err-signed t c = record {
       c.in_err-signed.field-0.0 p.0 p.1 p.2
       (λ none.
       each_stop_sign c.args.limit make c.values.value c.args.upto.now c.values.left
-      (sym c.in_ok-is_less.ensures.less ∙ c.if-branch.false) c.values.invariant none)
+      (sym c.in_ok-is_less.ensures.less ∙ c.if-branch.false) c.values.invariant.counted none)
       c.in_err-signed.ensures.left;
 }
 
@@ -163,15 +163,15 @@ count_more-returns-in_err-counted t c = record {
       (λ (v : ℤ). tree_left c.args.limit (placed_of c.args.inner.now) (v ∷ c.args.values.now)) in
       let p = err_from_is_err_and c.from_residual-in_err-counted.result c.from_residual-in_err-counted.ensures.1 in
       refused c.from_residual-in_err-counted.result _
-      (tree_left c.args.limit (placed_of c.args.inner.now) c.items.result.now c.in_ok-signed.signed)
+      (tree_left c.args.limit (placed_of c.args.inner.now) c.as_slice.result.now c.in_ok-signed.signed)
       (each_from c.args.limit make c.args.from c.args.upto.now c.args.room)
       c.in_err-counted.field-0.0 p.0 p.1 p.2
       (λ none.
       each_stop_inner c.args.limit make c.values.value c.args.upto.now c.values.left
-      (sym c.in_ok-is_less.ensures.less ∙ c.if-branch.false) c.values.invariant c.in_ok-signed.signed
+      (sym c.in_ok-is_less.ensures.less ∙ c.if-branch.false) c.values.invariant.counted c.in_ok-signed.signed
       c.in_ok-signed.ensures.left
       (ap (λ (vs : List ℤ). tree_left c.args.limit (placed_of c.args.inner.now) vs c.in_ok-signed.signed)
-      (sym (c.items.ensures.list ∙ c.in_ok-inside.ensures.values)) ∙ none))
+      (sym (c.as_slice.ensures.value ∙ c.values.invariant.begun)) ∙ none))
       c.in_err-counted.ensures.counted;
 }
 
@@ -186,11 +186,11 @@ count_more-returns-in_err-behind t c = record {
       c.in_err-behind.field-0.0 p.0 p.1 p.2
       (λ none.
       each_stop_parens c.args.limit make c.values.value c.args.upto.now c.values.left
-      (sym c.in_ok-is_less.ensures.less ∙ c.if-branch.false) c.values.invariant c.in_ok-signed.signed
+      (sym c.in_ok-is_less.ensures.less ∙ c.if-branch.false) c.values.invariant.counted c.in_ok-signed.signed
       c.part_parens.result c.in_ok-counted.counted
       c.in_ok-signed.ensures.left
       (ap (λ (vs : List ℤ). tree_left c.args.limit (placed_of c.args.inner.now) vs c.in_ok-signed.signed)
-      (sym (c.items.ensures.list ∙ c.in_ok-inside.ensures.values)) ∙ c.in_ok-counted.ensures.counted)
+      (sym (c.as_slice.ensures.value ∙ c.values.invariant.begun)) ∙ c.in_ok-counted.ensures.counted)
       (c.part_parens.ensures.parens c.args.limit) none)
       c.in_err-behind.ensures.left;
 }
@@ -201,16 +201,19 @@ count_more-values-smaller t c =
     c.in_ok-value.ensures.next
 
 pub count_more-values-preserved : goal.count_more-values-preserved
-count_more-values-preserved t c =
-    let make : ℤ → ℕ → Option Counted =
-    (λ (v : ℤ). tree_left c.args.limit (placed_of c.args.inner.now) (v ∷ c.args.values.now)) in
-    each_more c.args.limit make c.values.value c.args.upto.now c.values.left
-    (sym c.in_ok-is_less.ensures.less ∙ c.if-branch.false) c.values.invariant
-    c.in_ok-signed.signed c.part_parens.result c.in_ok-behind.behind c.in_ok-counted.counted c.in_ok-value.value
-    c.in_ok-signed.ensures.left
-    (ap (λ (vs : List ℤ). tree_left c.args.limit (placed_of c.args.inner.now) vs c.in_ok-signed.signed)
-    (sym (c.items.ensures.list ∙ c.in_ok-inside.ensures.values)) ∙ c.in_ok-counted.ensures.counted)
-    (c.part_parens.ensures.parens c.args.limit) c.in_ok-behind.ensures.left c.in_ok-value.ensures.next
+count_more-values-preserved t c = record {
+  counted =
+      let make : ℤ → ℕ → Option Counted =
+      (λ (v : ℤ). tree_left c.args.limit (placed_of c.args.inner.now) (v ∷ c.args.values.now)) in
+      each_more c.args.limit make c.values.value c.args.upto.now c.values.left
+      (sym c.in_ok-is_less.ensures.less ∙ c.if-branch.false) c.values.invariant.counted
+      c.in_ok-signed.signed c.part_parens.result c.in_ok-behind.behind c.in_ok-counted.counted c.in_ok-value.value
+      c.in_ok-signed.ensures.left
+      (ap (λ (vs : List ℤ). tree_left c.args.limit (placed_of c.args.inner.now) vs c.in_ok-signed.signed)
+      (sym (c.as_slice.ensures.value ∙ c.values.invariant.begun)) ∙ c.in_ok-counted.ensures.counted)
+      (c.part_parens.ensures.parens c.args.limit) c.in_ok-behind.ensures.left c.in_ok-value.ensures.next;
+  begun = c.in_ok-put_first.ensures.first ∙ ap (λ (vs : List ℤ). set vs 0 c.in_ok-value.value) c.values.invariant.begun;
+}
 
 pub count-returns-in-Over : goal.count-returns-in-Over
 count-returns-in-Over t c = record {

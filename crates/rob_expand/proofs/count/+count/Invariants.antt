@@ -16,11 +16,13 @@ invariant-count_factors-loop-factor l =
     ≡ factors_from l.limit l.values true l.factors l.room
 
 abbrev pub invariant-count_more-values : goal.invariant-count_more-values
-invariant-count_more-values l =
-    each_left l.limit (λ v. tree_left l.limit (placed_of l.inner) (v ∷ l.values)) false
-    (upwards l.value (span l.value l.upto)) l.left
-    ≡ each_left l.limit (λ v. tree_left l.limit (placed_of l.inner) (v ∷ l.values)) false
-    (upwards l.fn.from (span l.fn.from l.upto)) l.room
+invariant-count_more-values l = record {
+  counted : each_left l.limit (λ v. tree_left l.limit (placed_of l.inner) (v ∷ l.values)) false
+      (upwards l.value (span l.value l.upto)) l.left
+      ≡ each_left l.limit (λ v. tree_left l.limit (placed_of l.inner) (v ∷ l.values)) false
+      (upwards l.fn.from (span l.fn.from l.upto)) l.room;
+  begun : l.inside.items ≡ l.value ∷ l.values;
+}
 
 abbrev pub decreases-count_more-values : goal.decreases-count_more-values
 decreases-count_more-values l = span l.value l.upto
