@@ -28,11 +28,12 @@ pub fn read_statement(alloc: Global, symbols: &[Symbol]) -> Result<Indexed, Pars
         (λ e. HasStatementCause (seen_line symbols.now) e) }
 {
     let statement = read_line(alloc, symbols)?;
-    if !is_line(&statement) {
-        return Err(ParseErr::NotAStatement);
-    }
-    if has_few_indices(&statement) {
-        Ok(statement)
+    if is_line(&statement) {
+        if has_few_indices(&statement) {
+            Ok(statement)
+        } else {
+            Err(ParseErr::NotAStatement)
+        }
     } else {
         Err(ParseErr::NotAStatement)
     }

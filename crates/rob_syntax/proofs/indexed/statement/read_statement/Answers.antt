@@ -14,14 +14,14 @@ returns-in_err-statement c =
           (statement_cause (seen_line c.args.symbols.now) c.in_err-statement.field-0.0 c.in_err-statement.ensures.read);
     }
 
-pub returns-then-not-is_line : goal.returns-then-not-is_line
-returns-then-not-is_line c = record { read = not_line c.in_ok-statement.ensures.read c.is_line.ensures.line }
+pub returns-else-is_line : goal.returns-else-is_line
+returns-else-is_line c = record { read = not_line c.in_ok-statement.ensures.read c.if-is_line.ensures.line }
 
 pub returns-then-has_few_indices : goal.returns-then-has_few_indices
 returns-then-has_few_indices c =
     record {
       read =
-          statement_read c.in_ok-statement.ensures.read c.is_line.ensures.line
+          statement_read c.in_ok-statement.ensures.read c.if-is_line.ensures.line
           (sym c.has_few_indices.ensures.few ∙ c.if-has_few_indices.true);
     }
 
