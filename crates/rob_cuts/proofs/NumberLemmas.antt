@@ -21,10 +21,10 @@ use Rattle.rob_runs.specs.Cuts.{Cut}
 use Rattle.rob_runs.specs.Spots.{HasWidePrefix}
 use Rattle.rob_sets.proofs.RowLemmas.{tabulate-more}
 use Rattle.rob_dualize.specs.Wholes.{cost_of}
+use Rattle.rob_dualize.proofs.SetProgramLemmas.{negated_within}
 use Rattle.rob_cuts.specs.Master.{cut_number, cut_entry}
 use Rattle.rob_cuts.specs.Rounds.{CutFits}
 use Rattle.rob_dualize.proofs.Soundness.{at_small}
-use Rattle.rob_sets.proofs.SetProgramLemmas.{negated_within}
 
 -- a term more
 pub sum_more : (f : Vector) (k : ℕ) (sum a b next : ℤ) → sum ≡ sum_to k f → a *ℤ b ≡ f k → next ≡ sum +ℤ (a *ℤ b)

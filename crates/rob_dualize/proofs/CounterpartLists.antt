@@ -15,8 +15,8 @@ use Rattle.rob_counterpart.specs.SamePrograms.{AreSame}
 use Rattle.rob_counterpart.proofs.Blocks.{at_block}
 use Rattle.rob_counterpart.proofs.ReformPlaces.{where_not_less, where_same, where_other}
 use Rattle.rob_counterpart.proofs.TabulateLemmas.{length-tabulate}
+use Rattle.rob_dualize.proofs.SetProgramLemmas.{negated_within}
 use Rattle.rob_dualize.proofs.TabulateLemmas.{item-tabulate}
-use Rattle.rob_sets.proofs.SetProgramLemmas.{negated_within}
 
 -- the rows of a program, its right sides and its costs as lists
 pub record IsListed (P : Program) (lp : Lp) : Type 0 where

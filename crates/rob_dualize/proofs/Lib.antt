@@ -1,3 +1,6 @@
+pub mod SetProgramLemmas
+pub mod ProgramListLemmas
+pub mod SetEmptyLemmas
 pub mod Soundness
 pub mod TabulateLemmas
 pub mod CounterpartLists

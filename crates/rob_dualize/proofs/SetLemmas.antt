@@ -31,15 +31,15 @@ use Rattle.rob_counterpart.proofs.SameSystems.{over_set_same}
 use Rattle.rob_counterpart.proofs.SetLemmas.{over_set_is, cost_is}
 use Rattle.rob_sets.specs.SetForm.{IsSetForm, RowFits, cleared_row}
 use Rattle.rob_sets.specs.declared.set_form.SetRow.{SetRow}
-use Rattle.rob_sets.specs.SetProgram.{IsOverRobust, robust_set}
 use Rattle.rob_sets.specs.declared.set_form.SetForm.{SetForm}
-use Rattle.rob_sets.proofs.SetProgramLemmas.{same_program}
+use Rattle.rob_dualize.specs.SetProgram.{IsOverRobust, robust_set}
 use Rattle.rob_dualize.specs.Ending.{HasEnded, HasLastPoint, IsSolvedAs, IsStoppedAt, StopsAt, TellsWeights, position_of}
 use Rattle.rob_dualize.specs.SetSolving.{program_of_set, IsFewSet, IsSolved, IsWideInSet, HasSetCause}
 use Rattle.rob_dualize.specs.Refusals.{IsRefusedAt}
 use Rattle.rob_dualize.specs.Solving.{IsLastScenario, IsWideOnPath, CountsStop, HasCause}
 use Rattle.rob_dualize.proofs.MakingLemmas.{set_pairs}
 use Rattle.rob_dualize.proofs.RefusalLemmas.{refused_at}
+use Rattle.rob_dualize.proofs.SetProgramLemmas.{same_program}
 use Rattle.rob_dualize.proofs.SolvingLemmas.{scenario_found, weights_told}
 
 pub same_trans : (P Q R : Program) → AreSame P Q → AreSame Q R → AreSame P R

@@ -1,3 +1,4 @@
+pub mod SetProgram
 pub mod Wholes
 pub mod Numbers
 pub mod Ending

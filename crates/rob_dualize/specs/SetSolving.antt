@@ -13,12 +13,12 @@ use Rattle.rob_model.specs.declared.place.Program.TheVariants as program
 use Rattle.rob_model.specs.declared.plan.Scenario.{Scenario}
 use Rattle.rob_model.specs.View.{scenario_of}
 use Rattle.rob_sets.specs.SetForm.{IsSetForm, SetFits}
-use Rattle.rob_sets.specs.SetProgram.{robust_set}
 use Rattle.rob_sets.specs.declared.set_form.SetForm.{SetForm}
 use Rattle.rob_simplex.specs.Resuming.{CanResume}
 use Rattle.rob_simplex.specs.Solvers.{Solver, positions}
 use Rattle.rob_cert.specs.declared.ending.Stop.{Stop}
 use Rattle.rob_cert.specs.declared.ending.Stop.TheVariants.{EmptySet, Wide, Memory}
+use Rattle.rob_dualize.specs.SetProgram.{robust_set}
 use Rattle.rob_dualize.specs.Ending.{HasLastPoint}
 use Rattle.rob_dualize.specs.Refusals.{IsRefusedAt}
 use Rattle.rob_dualize.specs.Solving.{CountsAnswer, IsLastScenario, TellsEmpty}

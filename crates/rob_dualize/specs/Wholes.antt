@@ -7,7 +7,6 @@ use Rattle.rob_meaning.specs.RobustModel.{RobustModel}
 use Rattle.rob_meaning.specs.WellFormed.{IsModel}
 use Rattle.rob_model.specs.View.{sense_of}
 use Rattle.rob_sets.specs.SetForm.{IsSetForm}
-use Rattle.rob_sets.specs.SetProgram.{left_sides, right_sides}
 use Rattle.rob_sets.specs.declared.set_form.SetForm.{SetForm}
 use Rattle.rob_elab.specs.Elaborated.{AreElaborated}
 use Rattle.rob_elab.specs.Forms.{IsForms}
@@ -15,6 +14,7 @@ use Rattle.rob_elab.specs.declared.forms.Forms.{Forms}
 use Rattle.rob_counterpart.specs.RobustProgram.{RobustProgram}
 use Rattle.rob_counterpart.specs.Counterpart.{cell, sign_of}
 use Rattle.rob_counterpart.specs.Reform.{reform, tau_cost}
+use Rattle.rob_dualize.specs.SetProgram.{left_sides, right_sides}
 use Rattle.rob_dualize.specs.declared.elaborated.Elaborated.{Elaborated}
 
 -- the whole numbers of the forms and the set rows

@@ -12,11 +12,12 @@ ghost use Rattle.rob_dualize.specs.Solving.{IsNarrowModel};
 ghost use Rattle.rob_dualize.specs.Wholes.{counterpart_in, counterpart_of, FitsSolver, IsFew};
 
 use crate::elaborated::Elaborated;
+use crate::set_lp::set_lp;
 use rob_elab::Forms;
 use rob_narrow::{bound_of, greatest};
 use rob_number::{Exact, Memory};
 use rob_rows::{Lp, Rows};
-use rob_sets::{SetForm, set_lp};
+use rob_sets::SetForm;
 use std::alloc::Global;
 
 /// A program's size, and the bound that follows from it.

@@ -7,7 +7,7 @@ ghost use Rattle.rob_counterpart.specs.Counterpart.{cell};
 ghost use Rattle.rob_counterpart.specs.RobustProgram.{entry as entry_of};
 ghost use Rattle.rob_counterpart.specs.Splitting.{signed_entry as signed_entry_of};
 ghost use Rattle.rob_counterpart.specs.Reform.{plan_entry, multiplier_entry, right_entry, row_entry};
-ghost use Rattle.rob_sets.specs.SetProgram.{left_sides, right_sides};
+ghost use Rattle.rob_dualize.specs.SetProgram.{left_sides, right_sides};
 ghost use Rattle.rob_dualize.specs.Wholes.{wholes_in, cost_of, counterpart_in, IsFew, AreSound, IsSound};
 
 use crate::elaborated::Elaborated;

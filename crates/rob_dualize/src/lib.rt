@@ -13,6 +13,7 @@ mod model;
 pub mod reading;
 mod route;
 mod scenario;
+pub mod set_lp;
 pub mod set_program;
 pub mod stop;
 pub mod told;

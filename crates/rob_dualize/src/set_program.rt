@@ -15,12 +15,13 @@ ghost use Rattle.rob_dualize.specs.SetSolving.{program_of_set, HasSetCause, IsFe
 ghost use Rattle.rob_dualize.specs.Solving.{CountsAnswer};
 
 use crate::reading::pair_differences;
+use crate::set_lp::set_lp;
 use crate::stop::{position, wide};
 use crate::told::{point, weights};
 use rob_cert::Stop;
 use rob_model::Program;
 use rob_number::{Exact, Ledger, List, LpKind, Memory};
-use rob_sets::{SetForm, set_lp};
+use rob_sets::SetForm;
 use rob_solver::{Solved, Solver, Stopped, solve};
 use std::alloc::Global;
 

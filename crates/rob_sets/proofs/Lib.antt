@@ -21,14 +21,11 @@ pub mod PartedLemmas
 pub mod PrefixLemmas
 pub mod ProductLemmas
 pub mod ProductSums
-pub mod ProgramListLemmas
 pub mod ProgressLemmas
 pub mod RowLemmas
 pub mod RowSteps
 pub mod RuleLemmas
 pub mod RuleSteps
-pub mod SetEmptyLemmas
-pub mod SetProgramLemmas
 pub mod StatementLemmas
 pub mod StepLemmas
 pub mod StopLemmas

@@ -5,4 +5,3 @@ pub mod Stops
 pub mod Subexpressions
 pub mod Tables
 pub mod Tabulating
-pub mod SetProgram

@@ -11,12 +11,10 @@ pub mod line;
 pub mod row;
 pub mod set;
 pub mod set_form;
-pub mod set_program;
 pub mod table;
 
 pub use error::ElabErr;
 pub use expression::coefficients;
 pub use set::clear_set;
 pub use set_form::{SetForm, SetRow};
-pub use set_program::set_lp;
 pub use table::{Cell, Table};

@@ -19,13 +19,13 @@ use Rattle.rob_elab.specs.declared.forms.Forms.{Forms}
 use Rattle.rob_runs.specs.Cuts.{wholes}
 use Rattle.rob_runs.specs.Spots.{HasWidePrefix, cost_term}
 use Rattle.rob_runs.proofs.SumLemmas.{cost_is_number}
-use Rattle.rob_sets.specs.SetProgram.{in_pairs}
 use Rattle.rob_sets.proofs.RowLemmas.{tabulate-more}
-use Rattle.rob_sets.proofs.SetProgramLemmas.{in_pairs-push}
 use Rattle.std.specs.Prelude.{Option, Some, None, MatchOption}
 use Rattle.rob_model.specs.declared.place.Spot.TheVariants.{Sum}
 use Rattle.rob_model.specs.declared.place.Where.TheVariants.{Cost}
 use Rattle.rob_cert.specs.declared.ending.Stop.{Stop}
+use Rattle.rob_dualize.specs.SetProgram.{in_pairs}
+use Rattle.rob_dualize.proofs.SetProgramLemmas.{in_pairs-push}
 use Rattle.rob_worst.specs.Costs.{product_at, part_at, column_part, IsWidePart, StopsAtPart}
 use Rattle.rob_dualize.specs.Ending.{IsWideStop}
 

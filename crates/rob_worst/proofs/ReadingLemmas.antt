@@ -5,8 +5,8 @@ use Rattle.rob_number.specs.declared.lp_kind.LpKind.TheVariants as kind
 use Rattle.rob_simplex.specs.Solvers.{Solver, positions}
 use Rattle.rob_simplex.specs.Solutions.{point_of, ray_of}
 use Rattle.rob_counterpart.specs.Splitting.{plus, minus, OneIsZero}
-use Rattle.rob_sets.specs.SetProgram.{robust_set}
 use Rattle.rob_sets.specs.declared.set_form.SetForm.{SetForm}
+use Rattle.rob_dualize.specs.SetProgram.{robust_set}
 use Rattle.rob_dualize.specs.SetSolving.{program_of_set, IsFewSet}
 use Rattle.rob_worst.specs.Finders.{HasSearched}
 use Rattle.rob_worst.specs.Tasks.{FitsSet}

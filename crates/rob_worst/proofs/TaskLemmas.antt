@@ -20,8 +20,8 @@ use Rattle.rob_elab.specs.Forms.{IsForms}
 use Rattle.rob_elab.specs.declared.forms.Forms.{Forms}
 use Rattle.rob_runs.specs.Cuts.{wholes}
 use Rattle.rob_runs.specs.Spots.{cost_term}
-use Rattle.rob_sets.specs.SetProgram.{in_pairs}
-use Rattle.rob_sets.proofs.SetProgramLemmas.{at-plus, at-minus, length-in_pairs}
+use Rattle.rob_dualize.specs.SetProgram.{in_pairs}
+use Rattle.rob_dualize.proofs.SetProgramLemmas.{at-plus, at-minus, length-in_pairs}
 use Rattle.rob_worst.specs.Costs.{part_at, column_part}
 use Rattle.rob_worst.specs.Tasks.{FitsSet}
 use Rattle.rob_worst.specs.declared.task.Task.{Task}

@@ -13,7 +13,7 @@ use Rattle.rob_counterpart.specs.SetPrograms.{HasCost}
 use Rattle.rob_runs.specs.Cuts.{wholes}
 use Rattle.rob_runs.specs.Spots.{cost_term}
 use Rattle.rob_rows.specs.PrimitiveParts.{IsWithin}
-use Rattle.rob_sets.specs.SetProgram.{in_pairs}
+use Rattle.rob_dualize.specs.SetProgram.{in_pairs}
 use Rattle.rob_worst.specs.declared.task.Task.{Task}
 
 -- it can be put on a program of a set with so many columns: each parameter is one, and there is a cost for each set

@@ -2,7 +2,7 @@
 
 ghost use Rattle.std.specs.Prelude.{◌≡◌, ◌≤◌, ◌<◌, suc, nat_abs, length, MatchOption, MatchResult, ⊤};
 ghost use Rattle.rob_meaning.specs.Places.{Each, tabulate};
-ghost use Rattle.rob_sets.specs.SetProgram.{in_pairs};
+ghost use Rattle.rob_dualize.specs.SetProgram.{in_pairs};
 ghost use Rattle.rob_dualize.specs.Wholes.{AreSound};
 ghost use Rattle.rob_worst.specs.Costs.{part_at, column_part, IsWidePart, StopsAtPart};
 

@@ -1,9 +1,9 @@
 use Rattle.std.proofs.Common.{◌≤◌, refl, sym, subst, arith, nat_abs, ℤ, w64, to_z, of_z}
+use Rattle.rob_dualize.proofs.SetProgramLemmas.{negated_within}
 use lib.IntN.{neg_ℤ}
 use Rattle.rob_dualize.proofs.EntryLemmas.{seen_same}
 use Rattle.rob_cuts.proofs.MasterLemmas.{append_within}
 use Rattle.rob_cuts.proofs.master.append_cut.Goals as goal
-use Rattle.rob_sets.proofs.SetProgramLemmas.{negated_within}
 
 pub returns-in-Ok-clause-within : goal.returns-in-Ok-clause-within
 returns-in-Ok-clause-within g c =

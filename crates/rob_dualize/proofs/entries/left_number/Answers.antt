@@ -1,7 +1,7 @@
 use Rattle.std.proofs.Common.{rules, ◌≡◌, ◌<◌, length, arith, get_or}
 use lib.IntN.{pos}
 use Rattle.rob_counterpart.specs.Counterpart.{cell}
-use Rattle.rob_sets.specs.SetProgram.{left_sides}
+use Rattle.rob_dualize.specs.SetProgram.{left_sides}
 use Rattle.rob_dualize.proofs.EntryLemmas.{seen_as, small_as, left_count, left_number_is}
 use Rattle.rob_dualize.proofs.entries.left_number.Goals as goal
 

@@ -1,6 +1,6 @@
 use Rattle.std.proofs.Common.{[], get_or}
 use Rattle.rob_linear.specs.Vectors.{at}
-use Rattle.rob_sets.specs.SetProgram.{right_sides}
+use Rattle.rob_dualize.specs.SetProgram.{right_sides}
 use Rattle.rob_dualize.proofs.EntryLemmas.{seen_as, small_as, right_number_is}
 use Rattle.rob_dualize.proofs.entries.right_side_number.Goals as goal
 

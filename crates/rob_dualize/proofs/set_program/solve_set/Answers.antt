@@ -1,10 +1,10 @@
 use Rattle.rob_rows.specs.LinearPrograms.{program_of}
-use Rattle.rob_sets.proofs.SetProgramLemmas.{has_whole_rows}
 use Rattle.rob_solver.specs.Solving.{IsSolved}
 use Rattle.rob_dualize.specs.Ending.{IsSolvedAs}
 use Rattle.rob_dualize.specs.SetSolving.{program_of_set}
 use Rattle.rob_dualize.proofs.MakingLemmas.{ok_weaker, has_stopped}
 use Rattle.rob_dualize.proofs.SetLemmas.{fits_weaker, set_is_few, set_made}
+use Rattle.rob_dualize.proofs.SetProgramLemmas.{has_whole_rows}
 use Rattle.rob_dualize.proofs.set_program.solve_set.Goals as goal
 
 pub set_lp-requires-clause-whole : goal.set_lp-requires-clause-whole

@@ -1,6 +1,6 @@
 use Rattle.std.specs.Prelude.{◌≡◌, ◌≤◌, nat_abs}
 use Rattle.rob_meaning.specs.Places.{Each, tabulate}
-use Rattle.rob_sets.specs.SetProgram.{in_pairs}
+use Rattle.rob_dualize.specs.SetProgram.{in_pairs}
 use Rattle.rob_worst.specs.Costs.{column_part}
 use Rattle.rob_worst.proofs.cost.costs.Given as goal
 

@@ -11,10 +11,10 @@ use Rattle.rob_rows.specs.declared.program.Lp.{Lp}
 use Rattle.rob_counterpart.specs.Counterpart.{cell}
 use Rattle.rob_counterpart.specs.Splitting.{plus, minus}
 use Rattle.rob_sets.specs.SetForm.{SetFits, RowFits}
-use Rattle.rob_sets.specs.SetProgram.{HasWholeRows, IsOverRobust, robust_set, in_pairs, left_sides, right_sides}
 use Rattle.rob_sets.specs.declared.set_form.SetForm.{SetForm}
 use Rattle.rob_sets.specs.declared.set_form.SetRow.{SetRow}
-use Rattle.rob_sets.proofs.SetProgramLemmas.{at-plus, at-minus, length-in_pairs, negated_within, rights_within}
+use Rattle.rob_dualize.specs.SetProgram.{HasWholeRows, IsOverRobust, robust_set, in_pairs, left_sides, right_sides}
+use Rattle.rob_dualize.proofs.SetProgramLemmas.{at-plus, at-minus, length-in_pairs, negated_within, rights_within}
 
 pairs_within : (limit : ℕ) (xs : List ℤ) → Each (λ a. nat_abs a ≤ limit) xs
     → Each (λ a. nat_abs a ≤ limit) (in_pairs xs)

@@ -1,6 +1,6 @@
 use Rattle.std.specs.Prelude.{◌≡◌, take}
-use Rattle.rob_sets.specs.SetProgram.{in_pairs}
-use Rattle.rob_sets.proofs.set_program.pairs.Given as goal
+use Rattle.rob_dualize.specs.SetProgram.{in_pairs}
+use Rattle.rob_dualize.proofs.set_lp.pairs.Given as goal
 
 -- the numbers so far
 abbrev pub invariant-loop-number : goal.invariant-loop-number

@@ -15,13 +15,13 @@ ghost use Rattle.rob_meaning.specs.WellFormed.{IsModel};
 ghost use Rattle.rob_model.specs.Limits.{IsWithinLimits};
 ghost use Rattle.rob_rows.specs.LinearPrograms.{IsShaped, HasNumbersWithin, program_of};
 ghost use Rattle.rob_sets.specs.SetForm.{IsSetForm, SetFits};
-ghost use Rattle.rob_sets.specs.SetProgram.{HasWholeRows, IsOverRobust, robust_set, in_pairs, left_sides, right_sides};
 ghost use Rattle.rob_sets.specs.declared.set_form.SetForm.{SetForm};
 ghost use Rattle.rob_sets.specs.declared.set_form.SetRow.{SetRow};
+ghost use Rattle.rob_dualize.specs.SetProgram.{HasWholeRows, IsOverRobust, robust_set, in_pairs, left_sides, right_sides};
 
-use crate::set_form::{SetForm, SetRow};
 use rob_number::{List, Memory};
 use rob_rows::Lp;
+use rob_sets::{SetForm, SetRow};
 use std::alloc::{AllocError, Global};
 
 /// The program over the set rows with no cost: a row for each set row, in order, and two columns for each set column,

@@ -1,8 +1,8 @@
 use Rattle.std.proofs.Common.{◌∙◌, List, ap, map}
-use Rattle.rob_sets.specs.SetProgram.{in_pairs, left_sides, right_sides}
 use Rattle.rob_sets.specs.declared.set_form.SetRow.{SetRow}
-use Rattle.rob_sets.proofs.ProgramListLemmas.{is_over, is_shaped, is_within}
-use Rattle.rob_sets.proofs.set_program.set_lp.Goals as goal
+use Rattle.rob_dualize.specs.SetProgram.{in_pairs, left_sides, right_sides}
+use Rattle.rob_dualize.proofs.ProgramListLemmas.{is_over, is_shaped, is_within}
+use Rattle.rob_dualize.proofs.set_lp.set_lp.Goals as goal
 
 pub returns-clause-program : goal.returns-clause-program
 returns-clause-program c =

@@ -1,6 +1,6 @@
 use Rattle.std.specs.Prelude.{◌≡◌, take, map}
-use Rattle.rob_sets.specs.SetProgram.{in_pairs, left_sides}
-use Rattle.rob_sets.proofs.set_program.left_in_pairs.Given as goal
+use Rattle.rob_dualize.specs.SetProgram.{in_pairs, left_sides}
+use Rattle.rob_dualize.proofs.set_lp.left_in_pairs.Given as goal
 
 -- the rows so far
 abbrev pub invariant-loop-row : goal.invariant-loop-row

@@ -1,6 +1,6 @@
 use Rattle.std.specs.Prelude.{◌≡◌, take}
-use Rattle.rob_sets.specs.SetProgram.{right_sides}
-use Rattle.rob_sets.proofs.set_program.rights.Given as goal
+use Rattle.rob_dualize.specs.SetProgram.{right_sides}
+use Rattle.rob_dualize.proofs.set_lp.rights.Given as goal
 
 -- the rows so far
 abbrev pub invariant-loop-row : goal.invariant-loop-row

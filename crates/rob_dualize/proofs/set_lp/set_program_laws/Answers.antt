@@ -1,8 +1,8 @@
 use Rattle.rob_counterpart.specs.Counterpart.{set_program}
 use Rattle.rob_counterpart.specs.SamePrograms.{AreSame}
-use Rattle.rob_sets.proofs.SetEmptyLemmas.{empty_where_infeasible, infeasible_where_empty}
-use Rattle.rob_sets.proofs.SetProgramLemmas.{has_whole_rows, few, of_model, same_program}
-use Rattle.rob_sets.proofs.set_program.set_program_laws.Goals as goal
+use Rattle.rob_dualize.proofs.SetEmptyLemmas.{empty_where_infeasible, infeasible_where_empty}
+use Rattle.rob_dualize.proofs.SetProgramLemmas.{has_whole_rows, few, of_model, same_program}
+use Rattle.rob_dualize.proofs.set_lp.set_program_laws.Goals as goal
 
 pub returns-clause-whole : goal.returns-clause-whole
 returns-clause-whole c = has_whole_rows

@@ -2,8 +2,8 @@ use Rattle.std.proofs.Common.{◌<◌, ◌^◌, arith, get_or, to_z, of_z, w64}
 use lib.IntN.{pos, ◌-ℤ◌, nat_abs}
 use Rattle.rob_meaning.proofs.EachLemmas.{each_at}
 use Rattle.rob_number.proofs.CastLemmas.{seen, negated_seen}
-use Rattle.rob_sets.proofs.SetProgramLemmas.{pairs_more}
-use Rattle.rob_sets.proofs.set_program.pairs.Goals as goal
+use Rattle.rob_dualize.proofs.SetProgramLemmas.{pairs_more}
+use Rattle.rob_dualize.proofs.set_lp.pairs.Goals as goal
 
 pub loop-number-preserved : goal.loop-number-preserved
 loop-number-preserved c =

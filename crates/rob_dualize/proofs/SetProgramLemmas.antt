@@ -17,12 +17,12 @@ use Rattle.rob_counterpart.specs.SamePrograms.{AreSame}
 use Rattle.rob_counterpart.specs.Splitting.{plus, minus}
 use Rattle.rob_counterpart.proofs.SameSystems.{over_set_same}
 use Rattle.rob_sets.specs.SetForm.{IsSetForm, RowFits, cleared_row}
-use Rattle.rob_sets.specs.SetProgram.{HasWholeRows, IsOverRobust, robust_set, in_pairs, left_sides, right_sides}
 use Rattle.rob_sets.specs.declared.set_form.SetForm.{SetForm}
 use Rattle.rob_sets.specs.declared.set_form.SetRow.{SetRow}
 use Rattle.rob_sets.proofs.BoundRowLemmas.{bounds_many}
 use Rattle.rob_sets.proofs.StatementLemmas.{statements_many}
 use Rattle.rob_sets.proofs.ListLemmas.{take_one_more}
+use Rattle.rob_dualize.specs.SetProgram.{HasWholeRows, IsOverRobust, robust_set, in_pairs, left_sides, right_sides}
 
 -- ---- numbers in pairs
 
