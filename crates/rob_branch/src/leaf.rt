@@ -143,7 +143,7 @@ pub fn judge_leaf<N: Exact, L: Ledger>(
     ensures counted { CountsLeaf L.ops L.wides ledger.old ledger.new result }
 {
     match written(alloc, model, ledger) {
-        Ok((set, forms)) => judge_written(model, &forms, &set, claim, cert, ledger),
+        Ok((forms, set)) => judge_written(model, &forms, &set, claim, cert, ledger),
         Err(error) => refused(error),
     }
 }

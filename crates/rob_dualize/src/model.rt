@@ -33,7 +33,7 @@ pub fn solve_model<N: Exact, L: Ledger>(
     ensures counted { CountsModel L.ops L.wides ledger.old ledger.new result }
 {
     match written(alloc, model, ledger) {
-        Ok((set, forms)) => solve_dual(alloc, &forms, &set, ledger),
+        Ok((forms, set)) => solve_dual(alloc, &forms, &set, ledger),
         Err(error) => Err(refused(alloc, error)),
     }
 }

@@ -15,15 +15,15 @@ use rob_number::{Exact, Ledger};
 use rob_sets::{ElabErr, SetForm, clear_set};
 use std::alloc::Global;
 
-/// The set rows and the forms of a model. `Wide` names the first spot where a number is wide, that of a set row before
+/// The forms and the set rows of a model. `Wide` names the first spot where a number is wide, that of a set row before
 /// those of forms.
 pub fn written<N: Exact, L: Ledger>(
     alloc: Global,
     model: &Model<N>,
     ledger: &mut L,
-) -> Result<(SetForm, Forms), ElabErr>
+) -> Result<(Forms, SetForm), ElabErr>
     requires valid { IsValid N.value model.now }
-    ensures elaborated { IfOk result (λ both. IsElaborated N.limit (robust N.value model.now) both.1 both.0) }
+    ensures elaborated { IfOk result (λ both. IsElaborated N.limit (robust N.value model.now) both.0 both.1) }
     ensures written { OnOk result (IsWritten N.limit (robust N.value model.now)) }
     ensures cause { IfErr result (HasCause N.limit (robust N.value model.now) (judged (robust N.value model.now))) }
     ensures rose { IfErr result (RoseIfWide (L.wides ledger.old) (L.wides ledger.new)) }
@@ -34,7 +34,7 @@ pub fn written<N: Exact, L: Ledger>(
         Err(error) => return Err(error),
     };
     match elaborate(alloc, model, &set, ledger) {
-        Ok(forms) => Ok((set, forms)),
+        Ok(forms) => Ok((forms, set)),
         Err(error) => Err(error),
     }
 }

@@ -71,7 +71,7 @@ fn compare<N: Exact + Drop, L: Ledger>(
 {
     let model = generate::<N, L>(alloc, number, ledger)?;
     match written(alloc, &model, ledger) {
-        Ok((set, forms)) => {
+        Ok((forms, set)) => {
             let dual = line_by(alloc, &model, &forms, &set, Route::Dual, ledger)?;
             let cuts = line_by(alloc, &model, &forms, &set, Route::Cuts, ledger)?;
             summary(alloc, number, dual, cuts)

@@ -200,7 +200,7 @@ fn elaborated<N: Exact + Drop, L: Ledger>(
     ensures counted { L.wides ledger.old ≤ L.wides ledger.new }
 {
     match written(alloc, model, ledger) {
-        Ok((set, forms)) => on_forms(alloc, model, &forms, &set, line, texts, ledger),
+        Ok((forms, set)) => on_forms(alloc, model, &forms, &set, line, texts, ledger),
         Err(error) => not_elaborated(alloc, model, line.route, error),
     }
 }
