@@ -3,19 +3,16 @@ use Rattle.std.specs.Prelude.{◌≡◌, ℕ, suc, ◌<◌, ◌+◌, ℤ, List, 
 use Rattle.rob_algebra.specs.Fraction.{Fraction, of_int}
 use Rattle.rob_cert.specs.Shape.{HasShape}
 use Rattle.rob_cert.specs.View.{certificate_of, cover_of}
-use Rattle.rob_cert.specs.declared.certificate.Cert.{Cert}
 use Rattle.rob_elab.specs.Elaborated.{IsElaborated}
-use Rattle.rob_elab.specs.declared.forms.Forms.{Forms}
 use Rattle.rob_meaning.specs.Certificates as meaning
 use Rattle.rob_meaning.specs.Forms.{matrix_at, plan_vector}
 use Rattle.rob_meaning.specs.Places.{Each, at, InOrder}
 use Rattle.rob_model.specs.Valid.{IsValid}
 use Rattle.rob_model.specs.View.{robust}
-use Rattle.rob_model.specs.declared.model.Model.{Model}
-use Rattle.rob_sets.specs.declared.set_form.SetForm.{SetForm}
 use Rattle.rob_sets.specs.declared.set_form.SetRow.{SetRow}
 use Rattle.rob_check.specs.Conditions as conditions
 use Rattle.rob_check.specs.declared.covering.Covering.{Covering}
+use Rattle.rob_check.specs.declared.given.Given.{Given}
 use Rattle.rob_meaning.specs.Certificates.{IsBefore}
 
 -- what is covered, with its scale, its vector and its multipliers
@@ -56,9 +53,8 @@ row_entry row (Some k) = at (map of_int row.g) k
 row_entry row None = of_int row.h
 
 -- what the check is given: a model, its forms and its set rows, and a certificate of its shape
-pub record IsGiven {N : Type 0} (value : N → Fraction) (limit : ℕ) (model : Model N) (forms : Forms) (set : SetForm)
-    (cert : Cert N) : Type 0 where
-  pub valid : IsValid value model
-  pub elaborated : IsElaborated limit (robust value model) forms set
+pub record IsGiven {N : Type 0} (value : N → Fraction) (limit : ℕ) (given : Given N) : Type 0 where
+  pub valid : IsValid value given.model.now
+  pub elaborated : IsElaborated limit (robust value given.model.now) given.forms.now given.set.now
   pub open elaborated use *
-  pub shape : HasShape (robust value model) (certificate_of value cert)
+  pub shape : HasShape (robust value given.model.now) (certificate_of value given.cert.now)

@@ -11,6 +11,7 @@ ghost use Rattle.rob_meaning.specs.Proves.{HasStatus, IsTight, Proves};
 ghost use Rattle.rob_model.specs.Valid.{IsValid};
 ghost use Rattle.rob_model.specs.View.{robust};
 
+use crate::given::Given;
 use crate::order::check_all;
 use crate::verdict::Verdict;
 use rob_cert::Cert;
@@ -45,5 +46,13 @@ pub fn check<N: Exact, L: Ledger>(
         → IsTight (robust N.value model.now) (certificate_of N.value cert.now)) }
     ensures counted { Counted L.ops L.wides ledger.old ledger.new result }
 {
-    check_all(model, forms, set, cert, ledger)
+    check_all(
+        Given {
+            model,
+            forms,
+            set,
+            cert,
+        },
+        ledger,
+    )
 }

@@ -6,6 +6,7 @@ pub mod checker;
 pub mod columns;
 pub mod covering;
 pub mod covers;
+pub mod given;
 pub mod items;
 pub mod laws;
 pub mod order;

@@ -12,15 +12,15 @@ check_items-requires-clause-few g c =
     omega (
       arith,
       c.requires.given.shape.items.few,
-      length-map c.args.cert.now.items (item_of g.N.Exact.value),
+      length-map c.args.given.cert.now.items (item_of g.N.Exact.value),
       ap length c.items-in-Accepted.ensures.list,
     )
 
 pub returns-in-Accepted-clause-exact : goal.returns-in-Accepted-clause-exact
 returns-in-Accepted-clause-exact g c =
     let value = g.N.Exact.value in
-    let m = robust value c.args.model.now in
-    let cert = c.args.cert.now in
+    let m = robust value c.args.given.model.now in
+    let cert = c.args.given.cert.now in
     items_are value g.N.Exact.limit m c.items-in-Accepted.result.now cert.items _ c.items-in-Accepted.ensures.list
     c.check_items.ensures.exact
     ∙ goes (inside_tests g.N.Exact.limit m (map value cert.inside.values))
@@ -31,8 +31,8 @@ returns-in-Accepted-clause-exact g c =
 pub returns-in_default-clause-exact : goal.returns-in_default-clause-exact
 returns-in_default-clause-exact g c =
     let value = g.N.Exact.value in
-    let m = robust value c.args.model.now in
-    let cert = c.args.cert.now in
+    let m = robust value c.args.given.model.now in
+    let cert = c.args.given.cert.now in
     stops (inside_tests g.N.Exact.limit m (map value cert.inside.values))
     (items_tests g.N.Exact.limit m 0 (map (item_of value) cert.items))
     c.check_vector.result c.in_default.not-Accepted

@@ -9,22 +9,22 @@ use Rattle.rob_check.proofs.order.check_optimal.Goals as goal
 
 pub returns-then-not-is_positive-clause-exact : goal.returns-then-not-is_positive-clause-exact
 returns-then-not-is_positive-clause-exact g c =
-    sign_fails At.Scale (is_positive (g.N.Exact.value c.args.cert.now.scale)) _ c.if-not-is_positive.ensures.test
+    sign_fails At.Scale (is_positive (g.N.Exact.value c.args.given.cert.now.scale)) _ c.if-not-is_positive.ensures.test
 
 pub returns-in-Accepted-clause-exact : goal.returns-in-Accepted-clause-exact
 returns-in-Accepted-clause-exact g c =
     let value = g.N.Exact.value in
-    let m = robust value c.args.model.now in
-    let cert = certificate_of value c.args.cert.now in
+    let m = robust value c.args.given.model.now in
+    let cert = certificate_of value c.args.given.cert.now in
     c.check_optimum.ensures.exact
     ∙ goes (base_tests g.N.Exact.limit m cert) (optimum_tests g.N.Exact.limit m cert) c.in-Accepted.ensures.exact
-    ∙ sign_holds At.Scale (is_positive (value c.args.cert.now.scale)) _ c.if-not-is_positive.ensures.test
+    ∙ sign_holds At.Scale (is_positive (value c.args.given.cert.now.scale)) _ c.if-not-is_positive.ensures.test
 
 pub returns-in_default-clause-exact : goal.returns-in_default-clause-exact
 returns-in_default-clause-exact g c =
     let value = g.N.Exact.value in
-    let m = robust value c.args.model.now in
-    let cert = certificate_of value c.args.cert.now in
+    let m = robust value c.args.given.model.now in
+    let cert = certificate_of value c.args.given.cert.now in
     stops (base_tests g.N.Exact.limit m cert) (optimum_tests g.N.Exact.limit m cert) c.check_base.result
     c.in_default.not-Accepted c.check_base.ensures.exact
-    ∙ sign_holds At.Scale (is_positive (value c.args.cert.now.scale)) _ c.if-not-is_positive.ensures.test
+    ∙ sign_holds At.Scale (is_positive (value c.args.given.cert.now.scale)) _ c.if-not-is_positive.ensures.test

@@ -13,27 +13,28 @@ use Rattle.rob_check.proofs.order.check_step.Goals as goal
 pub check_covers-requires : goal.check_covers-requires
 check_covers-requires g c =
     let value = g.N.Exact.value in
-    let m = robust value c.args.model.now in
+    let m = robust value c.args.given.model.now in
     let given = c.requires.given in
     record {
       fits = given.forms_fit;
-      columns = each_columns m c.args.forms.now given.are_forms (length c.items.result.now)
+      columns = each_columns m c.args.given.forms.now given.are_forms (length c.items.result.now)
           (ap length c.items.ensures.list ∙ c.requires.columns);
       set_fits = given.set_fits;
       covers = subst (λ (cs : List (program.Cover g.row.N.Denot)).
-          AreOrdered (length c.args.set.now.rows) (map (cover_of value) cs)) (sym c.items-2.ensures.list)
-          (ordered m c.args.set.now given.is_set (map (cover_of value) c.args.cert.now.holds) given.shape.holds);
-      few = few_columns m c.args.set.now given.is_set given.valid.limits;
-      few_forms = few_forms m c.args.forms.now given.are_forms given.valid.limits;
+          AreOrdered (length c.args.given.set.now.rows) (map (cover_of value) cs)) (sym c.items-2.ensures.list)
+          (ordered m c.args.given.set.now given.is_set (map (cover_of value) c.args.given.cert.now.holds)
+          given.shape.holds);
+      few = few_columns m c.args.given.set.now given.is_set given.valid.limits;
+      few_forms = few_forms m c.args.given.forms.now given.are_forms given.valid.limits;
     }
 
 pub returns-clause-exact : goal.returns-clause-exact
 returns-clause-exact g c =
     let value = g.N.Exact.value in
-    let m = robust value c.args.model.now in
+    let m = robust value c.args.given.model.now in
     let given = c.requires.given in
-    let cert = c.args.cert.now in
-    covers_are value g.N.Exact.limit m c.args.forms.now given.are_forms c.args.set.now given.is_set _
+    let cert = c.args.given.cert.now in
+    covers_are value g.N.Exact.limit m c.args.given.forms.now given.are_forms c.args.given.set.now given.is_set _
     (step_covering (certificate_of value cert)) _
     (same_covering value Step (value c.one-scale.result) 1ℚ (value c.zero-first.result) 0ℚ (value cert.step_bound)
     c.items.result.now cert.step c.items-2.result.now cert.holds
