@@ -57,7 +57,8 @@ fn check_leaf<N: Exact, L: Ledger>(
     requires valid { IsValid N.value area.model.now }
     requires shape { HasShape (robust N.value area.model.now) (certificate_of N.value cert.now) }
     requires few { number + 1 < 2 ^ 32 }
-    ensures passed { IfOk result (IsPassedNode N.limit (status_of claim.status) (N.value claim.value)
+    ensures passed { IfOk result (IsPassedNode N.limit (status_of claim.status)
+        (N.value claim.value)
         (robust N.value area.entry.model.now) (leaf (certificate_of N.value cert.now)) number) }
     ensures stopped { IfErr result (Stops N.limit (status_of claim.status) (N.value claim.value)
         (robust N.value area.entry.model.now) (map branch_of area.entry.path.now)
@@ -83,13 +84,16 @@ fn check_node<N: Exact, L: Ledger>(
 ) -> Result<u32, TreeVerdict>
     requires valid { IsValid N.value area.model.now }
     requires bounded { KeepsBothBounds (robust N.value area.model.now) area.names.now }
-    requires node { IsBoxNode N.limit (robust N.value area.model.now) area.names.now (node_of N.value node.now) }
+    requires node { IsBoxNode N.limit (robust N.value area.model.now) area.names.now
+        (node_of N.value node.now) }
     requires few { progress.number + leaf_count (node_of N.value node.now) < 2 ^ 32 }
-    ensures passed { IfOk result (IsPassedNode N.limit (status_of progress.claim.status) (N.value progress.claim.value)
+    ensures passed { IfOk result (IsPassedNode N.limit (status_of progress.claim.status)
+        (N.value progress.claim.value)
         (robust N.value area.entry.model.now) (node_of N.value node.now) progress.number) }
-    ensures stopped { IfErr result (Stops N.limit (status_of progress.claim.status) (N.value progress.claim.value)
-        (robust N.value area.entry.model.now) (map branch_of area.entry.path.now) (node_of N.value node.now)
-        progress.number) }
+    ensures stopped { IfErr result (Stops N.limit (status_of progress.claim.status)
+        (N.value progress.claim.value)
+        (robust N.value area.entry.model.now) (map branch_of area.entry.path.now)
+        (node_of N.value node.now) progress.number) }
     ensures counted { CountsCheck L.ops L.wides ledger.old ledger.new result }
 {
     match node {
@@ -126,15 +130,19 @@ fn check_side<N: Exact, L: Ledger>(
     requires bounded { KeepsBothBounds (robust N.value area.model.now) area.names.now }
     requires named { IsIn branch.column area.names.now }
     requires within { nat_abs branch.k ≤ N.limit }
-    requires node { IsBoxNode N.limit (boxes.behind (robust N.value area.model.now) (branch_of branch)) area.names.now
+    requires node { IsBoxNode N.limit
+        (boxes.behind (robust N.value area.model.now) (branch_of branch)) area.names.now
         (node_of N.value node.now) }
     requires few { progress.number + leaf_count (node_of N.value node.now) < 2 ^ 32 }
-    ensures passed { IfOk result (IsPassedNode N.limit (status_of progress.claim.status) (N.value progress.claim.value)
-        (boxes.behind (robust N.value area.entry.model.now) (branch_of branch)) (node_of N.value node.now)
-        progress.number) }
-    ensures stopped { IfErr result (Stops N.limit (status_of progress.claim.status) (N.value progress.claim.value)
+    ensures passed { IfOk result (IsPassedNode N.limit (status_of progress.claim.status)
+        (N.value progress.claim.value)
         (boxes.behind (robust N.value area.entry.model.now) (branch_of branch))
-        (map branch_of area.entry.path.now ++ branch_of branch ∷ []) (node_of N.value node.now) progress.number) }
+        (node_of N.value node.now) progress.number) }
+    ensures stopped { IfErr result (Stops N.limit (status_of progress.claim.status)
+        (N.value progress.claim.value)
+        (boxes.behind (robust N.value area.entry.model.now) (branch_of branch))
+        (map branch_of area.entry.path.now ++ branch_of branch ∷ [])
+        (node_of N.value node.now) progress.number) }
     ensures counted { CountsCheck L.ops L.wides ledger.old ledger.new result }
 {
     let model = match behind(alloc, area.model, branch) {
@@ -157,7 +165,8 @@ fn check_side<N: Exact, L: Ledger>(
 fn check_best<N: Exact>(claim: Claim<N>, names: &[u32], best: u32, root: &Node<N>) -> TreeVerdict
     requires shows { status_of claim.status ≢ infeasible }
     requires best { (0 < best) × (best ≤ leaf_count (node_of N.value root.now)) }
-    ensures ended { (m : RobustModel) → Ends (status_of claim.status) names.now (N.value claim.value) best
+    ensures ended { (m : RobustModel)
+        → Ends (status_of claim.status) names.now (N.value claim.value) best
         (leaves m (node_of N.value root.now)) result }
 {
     match leaf_of(root, best) {
@@ -172,8 +181,10 @@ fn check_best<N: Exact>(claim: Claim<N>, names: &[u32], best: u32, root: &Node<N
 
 /// The verdict where all leaves are passed: in an infeasible tree no leaf is to show the status.
 fn last_verdict<N: Exact>(claim: Claim<N>, names: &[u32], best: u32, root: &Node<N>) -> TreeVerdict
-    requires best { KeepsBest (status_of claim.status) best (leaf_count (node_of N.value root.now)) }
-    ensures ended { (m : RobustModel) → Ends (status_of claim.status) names.now (N.value claim.value) best
+    requires best { KeepsBest (status_of claim.status) best
+        (leaf_count (node_of N.value root.now)) }
+    ensures ended { (m : RobustModel)
+        → Ends (status_of claim.status) names.now (N.value claim.value) best
         (leaves m (node_of N.value root.now)) result }
 {
     match claim.status {
@@ -199,9 +210,11 @@ pub fn check_tree<N: Exact, L: Ledger>(
 ) -> TreeVerdict
     requires valid { IsValid N.value model.now }
     requires rule { whole_rule (robust N.value model.now) names.now ≡ None }
-    requires shape { HasTreeShape N.limit (robust N.value model.now) names.now (tree_of N.value tree.now) }
+    requires shape { HasTreeShape N.limit (robust N.value model.now) names.now
+        (tree_of N.value tree.now) }
     // The first condition that fails or is wide decides: accepted, the tree proves, and no number is wide.
-    ensures verdict { IsVerdict N.limit (robust N.value model.now) names.now (tree_of N.value tree.now) result }
+    ensures verdict { IsVerdict N.limit (robust N.value model.now) names.now
+        (tree_of N.value tree.now) result }
     // No other verdict is the tree's, but for want of memory: so one that proves, with no wide number, is accepted.
     ensures exact { (v : TreeVerdict) → IsVerdict N.limit (robust N.value model.now) names.now
         (tree_of N.value tree.now) v → (result ≡ v) ⊎ (result ≡ Is.Memory) ⊎ (v ≡ Is.Memory) }

@@ -72,11 +72,13 @@ fn grow<N: Exact, L: Ledger>(
 ) -> Result<Grown<N>, TreeStop>
     requires valid { IsValid N.value area.model.now }
     requires bounded { KeepsBothBounds (robust N.value area.model.now) area.names.now }
-    requires few { before.count + product_of_ranges (robust N.value area.model.now).variables area.names.now ≤ 1000 }
+    requires few { before.count
+        + product_of_ranges (robust N.value area.model.now).variables area.names.now ≤ 1000 }
     requires admitted { HasScenario (robust N.value area.model.now) }
-    ensures grown { IfOk result (IsGrownTo N.value N.limit (robust N.value area.entry.model.now) area.entry.names.now
-        (search_of N.value before)) }
-    ensures cause { IfErr result (HasCauseBehind N.limit (robust N.value area.entry.model.now) area.entry.names.now
+    ensures grown { IfOk result (IsGrownTo N.value N.limit
+        (robust N.value area.entry.model.now) area.entry.names.now (search_of N.value before)) }
+    ensures cause { IfErr result (HasCauseBehind N.limit
+        (robust N.value area.entry.model.now) area.entry.names.now
         (search_of N.value before) (map branch_of area.entry.path.now)) }
     ensures counted { CountsGrowth L.ops L.wides ledger.old ledger.new result }
 {
@@ -103,14 +105,16 @@ fn grow_from<N: Exact, L: Ledger>(
 ) -> Result<Grown<N>, TreeStop>
     requires valid { IsValid N.value area.model.now }
     requires bounded { KeepsBothBounds (robust N.value area.model.now) area.names.now }
-    requires few { before.count + product_of_ranges (robust N.value area.model.now).variables area.names.now ≤ 1000 }
+    requires few { before.count
+        + product_of_ranges (robust N.value area.model.now).variables area.names.now ≤ 1000 }
     requires going { before.endless ≡ None }
     requires proves { Proves (robust N.value area.model.now) (certificate_of N.value cert) }
     requires shape { HasShape (robust N.value area.model.now) (certificate_of N.value cert) }
     requires written { IsWritten N.limit (robust N.value area.model.now) }
-    ensures grown { IfOk result (IsGrownTo N.value N.limit (robust N.value area.entry.model.now) area.entry.names.now
-        (search_of N.value before)) }
-    ensures cause { IfErr result (HasCauseBehind N.limit (robust N.value area.entry.model.now) area.entry.names.now
+    ensures grown { IfOk result (IsGrownTo N.value N.limit
+        (robust N.value area.entry.model.now) area.entry.names.now (search_of N.value before)) }
+    ensures cause { IfErr result (HasCauseBehind N.limit
+        (robust N.value area.entry.model.now) area.entry.names.now
         (search_of N.value before) (map branch_of area.entry.path.now)) }
     ensures counted { CountsGrowth L.ops L.wides ledger.old ledger.new result }
 {
@@ -135,14 +139,17 @@ fn grow_branch<N: Exact, L: Ledger>(
 ) -> Result<Grown<N>, TreeStop>
     requires valid { IsValid N.value area.model.now }
     requires bounded { KeepsBothBounds (robust N.value area.model.now) area.names.now }
-    requires few { before.count + product_of_ranges (robust N.value area.model.now).variables area.names.now ≤ 1000 }
-    requires decides { (c : Certificate) × growing.Decides (robust N.value area.model.now) area.names.now
+    requires few { before.count
+        + product_of_ranges (robust N.value area.model.now).variables area.names.now ≤ 1000 }
+    requires decides { (c : Certificate)
+        × growing.Decides (robust N.value area.model.now) area.names.now
         (search_of N.value before) c (growing.branches column k) }
     requires within { (nat_abs k ≤ N.limit) × (k ≢ pos N.limit) }
     requires written { IsWritten N.limit (robust N.value area.model.now) }
-    ensures grown { IfOk result (IsGrownTo N.value N.limit (robust N.value area.entry.model.now) area.entry.names.now
-        (search_of N.value before)) }
-    ensures cause { IfErr result (HasCauseBehind N.limit (robust N.value area.entry.model.now) area.entry.names.now
+    ensures grown { IfOk result (IsGrownTo N.value N.limit
+        (robust N.value area.entry.model.now) area.entry.names.now (search_of N.value before)) }
+    ensures cause { IfErr result (HasCauseBehind N.limit
+        (robust N.value area.entry.model.now) area.entry.names.now
         (search_of N.value before) (map branch_of area.entry.path.now)) }
     ensures counted { CountsGrowth L.ops L.wides ledger.old ledger.new result }
 {
@@ -166,7 +173,8 @@ fn joined<N: Exact>(
     above: Grown<N>,
 ) -> Result<Grown<N>, TreeStop>
     ensures joined { IfOk result (λ grown. (grown.after ≡ above.after)
-        × (node_of N.value grown.node ≡ trees.split column k (node_of N.value below) (node_of N.value above.node))) }
+        × (node_of N.value grown.node
+        ≡ trees.split column k (node_of N.value below) (node_of N.value above.node))) }
     ensures memory { IfErr result (λ stop. stop ≡ Refused.Memory) }
 {
     let node = split_node(alloc, column, k, below, above.node)?;
@@ -188,10 +196,12 @@ fn grow_side<N: Exact, L: Ledger>(
     requires valid { IsValid N.value area.model.now }
     requires bounded { KeepsBothBounds (robust N.value area.model.now) area.names.now }
     requires admitted { HasScenario (robust N.value area.model.now) }
-    requires allowed { growing.IsAllowed (robust N.value area.model.now) area.names.now (branch_of branch) }
+    requires allowed { growing.IsAllowed (robust N.value area.model.now) area.names.now
+        (branch_of branch) }
     requires within { nat_abs branch.k ≤ N.limit }
     requires few { before.count
-        + product_of_ranges (boxes.behind (robust N.value area.model.now) (branch_of branch)).variables area.names.now
+        + product_of_ranges
+        (boxes.behind (robust N.value area.model.now) (branch_of branch)).variables area.names.now
         ≤ 1000 }
     ensures grown { IfOk result (IsGrownTo N.value N.limit
         (boxes.behind (robust N.value area.entry.model.now) (branch_of branch)) area.entry.names.now
@@ -266,12 +276,14 @@ pub fn grow_tree<N: Exact, L: Ledger>(
 ) -> Result<Tree<N>, TreeStop>
     requires valid { IsValid N.value model.now }
     // The tree is what the model grows into; so it proves, and its status is true over plans with whole numbers.
-    ensures grown { IfOk result (λ tree. growing.IsGrown (robust N.value model.now) names.now (tree_of N.value tree)) }
+    ensures grown { IfOk result (λ tree. growing.IsGrown (robust N.value model.now) names.now
+        (tree_of N.value tree)) }
     ensures true_of { IfOk result (λ tree. HasWholeStatus (robust N.value model.now) names.now
         (tree_of N.value tree).status (tree_of N.value tree).value) }
     ensures shape { IfOk result (λ tree. HasTreeShape N.limit (robust N.value model.now) names.now
         (tree_of N.value tree)) }
-    ensures fits { IfOk result (λ tree. TreeFits N.limit (robust N.value model.now) (tree_of N.value tree)) }
+    ensures fits { IfOk result (λ tree. TreeFits N.limit (robust N.value model.now)
+        (tree_of N.value tree)) }
     // A tree comes only where nothing is wide when the model, and each box of the tree that isn't left open, is
     // written in whole numbers.
     ensures written { OnOk result (IsWritten N.limit (robust N.value model.now)) }
@@ -300,12 +312,14 @@ fn grow_root<N: Exact, L: Ledger>(
 ) -> Result<Tree<N>, TreeStop>
     requires valid { IsValid N.value model.now }
     requires kept { first_rule (robust N.value model.now) names.now ≡ None }
-    ensures grown { IfOk result (λ tree. growing.IsGrown (robust N.value model.now) names.now (tree_of N.value tree)) }
+    ensures grown { IfOk result (λ tree. growing.IsGrown (robust N.value model.now) names.now
+        (tree_of N.value tree)) }
     ensures true_of { IfOk result (λ tree. HasWholeStatus (robust N.value model.now) names.now
         (tree_of N.value tree).status (tree_of N.value tree).value) }
     ensures shape { IfOk result (λ tree. HasTreeShape N.limit (robust N.value model.now) names.now
         (tree_of N.value tree)) }
-    ensures fits { IfOk result (λ tree. TreeFits N.limit (robust N.value model.now) (tree_of N.value tree)) }
+    ensures fits { IfOk result (λ tree. TreeFits N.limit (robust N.value model.now)
+        (tree_of N.value tree)) }
     ensures written { OnOk result (IsWritten N.limit (robust N.value model.now)) }
     ensures boxes { IfOk result (λ tree. AreBoxesWritten N.limit (robust N.value model.now)
         (tree_of N.value tree).root) }

@@ -16,15 +16,17 @@ ghost use Rattle.rob_branch.specs.Verdicts.{IsVerdict};
 /// A tree that has grown is read again from its text, at any width.
 pub fn grown_text_laws()
     // Where no name has a space or a line's end, the text of a tree that has grown, whose numbers fit, is read as it.
-    ensures read_again { (m : RobustModel) (limit : ℕ) (names : List ℕ) → IsModel m → IsNamed m → IsNamedInWords m
-        → limit ≤ 2 ^ 62 - 1 → whole_rule m names ≡ None → (t : Tree) → IsGrownWithin limit m names t
-        → IsReadAgain limit m names t }
+    ensures read_again { (m : RobustModel) (limit : ℕ) (names : List ℕ) → IsModel m → IsNamed m
+        → IsNamedInWords m
+        → limit ≤ 2 ^ 62 - 1 → whole_rule m names ≡ None → (t : Tree)
+        → IsGrownWithin limit m names t → IsReadAgain limit m names t }
 {}
 
 /// A tree has at most one verdict, want of memory aside.
 pub fn verdict_laws()
     // Two verdicts on a tree are the same, or one of them is want of memory.
-    ensures one { (limit : ℕ) (m : RobustModel) (names : List ℕ) (t : Tree) → IsModel m → HasTreeShape limit m names t
+    ensures one { (limit : ℕ) (m : RobustModel) (names : List ℕ) (t : Tree) → IsModel m
+        → HasTreeShape limit m names t
         → (v w : TreeVerdict) → IsVerdict limit m names t v → IsVerdict limit m names t w
         → (w ≡ v) ⊎ (w ≡ Memory) ⊎ (v ≡ Memory) }
 {}

@@ -117,8 +117,8 @@ fn judge_written<N: Exact, L: Ledger>(
     requires elaborated { IsElaborated N.limit (robust N.value model.now) forms.now set.now }
     requires none_wide { IsWritten N.limit (robust N.value model.now) }
     requires shape { HasShape (robust N.value model.now) (certificate_of N.value cert.now) }
-    ensures judged { IsLeafJudged N.limit (status_of claim.status) (N.value claim.value) (robust N.value model.now)
-        (certificate_of N.value cert.now) result }
+    ensures judged { IsLeafJudged N.limit (status_of claim.status) (N.value claim.value)
+        (robust N.value model.now) (certificate_of N.value cert.now) result }
     ensures counted { CountsLeaf L.ops L.wides ledger.old ledger.new result }
 {
     match check(model, forms, set, cert, ledger) {
@@ -138,8 +138,8 @@ pub fn judge_leaf<N: Exact, L: Ledger>(
 ) -> LeafCheck
     requires valid { IsValid N.value model.now }
     requires shape { HasShape (robust N.value model.now) (certificate_of N.value cert.now) }
-    ensures judged { IsLeafJudged N.limit (status_of claim.status) (N.value claim.value) (robust N.value model.now)
-        (certificate_of N.value cert.now) result }
+    ensures judged { IsLeafJudged N.limit (status_of claim.status) (N.value claim.value)
+        (robust N.value model.now) (certificate_of N.value cert.now) result }
     ensures counted { CountsLeaf L.ops L.wides ledger.old ledger.new result }
 {
     match written(alloc, model, ledger) {

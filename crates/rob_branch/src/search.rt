@@ -57,7 +57,8 @@ pub fn counted<N: Exact>(search: Search<N>) -> Search<N>
 /// One leaf more, whose whole plan is the best so far.
 fn improved<N: Exact>(search: Search<N>, value: N) -> Search<N>
     requires few { search.count < 1000 }
-    ensures search { search_of N.value result ≡ growing.improved (search_of N.value search) (N.value value) }
+    ensures search { search_of N.value result
+        ≡ growing.improved (search_of N.value search) (N.value value) }
 {
     let number = search.count + 1;
     Search {
@@ -82,7 +83,8 @@ fn shown_endless<N: Exact>(search: Search<N>) -> Search<N>
 
 /// Whether an optimum is no better than the best whole plan so far.
 fn is_beaten<N: Exact>(sense: Sense, best: Option<Best<N>>, value: N) -> bool
-    ensures test { result ≡ growing.is_beaten (sense_of sense) (option_map (best_of N.value) best) (N.value value) }
+    ensures test { result ≡ growing.is_beaten (sense_of sense) (option_map (best_of N.value) best)
+        (N.value value) }
 {
     match best {
         None => false,
@@ -126,7 +128,8 @@ fn of_optimum<N: Exact>(
     requires few { search.count < 1000 }
     ensures outcome { outcome_of N.value result ≡ growing.outcome_by (search_of N.value search)
         (certificate_of N.value cert.now) optimal
-        (growing.is_beaten (sense_of sense) (search_of N.value search).best (N.value cert.now.value))
+        (growing.is_beaten (sense_of sense) (search_of N.value search).best
+        (N.value cert.now.value))
         (growing.first_broken names.now (map N.value cert.now.plan)) }
     ensures within { BranchesWithin N.limit (outcome_of N.value result) }
 {
@@ -142,7 +145,8 @@ fn of_optimum<N: Exact>(
 /// What comes of a box that is unbounded: a leaf that shows the model to be so where its plan is whole, else a branch.
 fn of_ray<N: Exact>(names: &[u32], search: Search<N>, cert: &Cert<N>) -> Outcome<N>
     requires few { search.count < 1000 }
-    ensures outcome { (beaten : Bool) → outcome_of N.value result ≡ growing.outcome_by (search_of N.value search)
+    ensures outcome { (beaten : Bool)
+        → outcome_of N.value result ≡ growing.outcome_by (search_of N.value search)
         (certificate_of N.value cert.now) unbounded beaten
         (growing.first_broken names.now (map N.value cert.now.plan)) }
     ensures within { BranchesWithin N.limit (outcome_of N.value result) }
@@ -163,7 +167,8 @@ pub fn comes_of<N: Exact>(
 ) -> Outcome<N>
     requires few { search.count < 1000 }
     ensures outcome { outcome_of N.value result
-        ≡ growing.outcome names.now (sense_of sense) (search_of N.value search) (certificate_of N.value cert.now) }
+        ≡ growing.outcome names.now (sense_of sense) (search_of N.value search)
+        (certificate_of N.value cert.now) }
     // K and K + 1 are within the limit.
     ensures within { BranchesWithin N.limit (outcome_of N.value result) }
 {

@@ -35,11 +35,14 @@ pub fn check<N: Exact, L: Ledger>(
     requires elaborated { IsElaborated N.limit (robust N.value model.now) forms.now set.now }
     requires shape { HasShape (robust N.value model.now) (certificate_of N.value cert.now) }
     // The first condition that fails or is wide decides.
-    ensures exact { result ≡ verdict_of N.limit (robust N.value model.now) (certificate_of N.value cert.now) }
+    ensures exact { result ≡ verdict_of N.limit (robust N.value model.now)
+        (certificate_of N.value cert.now) }
     // Accepted, the certificate proves what it claims; rejected, it doesn't.
-    ensures proves { Judges (Proves (robust N.value model.now) (certificate_of N.value cert.now)) result }
+    ensures proves { Judges (Proves (robust N.value model.now) (certificate_of N.value cert.now))
+        result }
     // So the model has the status that an accepted certificate claims, with its value.
-    ensures true_of { OnAccepted result (HasStatus (robust N.value model.now) (certificate_of N.value cert.now).status
+    ensures true_of { OnAccepted result
+        (HasStatus (robust N.value model.now) (certificate_of N.value cert.now).status
         (certificate_of N.value cert.now).value) }
     // At the plan of an accepted optimal certificate each item's form is exactly 0.
     ensures tight { OnAccepted result ((certificate_of N.value cert.now).status ≡ optimal

@@ -62,7 +62,8 @@ fn is_asked_sum<N: Exact, L: Ledger>(
 ) -> bool
     requires few { forms.now.columns ≤ most_columns }
     ensures test { result
-        ≡ is_asked (sense_of forms.now.sense) forms.now.columns (option_map N.value value) column (N.value sum) }
+        ≡ is_asked (sense_of forms.now.sense) forms.now.columns (option_map N.value value) column
+        (N.value sum) }
     ensures counted { NeverFell L.ops L.wides ledger.old ledger.new }
 {
     match value {
@@ -91,7 +92,8 @@ fn sum_holds<N: Exact, L: Ledger>(
     requires fits { FormsFit N.limit forms.now }
     requires few { forms.now.columns ≤ most_columns }
     requires items { Each (TakesForm forms.now.matrices) (map (item_of N.value) items.now) }
-    ensures exact { result_ok result ≡ (sum_test N.limit forms.now.matrices (sense_of forms.now.sense) forms.now.columns
+    ensures exact { result_ok result
+        ≡ (sum_test N.limit forms.now.matrices (sense_of forms.now.sense) forms.now.columns
         (option_map N.value value) (map (item_of N.value) items.now) column).holds }
     ensures told { Told (L.wides ledger.old) (L.wides ledger.new) result }
     ensures counted { NeverFell L.ops L.wides ledger.old ledger.new }
@@ -110,7 +112,8 @@ pub fn check_sums<N: Exact, L: Ledger>(
     requires fits { FormsFit N.limit forms.now }
     requires few { forms.now.columns ≤ most_columns }
     requires items { Each (TakesForm forms.now.matrices) (map (item_of N.value) items.now) }
-    ensures exact { result ≡ verdict (sum_tests N.limit forms.now.matrices (sense_of forms.now.sense) forms.now.columns
+    ensures exact { result ≡ verdict
+        (sum_tests N.limit forms.now.matrices (sense_of forms.now.sense) forms.now.columns
         (option_map N.value value) (map (item_of N.value) items.now)) }
     ensures counted { Counted L.ops L.wides ledger.old ledger.new result }
 {

@@ -57,7 +57,8 @@ fn add_row<N: Exact, L: Ledger>(
 ) -> Result<N, Wide>
     requires fits { RowFits N.limit row.now }
     ensures exact { answer N.value result
-        ≡ with_part N.limit (N.value so_far) (kept N.limit (N.value amount *ℚ row_entry row.now column)) }
+        ≡ with_part N.limit (N.value so_far)
+        (kept N.limit (N.value amount *ℚ row_entry row.now column)) }
     ensures told { Told (L.wides ledger.old) (L.wides ledger.new) result }
     ensures counted { NeverFell L.ops L.wides ledger.old ledger.new }
 {
@@ -77,7 +78,8 @@ fn rows_sum<N: Exact, L: Ledger>(
     requires fits { SetFits N.limit set.now }
     requires rows { NameRows (length set.now.rows) (map (cover_of N.value) mine.now) }
     ensures exact { answer N.value result
-        ≡ rows_within N.limit (map (cover_of N.value) mine.now) (numbers_in (lifted_of set.now) column) }
+        ≡ rows_within N.limit (map (cover_of N.value) mine.now)
+        (numbers_in (lifted_of set.now) column) }
     ensures told { Told (L.wides ledger.old) (L.wides ledger.new) result }
     ensures counted { NeverFell L.ops L.wides ledger.old ledger.new }
 {
@@ -188,7 +190,8 @@ fn constant_holds<N: Exact, L: Ledger>(
 /// The verdict on the signs of a form's multipliers.
 fn check_signs<N: Exact>(index: u32, covering: &Covering<'_, N>, mine: &[Cover<N>]) -> Verdict
     ensures exact { result
-        ≡ verdict (map (sign_test (covering_of N.value covering.now) index) (map (cover_of N.value) mine.now)) }
+        ≡ verdict (map (sign_test (covering_of N.value covering.now) index)
+        (map (cover_of N.value) mine.now)) }
     ensures rose { (count : ℕ) → RoseIfWide count count result }
 {
     for cover in mine {
@@ -213,7 +216,8 @@ fn check_columns<N: Exact, L: Ledger>(
     requires set_fits { SetFits N.limit set.now }
     requires rows { NameRows (length set.now.rows) (map (cover_of N.value) mine.now) }
     requires few { set.now.columns ≤ 1000 }
-    ensures exact { result ≡ verdict (column_tests N.limit (lifted_of set.now) (covering_of N.value covering.now) index
+    ensures exact { result ≡ verdict
+        (column_tests N.limit (lifted_of set.now) (covering_of N.value covering.now) index
         (fractions form.now) (map (cover_of N.value) mine.now)) }
     ensures counted { Counted L.ops L.wides ledger.old ledger.new result }
 {
@@ -242,7 +246,8 @@ fn check_form<N: Exact, L: Ledger>(
     requires set_fits { SetFits N.limit set.now }
     requires rows { NameRows (length set.now.rows) (map (cover_of N.value) mine.now) }
     requires few { set.now.columns ≤ 1000 }
-    ensures exact { result ≡ verdict (form_tests N.limit (lifted_of set.now) (covering_of N.value covering.now) index
+    ensures exact { result ≡ verdict
+        (form_tests N.limit (lifted_of set.now) (covering_of N.value covering.now) index
         (fractions form.now) (map (cover_of N.value) mine.now)) }
     ensures counted { Counted L.ops L.wides ledger.old ledger.new result }
 {
@@ -277,10 +282,12 @@ pub fn check_covers<N: Exact, L: Ledger>(
     requires fits { FormsFit N.limit forms.now }
     requires columns { Each (HasColumns (length covering.now.columns.now)) forms.now.matrices }
     requires set_fits { SetFits N.limit set.now }
-    requires covers { AreOrdered (length set.now.rows) (map (cover_of N.value) covering.now.covers.now) }
+    requires covers { AreOrdered (length set.now.rows)
+        (map (cover_of N.value) covering.now.covers.now) }
     requires few { set.now.columns ≤ 1000 }
     requires few_forms { length forms.now.matrices < 2 ^ 32 }
-    ensures exact { result ≡ verdict (cover_tests N.limit (lifted_of set.now) (covering_of N.value covering.now) 0
+    ensures exact { result ≡ verdict
+        (cover_tests N.limit (lifted_of set.now) (covering_of N.value covering.now) 0
         forms.now.matrices) }
     ensures counted { Counted L.ops L.wides ledger.old ledger.new result }
 {

@@ -34,7 +34,8 @@ fn cut_at<N: Exact, L: Ledger>(
 ) -> Result<N, Wide>
     requires fits { MatrixFits N.limit form.now }
     requires rows { length form.now ≡ suc (length vector.now) }
-    ensures exact { answer N.value result ≡ dot_within N.limit (N.value base ∷ map N.value vector.now)
+    ensures exact { answer N.value result
+        ≡ dot_within N.limit (N.value base ∷ map N.value vector.now)
         (column_of column (fractions form.now)) }
     ensures told { Told (L.wides ledger.old) (L.wides ledger.new) result }
     ensures counted { NeverFell L.ops L.wides ledger.old ledger.new }
@@ -56,7 +57,8 @@ fn item_at<N: Exact, L: Ledger>(
 ) -> Result<N, Wide>
     requires fits { FormsFit N.limit forms.now }
     requires form { TakesForm forms.now.matrices (item_of N.value item.now) }
-    ensures exact { answer N.value result ≡ item_within N.limit forms.now.matrices column (item_of N.value item.now) }
+    ensures exact { answer N.value result
+        ≡ item_within N.limit forms.now.matrices column (item_of N.value item.now) }
     ensures told { Told (L.wides ledger.old) (L.wides ledger.new) result }
     ensures counted { NeverFell L.ops L.wides ledger.old ledger.new }
 {
@@ -95,7 +97,8 @@ fn check_item<N: Exact, L: Ledger>(
     ledger: &mut L,
 ) -> Verdict
     requires valid { IsValid N.value model.now }
-    ensures exact { result ≡ verdict (item_tests N.limit (robust N.value model.now) index (item_of N.value item.now)) }
+    ensures exact { result ≡ verdict
+        (item_tests N.limit (robust N.value model.now) index (item_of N.value item.now)) }
     ensures counted { Counted L.ops L.wides ledger.old ledger.new result }
 {
     if !is_positive(item.weight) {

@@ -105,7 +105,8 @@ fn check_optimum<N: Exact, L: Ledger>(given: Given<'_, N>, ledger: &mut L) -> Ve
 fn check_optimal<N: Exact, L: Ledger>(given: Given<'_, N>, ledger: &mut L) -> Verdict
     requires given { IsGiven N.value N.limit given }
     requires columns { length given.cert.now.plan ≡ given.forms.now.columns }
-    ensures exact { result ≡ verdict (conditions_as N.limit (robust N.value given.entry.model.now) optimal
+    ensures exact { result ≡ verdict
+        (conditions_as N.limit (robust N.value given.entry.model.now) optimal
         (certificate_of N.value given.entry.cert.now)) }
     ensures counted { Counted L.ops L.wides ledger.old ledger.new result }
 {
@@ -121,7 +122,8 @@ fn check_optimal<N: Exact, L: Ledger>(given: Given<'_, N>, ledger: &mut L) -> Ve
 /// The verdict on a certificate that claims that no plan has a bound.
 fn check_infeasible<N: Exact, L: Ledger>(given: Given<'_, N>, ledger: &mut L) -> Verdict
     requires given { IsGiven N.value N.limit given }
-    ensures exact { result ≡ verdict (conditions_as N.limit (robust N.value given.entry.model.now) infeasible
+    ensures exact { result ≡ verdict
+        (conditions_as N.limit (robust N.value given.entry.model.now) infeasible
         (certificate_of N.value given.entry.cert.now)) }
     ensures counted { Counted L.ops L.wides ledger.old ledger.new result }
 {
@@ -175,7 +177,8 @@ fn check_unbounded<N: Exact, L: Ledger>(given: Given<'_, N>, ledger: &mut L) -> 
     requires given { IsGiven N.value N.limit given }
     requires columns { length given.cert.now.plan ≡ given.forms.now.columns }
     requires step_columns { length given.cert.now.step ≡ given.forms.now.columns }
-    ensures exact { result ≡ verdict (conditions_as N.limit (robust N.value given.entry.model.now) unbounded
+    ensures exact { result ≡ verdict
+        (conditions_as N.limit (robust N.value given.entry.model.now) unbounded
         (certificate_of N.value given.entry.cert.now)) }
     ensures counted { Counted L.ops L.wides ledger.old ledger.new result }
 {

@@ -70,8 +70,10 @@ fn check_statements<N: Exact, L: Ledger>(
 ) -> Verdict
     requires valid { IsValid N.value model.now }
     requires small { first ≤ 1000 }
-    ensures exact { result ≡ verdict (set_tests N.limit (robust N.value model.now) (taken_place taken)
-        (N.value base) (map N.value vector.now) first (all_stated (map (set_line_of N.value) model.now.set_lines))) }
+    ensures exact { result ≡ verdict
+        (set_tests N.limit (robust N.value model.now) (taken_place taken)
+        (N.value base) (map N.value vector.now) first
+        (all_stated (map (set_line_of N.value) model.now.set_lines))) }
     ensures counted { Counted L.ops L.wides ledger.old ledger.new result }
 {
     let mut index = first;
@@ -95,7 +97,8 @@ pub fn check_vector<N: Exact, L: Ledger>(
     ledger: &mut L,
 ) -> Verdict
     requires valid { IsValid N.value model.now }
-    ensures exact { result ≡ verdict (set_tests N.limit (robust N.value model.now) (taken_place taken)
+    ensures exact { result ≡ verdict
+        (set_tests N.limit (robust N.value model.now) (taken_place taken)
         (N.value base) (map N.value vector.now) 0 (set_conditions (robust N.value model.now))) }
     ensures counted { Counted L.ops L.wides ledger.old ledger.new result }
 {

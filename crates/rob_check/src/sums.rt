@@ -63,7 +63,8 @@ pub fn add_entry<N: Exact, L: Ledger>(
 ) -> Result<N, Wide>
     requires fits { Each (λ a. nat_abs a ≤ N.limit) row.now }
     ensures exact { answer N.value result
-        ≡ with_part N.limit (N.value so_far) (kept N.limit (N.value number *ℚ at (map of_int row.now) column)) }
+        ≡ with_part N.limit (N.value so_far)
+        (kept N.limit (N.value number *ℚ at (map of_int row.now) column)) }
     ensures told { Told (L.wides ledger.old) (L.wides ledger.new) result }
     ensures counted { NeverFell L.ops L.wides ledger.old ledger.new }
 {

@@ -29,7 +29,8 @@ pub struct Cut {
 
 /// The cut of a form at a scenario.
 pub fn scenario_cut<N: Exact>(alloc: Global, form: u32, scenario: &[N]) -> Result<Cut, Stop>
-    ensures cut { IfOk result (λ cut. cut_made cut ≡ scenario_cut_of form (map N.value scenario.now)) }
+    ensures cut { IfOk result (λ cut. cut_made cut
+        ≡ scenario_cut_of form (map N.value scenario.now)) }
     ensures fits { IfOk result (λ cut. CutFits N.limit (length scenario.now) (cut_made cut)) }
     ensures stopped { IfErr result
         (StopsWith (IsInClearing N.limit (scenario_cut_of form (map N.value scenario.now)))) }
@@ -51,7 +52,8 @@ pub fn scenario_cut<N: Exact>(alloc: Global, form: u32, scenario: &[N]) -> Resul
 pub fn ray_cut<N: Exact>(alloc: Global, form: u32, ray: &[N]) -> Result<Cut, Stop>
     ensures cut { IfOk result (λ cut. cut_made cut ≡ ray_cut_of form (map N.value ray.now)) }
     ensures fits { IfOk result (λ cut. CutFits N.limit (length ray.now) (cut_made cut)) }
-    ensures stopped { IfErr result (StopsWith (IsInClearing N.limit (ray_cut_of form (map N.value ray.now)))) }
+    ensures stopped { IfErr result (StopsWith
+        (IsInClearing N.limit (ray_cut_of form (map N.value ray.now)))) }
 {
     match clear_ray(alloc, ray) {
         Ok(vector) => Ok(Cut {

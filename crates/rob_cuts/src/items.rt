@@ -57,7 +57,8 @@ pub fn items<N: Exact>(
     requires fits { Each (RoundFits N.limit) rounds.now }
     requires weights { length weights.now ≡ length rounds.now }
     ensures items { IfOk result (λ list. map (item_of N.value) list
-        ≡ by_form forms (weighted_cuts (cuts_told rounds.now) (at (map N.value weights.now)) (length rounds.now))) }
+        ≡ by_form forms
+        (weighted_cuts (cuts_told rounds.now) (at (map N.value weights.now)) (length rounds.now))) }
 {
     let mut all = List::new(alloc);
     for form in 0..forms {
@@ -78,7 +79,8 @@ fn append_items<N: Exact>(
     requires weights { length weights.now ≡ length rounds.now }
     ensures items { IfOk result (λ _. map (item_of N.value) all.new
         ≡ map (item_of N.value) all.old
-        ++ of_form form (weighted_cuts (cuts_told rounds.now) (at (map N.value weights.now)) (length rounds.now))) }
+        ++ of_form form
+        (weighted_cuts (cuts_told rounds.now) (at (map N.value weights.now)) (length rounds.now))) }
 {
     for q in 0..rounds.len() {
         append_item(alloc, form, &rounds[q], weights[q], all)?;
@@ -96,7 +98,8 @@ fn append_item<N: Exact>(
 ) -> Result<(), Memory>
     requires fits { RoundFits N.limit round.now }
     ensures items { IfOk result (λ _. map (item_of N.value) all.new
-        ≡ map (item_of N.value) all.old ++ of_form form (weighted_kept (item_told round.now (N.value weight) ∷ []))) }
+        ≡ map (item_of N.value) all.old ++ of_form form
+        (weighted_kept (item_told round.now (N.value weight) ∷ []))) }
 {
     if round.form != form || weight.sign() == 0 {
         return Ok(());
@@ -107,7 +110,8 @@ fn append_item<N: Exact>(
 /// The round's cut with its weight.
 fn item<N: Exact>(alloc: Global, round: &Round, weight: N) -> Result<Item<N>, Memory>
     requires fits { RoundFits N.limit round.now }
-    ensures item { IfOk result (λ item. item_of N.value item ≡ item_told round.now (N.value weight)) }
+    ensures item { IfOk result (λ item. item_of N.value item
+        ≡ item_told round.now (N.value weight)) }
 {
     let vector = vector(alloc, round.vector.items())?;
     Ok(Item {

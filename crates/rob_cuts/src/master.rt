@@ -46,7 +46,8 @@ pub fn append_cut<N: Exact>(
     requires few { forms.now.columns < 2 ^ 31 }
     requires fits { CutFits N.limit forms.now.params (cut_of round.now) }
     ensures added { IfOk result (λ _. AddsCut forms.now (cut_of round.now) master.old master.new) }
-    ensures within { IfOk result (λ _. HasNumbersWithin N.limit master.old → HasNumbersWithin N.limit master.new) }
+    ensures within { IfOk result (λ _. HasNumbersWithin N.limit master.old
+        → HasNumbersWithin N.limit master.new) }
     ensures stopped { IfErr result (StopsWith (IsInSum N.limit forms.now (cut_of round.now))) }
 {
     let Some(constant) = number::<N>(forms, round, 0) else {

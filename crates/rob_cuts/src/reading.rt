@@ -41,8 +41,10 @@ pub fn plan<N: Exact>(alloc: Global, solver: &Solver<N>, decisions: u32) -> Resu
     requires point { HasPoint solver.now }
     requires pairs { IsInPairs decisions solver.now.columns (point_of solver.now) }
     requires few { solver.now.columns < 2 ^ 31 }
-    ensures columns { IfOk result (λ plan. map N.value plan.columns ≡ differences decisions (point_of solver.now)) }
-    ensures bound { IfOk result (λ plan. N.value plan.bound ≡ difference_of (point_of solver.now) decisions) }
+    ensures columns { IfOk result (λ plan. map N.value plan.columns
+        ≡ differences decisions (point_of solver.now)) }
+    ensures bound { IfOk result (λ plan. N.value plan.bound
+        ≡ difference_of (point_of solver.now) decisions) }
 {
     let mut columns = List::new(alloc);
     for j in 0..decisions {
@@ -61,7 +63,8 @@ pub fn direction<N: Exact>(
     requires ray { HasRay solver.now }
     requires pairs { IsInPairs decisions solver.now.columns (ray_of solver.now) }
     requires few { solver.now.columns < 2 ^ 31 }
-    ensures numbers { IfOk result (λ list. map N.value list ≡ differences (suc decisions) (ray_of solver.now)) }
+    ensures numbers { IfOk result (λ list. map N.value list
+        ≡ differences (suc decisions) (ray_of solver.now)) }
 {
     let mut numbers = List::new(alloc);
     for j in 0..decisions + 1 {

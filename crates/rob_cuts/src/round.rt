@@ -199,7 +199,8 @@ fn optimum<N: Exact>(
     kept: Kept<N>,
 ) -> Result<Outcome<N>, Memory>
     requires few { length forms.now.matrices < 2 ^ 32 }
-    requires finder { (set : SetRows) × AreElaborated N.limit forms.now set × IsFewSet set × IsFinder set finder.now }
+    requires finder { (set : SetRows) × AreElaborated N.limit forms.now set × IsFewSet set
+        × IsFinder set finder.now }
     requires optimum { HasOptimum solver.now }
     requires rows { length run.now.rounds ≡ positions solver.now }
     requires few_rows { positions solver.now < 2 ^ 31 }
@@ -223,13 +224,16 @@ fn without_plan<N: Exact>(
     solver: &Solver<N>,
 ) -> Result<Outcome<N>, Memory>
     requires few { length forms.now.matrices < 2 ^ 32 }
-    requires finder { (set : SetRows) × AreElaborated N.limit forms.now set × IsFewSet set × IsFinder set finder.now }
+    requires finder { (set : SetRows) × AreElaborated N.limit forms.now set × IsFewSet set
+        × IsFinder set finder.now }
     requires weights { HasWeights solver.now }
     requires rows { length run.now.rounds ≡ positions solver.now }
     requires few_rows { positions solver.now < 2 ^ 31 }
     requires fits { Each (RoundFits N.limit) run.now.rounds }
-    ensures end { IfOk result (λ outcome. IsEndWith N.value forms.now finder.now (λ inside. infeasible_with inside
-        (items_told (length forms.now.matrices) run.now.rounds (λ q. of_int (weights_of solver.now q)))) outcome) }
+    ensures end { IfOk result (λ outcome. IsEndWith N.value forms.now finder.now
+        (λ inside. infeasible_with inside
+        (items_told (length forms.now.matrices) run.now.rounds
+        (λ q. of_int (weights_of solver.now q)))) outcome) }
 {
     let inside = finder.inside(alloc, forms)?;
     let count = forms.matrices.items().len() as u32;

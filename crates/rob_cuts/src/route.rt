@@ -45,9 +45,11 @@ pub fn solve_cuts<N: Exact, L: Ledger>(
     // A certificate that proves, read off where the run is finished that the trace tells.
     ensures solved { IfOk result (λ answer. HoldsOfEach forms.now set.now
         (λ m. IsSolution m (certificate_of N.value answer.0) answer.1.rounds)) }
-    ensures stopped { IfErr result (λ stop. HoldsOfEach forms.now set.now (λ m. HasCause N.limit m stop)) }
+    ensures stopped { IfErr result (λ stop. HoldsOfEach forms.now set.now
+        (λ m. HasCause N.limit m stop)) }
     // No number of a told round's cut is over the limit.
-    ensures fits { MatchResult result (λ answer. Each (RoundFits N.limit) answer.1.rounds) (StopFits N.limit) }
+    ensures fits { MatchResult result (λ answer. Each (RoundFits N.limit) answer.1.rounds)
+        (StopFits N.limit) }
     ensures wides { CountsAnswer (L.wides ledger.old) (L.wides ledger.new) result }
     ensures counted { NeverFell L.ops L.wides ledger.old ledger.new }
 {
@@ -76,7 +78,8 @@ pub fn solve_cuts<N: Exact, L: Ledger>(
 /// A run without a round.
 fn started(alloc: Global, forms: &Forms) -> Result<Run, Memory>
     ensures master { IfOk result (λ run. IsMasterList forms.now [] run.master) }
-    ensures within { IfOk result (λ run. (limit : ℕ) → 1 ≤ limit → HasNumbersWithin limit run.master) }
+    ensures within { IfOk result (λ run. (limit : ℕ) → 1 ≤ limit
+        → HasNumbersWithin limit run.master) }
     ensures rounds { IfOk result (λ run. run.rounds ≡ []) }
 {
     let master = without_cuts(alloc, forms)?;
@@ -90,7 +93,8 @@ fn go_on<N: Exact>(alloc: Global, forms: &Forms, round: Round, run: &mut Run) ->
     requires few { forms.now.columns < 2 ^ 31 }
     requires form_in { round.form < length forms.now.matrices }
     requires fits { CutFits N.limit forms.now.params (cut_of round) }
-    ensures added { IfOk result (λ _. AddsCut forms.now (cut_of round) run.old.master run.new.master) }
+    ensures added { IfOk result (λ _. AddsCut forms.now
+        (cut_of round) run.old.master run.new.master) }
     ensures within { IfOk result
         (λ _. HasNumbersWithin N.limit run.old.master → HasNumbersWithin N.limit run.new.master) }
     ensures rounds { MatchResult result (λ _. run.new.rounds ≡ run.old.rounds ++ round ∷ [])

@@ -101,8 +101,8 @@ fn search<N: Exact, L: Ledger>(
     requires form_in { form < length model.forms.now.matrices }
     requires target { FitsTarget model.forms.now.columns target }
     ensures answer { HoldsOfEach model.entry.forms.now model.entry.set.now
-        (λ m. Searches N.value N.limit m (by_step_of target.entry) form (vector_of N.value target.entry)
-        (L.wides ledger.old) (L.wides ledger.new) result) }
+        (λ m. Searches N.value N.limit m (by_step_of target.entry) form
+        (vector_of N.value target.entry) (L.wides ledger.old) (L.wides ledger.new) result) }
     ensures within { IfOk result (HasConstantWithin N.limit) }
     ensures finder { IsFinder model.entry.set.now finder.new }
     ensures counted { NeverFell L.ops L.wides ledger.old ledger.new }

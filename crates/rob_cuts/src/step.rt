@@ -23,8 +23,10 @@ pub fn whole_step<N: Exact>(
     requires size { length step.now ≡ suc decisions }
     ensures columns { IfOk result (λ plan. map N.value plan.columns
         ≡ tabulate decisions (λ j. N.value scale *ℚ at (map N.value step.now) j)) }
-    ensures bound { IfOk result (λ plan. N.value plan.bound ≡ N.value scale *ℚ at (map N.value step.now) decisions) }
-    ensures wide { IfErr result (StopsFor (SomeWideProduct N.limit (N.value scale) (map N.value step.now))) }
+    ensures bound { IfOk result (λ plan. N.value plan.bound
+        ≡ N.value scale *ℚ at (map N.value step.now) decisions) }
+    ensures wide { IfErr result (StopsFor
+        (SomeWideProduct N.limit (N.value scale) (map N.value step.now))) }
 {
     let mut columns = List::new(alloc);
     for j in 0..decisions as usize {

@@ -50,10 +50,10 @@ pub fn model_bounds<N: Exact>(
 ) -> Result<ModelBounds, Memory>
     requires model { AreElaborated N.limit forms.now set.now }
     requires few { IsFew (counterpart_of forms.now set.now) }
-    ensures bounds { IfOk result (λ told. (m : RobustModel) → IsForms m forms.now → IsSetForm m set.now
-        → TellsBounds N.limit m told) }
-    ensures narrow { IfOk result (λ told. (m : RobustModel) → IsForms m forms.now → IsSetForm m set.now
-        → AreBothWithin told ↔ IsNarrowModel N.limit m) }
+    ensures bounds { IfOk result (λ told. (m : RobustModel) → IsForms m forms.now
+        → IsSetForm m set.now → TellsBounds N.limit m told) }
+    ensures narrow { IfOk result (λ told. (m : RobustModel) → IsForms m forms.now
+        → IsSetForm m set.now → AreBothWithin told ↔ IsNarrowModel N.limit m) }
 {
     let of_set = set_bound::<N>(alloc, set)?;
     let counterpart = counterpart_bound::<N>(alloc, Elaborated { forms, set })?;

@@ -80,7 +80,8 @@ fn infeasible<N: Exact>(
     requires model { FitsSolver N.limit model }
     requires ended { HasEnded (counterpart_in model) kind.Infeasible solver.now }
     ensures certificate { IfOk result (λ cert. certificate_of N.value cert
-        ≡ read_from (wholes_in model.entry) (scenario_of N.value inside) kind.Infeasible solver.now) }
+        ≡ read_from (wholes_in model.entry)
+        (scenario_of N.value inside) kind.Infeasible solver.now) }
 {
     let weights = exact_weights(alloc, solver, program_rows(model) as u32)?;
     let items = items(alloc, model, weights.items())?;
@@ -97,7 +98,8 @@ fn unbounded<N: Exact>(
     requires model { FitsSolver N.limit model }
     requires ended { HasEnded (counterpart_in model) kind.Unbounded solver.now }
     ensures certificate { IfOk result (λ cert. certificate_of N.value cert
-        ≡ read_from (wholes_in model.entry) (scenario_of N.value inside) kind.Unbounded solver.now) }
+        ≡ read_from (wholes_in model.entry)
+        (scenario_of N.value inside) kind.Unbounded solver.now) }
 {
     let decisions = model.forms.columns as usize;
     let count = program_columns(model) as u32;

@@ -67,7 +67,8 @@ fn write_plan(model: Elaborated, i: usize, p: usize, numbers: &mut [i64])
     requires size { length numbers.old ≡ (counterpart_in model).n }
     ensures plan { (k : ℕ) → k < pairs (wholes_in model.entry)
         → at numbers.new k ≡ row_entry (wholes_in model.entry) i p k }
-    ensures others { (k : ℕ) → pairs (wholes_in model.entry) ≤ k → at numbers.new k ≡ at numbers.old k }
+    ensures others { (k : ℕ) → pairs (wholes_in model.entry) ≤ k
+        → at numbers.new k ≡ at numbers.old k }
 {
     for k in 0..2 * (model.forms.columns as usize + 1) {
         numbers[k] = row_number(model, i, p, k);

@@ -26,9 +26,8 @@ ghost use Rattle.rob_dualize.specs.Wholes.{counterpart_of, IsFew};
 /// Models within the limits can be solved. It does nothing, and its clause is the claim.
 pub fn size_laws()
     // The rows and columns of the counterpart are as few as a solver takes.
-    ensures few { (m : RobustModel) (forms : Forms) (set : SetForm) → IsWithinLimits m → IsForms m forms
-        → IsSetForm m set
-        → IsFew (counterpart_of forms set) }
+    ensures few { (m : RobustModel) (forms : Forms) (set : SetForm) → IsWithinLimits m
+        → IsForms m forms → IsSetForm m set → IsFew (counterpart_of forms set) }
 {}
 
 /// Programs with the same numbers are narrow alike. It does nothing, and its clause is the claim.
@@ -39,8 +38,8 @@ pub fn narrow_laws()
 /// What is told of the forms and the set rows of a model is its counterpart. It does nothing, and its clause is the
 /// claim.
 pub fn counterpart_laws()
-    ensures told { (m : RobustModel) (forms : Forms) (set : SetForm) → IsForms m forms → IsSetForm m set
-        → counterpart_of forms set ≡ counterpart m }
+    ensures told { (m : RobustModel) (forms : Forms) (set : SetForm) → IsForms m forms
+        → IsSetForm m set → counterpart_of forms set ≡ counterpart m }
 {}
 
 /// A model that no row can refuse, so what is said of models without a wide row is said of one. It does nothing, and
@@ -52,7 +51,8 @@ pub fn smallest_model()
     ensures status { HasStatus one_demand optimal (of_int (pos 12)) }
     // Its numbers are so small that no row on the path of either program is wide with 62 bits,
     ensures narrow { IsNarrowModel (2 ^ 62 - 1) one_demand }
-    ensures set_rows { (basis : Columns) (i : ℕ) → ¬ (HasWideRow (2 ^ 62 - 1) (set_program one_demand) basis i) }
+    ensures set_rows { (basis : Columns) (i : ℕ)
+        → ¬ (HasWideRow (2 ^ 62 - 1) (set_program one_demand) basis i) }
     ensures counterpart_rows { (basis : Columns) (i : ℕ)
         → ¬ (HasWideRow (2 ^ 62 - 1) (counterpart one_demand) basis i) }
     // so none is named.

@@ -28,7 +28,8 @@ pub fn solve_model<N: Exact, L: Ledger>(
     requires valid { IsValid N.value model.now }
     // A certificate comes only where nothing is wide when the model is written in whole numbers.
     ensures written { OnOk result (IsWritten N.limit (robust N.value model.now)) }
-    ensures solved { IfOk result (λ cert. IsSolution (robust N.value model.now) (certificate_of N.value cert)) }
+    ensures solved { IfOk result (λ cert. IsSolution (robust N.value model.now)
+        (certificate_of N.value cert)) }
     ensures cause { IfErr result (HasModelCause N.limit (robust N.value model.now)) }
     ensures counted { CountsModel L.ops L.wides ledger.old ledger.new result }
 {

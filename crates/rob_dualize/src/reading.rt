@@ -29,7 +29,8 @@ pub fn difference<N: Exact>(first: N, second: N) -> N
 /// The difference of pair j.
 pub fn pair_difference<N: Exact>(numbers: &[N], j: usize) -> N
     requires inside { suc (j + j) < length numbers.now }
-    requires one { OneIsZero (told N.value numbers.now (plus j)) (told N.value numbers.now (minus j)) }
+    requires one { OneIsZero (told N.value numbers.now (plus j))
+        (told N.value numbers.now (minus j)) }
     ensures difference { N.value result ≡ difference_of (told N.value numbers.now) j }
 {
     difference(numbers[2 * j], numbers[2 * j + 1])
@@ -43,7 +44,8 @@ pub fn pair_differences<N: Exact>(
 ) -> Result<List<N>, Memory>
     requires inside { count + count ≤ length numbers.now }
     requires pairs { KeepPairs N.value numbers.now count }
-    ensures differences { IfOk result (λ list. map N.value list ≡ differences count (told N.value numbers.now)) }
+    ensures differences { IfOk result (λ list. map N.value list
+        ≡ differences count (told N.value numbers.now)) }
 {
     let mut plan = List::new(alloc);
     for j in 0..count {
@@ -61,7 +63,8 @@ pub fn covers<N: Exact>(
     requires few { IsFew (counterpart_in model) }
     requires numbers { length numbers.now ≡ (counterpart_in model).n }
     ensures covers { IfOk result (λ list. map (cover_of N.value) list
-        ≡ covers_to (wholes_in model.entry) (length model.entry.forms.now.matrices) (told N.value numbers.now)) }
+        ≡ covers_to (wholes_in model.entry) (length model.entry.forms.now.matrices)
+        (told N.value numbers.now)) }
 {
     let mut all = List::new(alloc);
     for i in 0..model.forms.matrices.items().len() {
@@ -110,7 +113,8 @@ pub(crate) fn items<N: Exact>(
     requires numbers { length numbers.now ≡ (counterpart_in model).m }
     requires pairs { KeepRows N.value (wholes_in model) numbers.now }
     ensures items { IfOk result (λ list. map (item_of N.value) list
-        ≡ items_to (wholes_in model.entry) (length model.entry.forms.now.matrices) (told N.value numbers.now)) }
+        ≡ items_to (wholes_in model.entry) (length model.entry.forms.now.matrices)
+        (told N.value numbers.now)) }
 {
     let rows = 2 * model.set.columns as usize + 1;
     let mut all = List::new(alloc);

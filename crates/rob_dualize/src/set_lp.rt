@@ -31,7 +31,8 @@ pub fn set_lp(alloc: Global, set: &SetForm) -> Result<Lp, Memory>
     requires fits { SetFits (2 ^ 62 - 1) set.now }
     ensures program { IfOk result (λ lp. IsOverRobust (robust_set set.now) (program_of lp)) }
     ensures shaped { IfOk result (λ lp. IsShaped lp) }
-    ensures within { IfOk result (λ lp. (limit : ℕ) → SetFits limit set.now → HasNumbersWithin limit lp) }
+    ensures within { IfOk result (λ lp. (limit : ℕ) → SetFits limit set.now
+        → HasNumbersWithin limit lp) }
 {
     let rows = set.rows.items();
     Ok(Lp {

@@ -35,7 +35,8 @@ pub fn solved_set<N: Exact, L: Ledger>(
     requires model { IsSetOfModel N.limit set.now }
     requires few { IsFewSet set.now }
     ensures solved { IfOk result (λ solver. IsSolved (program_of_set set.now) solver) }
-    ensures stopped { (m : RobustModel) → IsModel m → IsSetForm m set.now → IfErr result (HasSetCause N.limit m) }
+    ensures stopped { (m : RobustModel) → IsModel m → IsSetForm m set.now
+        → IfErr result (HasSetCause N.limit m) }
     ensures wides { CountsAnswer (L.wides ledger.old) (L.wides ledger.new) result }
     ensures counted { NeverFell L.ops L.wides ledger.old ledger.new }
 {
@@ -105,8 +106,10 @@ pub fn parameters<N: Exact>(
     requires point { HasPoint solver.now }
     requires few { count < 2 ^ 31 }
     requires inside { count + count ≤ solver.now.columns }
-    requires pairs { (c : ℕ) → c < count → OneIsZero (point_of solver.now (plus c)) (point_of solver.now (minus c)) }
-    ensures parameters { IfOk result (λ list. map N.value list ≡ differences count (point_of solver.now)) }
+    requires pairs { (c : ℕ) → c < count
+        → OneIsZero (point_of solver.now (plus c)) (point_of solver.now (minus c)) }
+    ensures parameters { IfOk result (λ list. map N.value list
+        ≡ differences count (point_of solver.now)) }
 {
     let numbers = point(alloc, solver, 2 * count)?;
     pair_differences(alloc, numbers.items(), count as usize)

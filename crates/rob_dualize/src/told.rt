@@ -14,7 +14,8 @@ use std::alloc::Global;
 pub fn point<N: Exact>(alloc: Global, solver: &Solver<N>, count: u32) -> Result<List<N>, Memory>
     requires point { HasPoint solver.now }
     requires inside { count ≤ solver.now.columns }
-    ensures numbers { IfOk result (λ list. map N.value list ≡ tabulate count (point_of solver.now)) }
+    ensures numbers { IfOk result (λ list. map N.value list
+        ≡ tabulate count (point_of solver.now)) }
 {
     let mut numbers = List::new(alloc);
     for j in 0..count {
@@ -75,7 +76,8 @@ pub fn exact_weights<N: Exact>(
 ) -> Result<List<N>, Memory>
     requires weights { HasWeights solver.now }
     requires inside { count ≤ positions solver.now }
-    ensures numbers { IfOk result (λ list. map N.value list ≡ tabulate count (λ i. of_int (weights_of solver.now i))) }
+    ensures numbers { IfOk result (λ list. map N.value list
+        ≡ tabulate count (λ i. of_int (weights_of solver.now i))) }
 {
     let mut numbers = List::new(alloc);
     for i in 0..count {

@@ -92,7 +92,8 @@ fn append_bounds<N: Exact, L: Ledger>(
     requires bounded { IsExpression (robust N.value model.now) (expression_of N.value bounded.now) }
     requires few { length matrices.old + 2 < 10000 }
     ensures forms { Appends N.limit (robust N.value model.now) (length matrices.old)
-        (bound_forms (expression_of N.value bounded.now) (option_map N.value lower.now) (option_map N.value upper.now))
+        (bound_forms (expression_of N.value bounded.now) (option_map N.value lower.now)
+        (option_map N.value upper.now))
         matrices.old matrices.new (L.wides ledger.old) (L.wides ledger.new) result }
     ensures counted { NeverFell L.ops L.wides ledger.old ledger.new }
 {
@@ -115,7 +116,8 @@ fn append_bound<N: Exact, L: Ledger>(
     requires few { length matrices.old < 10000 }
     ensures form { Appends N.limit (robust N.value model.now) (length matrices.old)
         (if_declared (λ b. if lower then difference (constant b) (expression_of N.value bounded.now)
-        else difference (expression_of N.value bounded.now) (constant b)) (option_map N.value bound.now))
+        else difference (expression_of N.value bounded.now) (constant b))
+        (option_map N.value bound.now))
         matrices.old matrices.new (L.wides ledger.old) (L.wides ledger.new) result }
     ensures counted { NeverFell L.ops L.wides ledger.old ledger.new }
 {

@@ -59,7 +59,8 @@ fn append_forms<N: Exact, L: Ledger>(
 ) -> Result<(), ElabErr>
     requires valid { IsValid N.value model.now }
     requires empty { matrices.old ≡ [] }
-    ensures forms { Appends N.limit (robust N.value model.now) zero (forms_of (robust N.value model.now))
+    ensures forms { Appends N.limit (robust N.value model.now) zero
+        (forms_of (robust N.value model.now))
         [] matrices.new (L.wides ledger.old) (L.wides ledger.new) result }
     ensures counted { NeverFell L.ops L.wides ledger.old ledger.new }
 {

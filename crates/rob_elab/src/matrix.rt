@@ -35,7 +35,8 @@ fn row_denominator<N: Exact, L: Ledger>(
     requires within { common ≤ N.limit }
     ensures least { (before : List Fraction) → common ≡ denominator before → MatchOption result
         (N.limit < denominator (before ++ tabulate columns (numbers_of N.value table.now row)))
-        (λ d. (d ≡ denominator (before ++ tabulate columns (numbers_of N.value table.now row))) × (d ≤ N.limit)) }
+        (λ d. (d ≡ denominator (before ++ tabulate columns (numbers_of N.value table.now row)))
+        × (d ≤ N.limit)) }
     ensures counted { NeverFell L.ops L.wides ledger.old ledger.new }
 {
     let mut least = common;
@@ -58,7 +59,8 @@ fn common_denominator<N: Exact, L: Ledger>(
 ) -> Option<u64>
     ensures least { MatchOption result
         (N.limit < denominator (entries (rows_of rows columns (numbers_of N.value table.now))))
-        (λ d. (d ≡ denominator (entries (rows_of rows columns (numbers_of N.value table.now)))) × (d ≤ N.limit)) }
+        (λ d. (d ≡ denominator (entries (rows_of rows columns (numbers_of N.value table.now))))
+        × (d ≤ N.limit)) }
     ensures counted { NeverFell L.ops L.wides ledger.old ledger.new }
 {
     let mut common: u64 = 1;

@@ -54,7 +54,8 @@ fn append_sides<N: Exact, L: Ledger>(
     requires right { IsExpression (robust N.value model.now) (expression_of N.value row.now.right) }
     requires few { length matrices.old + 2 < 10000 }
     ensures forms { Appends N.limit (robust N.value model.now) (length matrices.old)
-        (sides (relation_of row.now.rel) (expression_of N.value row.now.left) (expression_of N.value row.now.right))
+        (sides (relation_of row.now.rel) (expression_of N.value row.now.left)
+        (expression_of N.value row.now.right))
         matrices.old matrices.new (L.wides ledger.old) (L.wides ledger.new) result }
     ensures counted { NeverFell L.ops L.wides ledger.old ledger.new }
 {

@@ -23,9 +23,11 @@ pub fn written<N: Exact, L: Ledger>(
     ledger: &mut L,
 ) -> Result<(Forms, SetForm), ElabErr>
     requires valid { IsValid N.value model.now }
-    ensures elaborated { IfOk result (λ both. IsElaborated N.limit (robust N.value model.now) both.0 both.1) }
+    ensures elaborated { IfOk result (λ both. IsElaborated N.limit
+        (robust N.value model.now) both.0 both.1) }
     ensures written { OnOk result (IsWritten N.limit (robust N.value model.now)) }
-    ensures cause { IfErr result (HasCause N.limit (robust N.value model.now) (judged (robust N.value model.now))) }
+    ensures cause { IfErr result (HasCause N.limit (robust N.value model.now)
+        (judged (robust N.value model.now))) }
     ensures rose { IfErr result (RoseIfWide (L.wides ledger.old) (L.wides ledger.new)) }
     ensures counted { NeverFell L.ops L.wides ledger.old ledger.new }
 {

@@ -23,7 +23,8 @@ pub fn empty_set_text<N: Exact>(
 ) -> Result<Text, Memory>
     requires valid { IsValid N.value model.now }
     requires count { length weights.now ≡ length (set_rows (robust N.value model.now)) }
-    ensures text { IfOk result (λ text. text ≡ empty_set_lines (robust N.value model.now) weights.now) }
+    ensures text { IfOk result (λ text. text
+        ≡ empty_set_lines (robust N.value model.now) weights.now) }
 {
     let mut text = Text::new(alloc);
     text.push(b"empty set\n")?;
@@ -35,7 +36,8 @@ pub fn empty_set_text<N: Exact>(
 fn put_weights<N: Exact>(model: &Model<N>, weights: &[i64], out: &mut Text) -> Result<(), Memory>
     requires valid { IsValid N.value model.now }
     requires count { length weights.now ≡ length (set_rows (robust N.value model.now)) }
-    ensures appended { OnOk result (out.new ≡ out.old ++ weight_lines (robust N.value model.now) weights.now) }
+    ensures appended { OnOk result (out.new
+        ≡ out.old ++ weight_lines (robust N.value model.now) weights.now) }
 {
     for index in 0..set_row_count(model) {
         put_weight(model, index, weights[index as usize], out)?;
@@ -53,7 +55,8 @@ fn put_weight<N: Exact>(
     requires valid { IsValid N.value model.now }
     requires inside { index < length (set_rows (robust N.value model.now)) }
     ensures appended { OnOk result (out.new
-        ≡ out.old ++ weight_line (name_at (set_row_names (robust N.value model.now)) index) weight) }
+        ≡ out.old ++ weight_line
+        (name_at (set_row_names (robust N.value model.now)) index) weight) }
 {
     if weight == 0 {
         return Ok(());

@@ -24,8 +24,10 @@ pub struct Labels {
 /// What the terms of a model's forms are printed with.
 pub fn form_labels<N: Exact>(alloc: Global, model: &Model<N>) -> Result<Labels, Memory>
     requires valid { IsValid N.value model.now }
-    ensures fronts { IfOk result (λ labels. labels.fronts ≡ fronts_of (robust N.value model.now).parameters) }
-    ensures columns { IfOk result (λ labels. labels.columns ≡ form_column_names (robust N.value model.now)) }
+    ensures fronts { IfOk result (λ labels. labels.fronts
+        ≡ fronts_of (robust N.value model.now).parameters) }
+    ensures columns { IfOk result (λ labels. labels.columns
+        ≡ form_column_names (robust N.value model.now)) }
 {
     let fronts = form_fronts(alloc, model.params.items())?;
     let columns = form_columns(alloc, model)?;

@@ -10,8 +10,8 @@ ghost use Rattle.rob_sets.specs.SetForm.{judged_set};
 
 /// Where a set or the forms can't be written in whole numbers, the spot that is named is one of the model's.
 pub fn spot_laws()
-    ensures set { (m : RobustModel) (limit : ℕ) (spot : Spot) → IsFirstWide limit m (judged_set m) spot
-        → IsSpotOf m spot }
-    ensures forms { (m : RobustModel) (limit : ℕ) (spot : Spot) → IsFirstWide limit m (judged_forms m) spot
-        → IsSpotOf m spot }
+    ensures set { (m : RobustModel) (limit : ℕ) (spot : Spot)
+        → IsFirstWide limit m (judged_set m) spot → IsSpotOf m spot }
+    ensures forms { (m : RobustModel) (limit : ℕ) (spot : Spot)
+        → IsFirstWide limit m (judged_forms m) spot → IsSpotOf m spot }
 {}

@@ -22,7 +22,8 @@ use rob_number::{Exact, Memory, Text};
 pub fn put_form<N: Exact>(model: &Model<N>, index: u32, out: &mut Text) -> Result<(), Memory>
     requires valid { IsValid N.value model.now }
     requires inside { index < length (forms (robust N.value model.now)) }
-    ensures appended { OnOk result (out.new ≡ out.old ++ form_name (robust N.value model.now) index) }
+    ensures appended { OnOk result (out.new
+        ≡ out.old ++ form_name (robust N.value model.now) index) }
 {
     put_form_name(model, index, out)
 }
@@ -31,7 +32,8 @@ pub fn put_form<N: Exact>(model: &Model<N>, index: u32, out: &mut Text) -> Resul
 pub fn put_set_row<N: Exact>(model: &Model<N>, index: u32, out: &mut Text) -> Result<(), Memory>
     requires valid { IsValid N.value model.now }
     requires inside { index < length (set_rows (robust N.value model.now)) }
-    ensures appended { OnOk result (out.new ≡ out.old ++ name_at (set_row_names (robust N.value model.now)) index) }
+    ensures appended { OnOk result (out.new
+        ≡ out.old ++ name_at (set_row_names (robust N.value model.now)) index) }
 {
     put_set_row_name(model, index, out)
 }
@@ -67,7 +69,8 @@ pub fn put_condition<N: Exact>(model: &Model<N>, index: u32, out: &mut Text) -> 
 pub fn put_statement<N: Exact>(model: &Model<N>, index: u32, out: &mut Text) -> Result<(), Memory>
     requires valid { IsValid N.value model.now }
     requires inside { index < length model.now.set_lines }
-    ensures appended { OnOk result (out.new ≡ out.old ++ statement_name (robust N.value model.now) index) }
+    ensures appended { OnOk result (out.new
+        ≡ out.old ++ statement_name (robust N.value model.now) index) }
 {
     put_condition(model, bound_count(model.params.items()) + index, out)
 }
@@ -93,7 +96,8 @@ pub fn set_column_count<N: Exact>(model: &Model<N>) -> u32
 pub fn put_set_column<N: Exact>(model: &Model<N>, index: u32, out: &mut Text) -> Result<(), Memory>
     requires valid { IsValid N.value model.now }
     requires inside { index < set_column_count_of (robust N.value model.now) }
-    ensures appended { OnOk result (out.new ≡ out.old ++ name_at (set_column_names (robust N.value model.now)) index) }
+    ensures appended { OnOk result (out.new
+        ≡ out.old ++ name_at (set_column_names (robust N.value model.now)) index) }
 {
     put_set_place_name(model, condition_count(model) + index, out)
 }

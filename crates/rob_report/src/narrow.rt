@@ -15,7 +15,8 @@ pub fn put_bound(
     bound: Option<u64>,
     out: &mut Text,
 ) -> Result<(), Memory>
-    ensures appended { OnOk result (out.new ≡ out.old ++ bound_line program.now rows greatest bound) }
+    ensures appended { OnOk result (out.new
+        ≡ out.old ++ bound_line program.now rows greatest bound) }
 {
     out.push(program)?;
     out.push(b" rows ")?;

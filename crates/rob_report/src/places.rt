@@ -31,7 +31,8 @@ pub fn place_text<N: Exact>(alloc: Global, model: &Model<N>, place: &Place) -> R
 pub fn put_place<N: Exact>(model: &Model<N>, place: Place, out: &mut Text) -> Result<(), Memory>
     requires valid { IsValid N.value model.now }
     requires named { IsPlaceOf (robust N.value model.now) place }
-    ensures appended { OnOk result (out.new ≡ out.old ++ place_words (robust N.value model.now) place) }
+    ensures appended { OnOk result (out.new
+        ≡ out.old ++ place_words (robust N.value model.now) place) }
 {
     match place {
         Place::Scale => out.push(b"scale"),
@@ -88,7 +89,8 @@ fn put_sign<N: Exact>(
 ) -> Result<(), Memory>
     requires valid { IsValid N.value model.now }
     requires named { IsSignOf (robust N.value model.now) form set_row }
-    ensures appended { OnOk result (out.new ≡ out.old ++ sign_words (robust N.value model.now) form set_row) }
+    ensures appended { OnOk result (out.new
+        ≡ out.old ++ sign_words (robust N.value model.now) form set_row) }
 {
     put_form(model, form, out)?;
     out.push(b" ")?;
@@ -99,7 +101,8 @@ fn put_sign<N: Exact>(
 fn put_sum<N: Exact>(model: &Model<N>, form: u32, column: u32, out: &mut Text) -> Result<(), Memory>
     requires valid { IsValid N.value model.now }
     requires named { IsSumOf (robust N.value model.now) form column }
-    ensures appended { OnOk result (out.new ≡ out.old ++ sum_words (robust N.value model.now) form column) }
+    ensures appended { OnOk result (out.new
+        ≡ out.old ++ sum_words (robust N.value model.now) form column) }
 {
     put_form(model, form, out)?;
     if column == 0 {

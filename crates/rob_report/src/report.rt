@@ -25,7 +25,8 @@ pub fn report_text<N: Exact>(
 ) -> Result<Text, Memory>
     requires valid { IsValid N.value model.now }
     requires shape { HasShape (robust N.value model.now) (certificate_of N.value cert.now) }
-    ensures text { IfOk result (λ text. text ≡ report_of (robust N.value model.now) (certificate_of N.value cert.now)) }
+    ensures text { IfOk result (λ text. text
+        ≡ report_of (robust N.value model.now) (certificate_of N.value cert.now)) }
 {
     let mut text = Text::new(alloc);
     put_report(model, cert, &mut text)?;
@@ -56,7 +57,8 @@ fn put_optimal<N: Exact>(
     requires valid { IsValid N.value model.now }
     requires columns { length plan.now ≡ column_count (robust N.value model.now) }
     ensures appended { OnOk result (out.new
-        ≡ out.old ++ optimal_text (robust N.value model.now) (N.value value) (map N.value plan.now)) }
+        ≡ out.old ++ optimal_text (robust N.value model.now) (N.value value)
+        (map N.value plan.now)) }
 {
     put_single(out, b"optimal", value)?;
     put_variables(model.vars.items(), plan, out)?;
@@ -90,7 +92,8 @@ fn put_policies<N: Exact>(
     first: usize,
     out: &mut Text,
 ) -> Result<(), Memory>
-    requires columns { column_from first (map (adaptive_of N.value) rules.now) (length rules.now) ≤ length plan.now }
+    requires columns { column_from first (map (adaptive_of N.value) rules.now) (length rules.now)
+        ≤ length plan.now }
     requires few { length plan.now < 2 ^ 32 }
     ensures appended { OnOk result (out.new ≡ out.old ++ policies_text (map N.value plan.now)
         (map (parameter_of N.value) params.now) first (map (adaptive_of N.value) rules.now)) }

@@ -23,7 +23,8 @@ pub fn put_rounds<N: Exact>(
 ) -> Result<(), Memory>
     requires valid { IsValid N.value model.now }
     requires named { All (IsRoundOf (robust N.value model.now)) rounds.now }
-    ensures appended { OnOk result (out.new ≡ out.old ++ rounds_text (robust N.value model.now) rounds.now) }
+    ensures appended { OnOk result (out.new
+        ≡ out.old ++ rounds_text (robust N.value model.now) rounds.now) }
 {
     let mut buffer = Buffer::new();
     out.push(b"rounds ")?;
@@ -44,7 +45,8 @@ fn put_round<N: Exact>(
 ) -> Result<(), Memory>
     requires valid { IsValid N.value model.now }
     requires named { IsRoundOf (robust N.value model.now) round.now }
-    ensures appended { OnOk result (out.new ≡ out.old ++ round_line (robust N.value model.now) number round.now) }
+    ensures appended { OnOk result (out.new
+        ≡ out.old ++ round_line (robust N.value model.now) number round.now) }
 {
     let mut buffer = Buffer::new();
     out.push(b"round ")?;
@@ -58,7 +60,8 @@ fn put_round<N: Exact>(
 fn put_round_words<N: Exact>(model: &Model<N>, round: &Round, out: &mut Text) -> Result<(), Memory>
     requires valid { IsValid N.value model.now }
     requires named { IsRoundOf (robust N.value model.now) round.now }
-    ensures appended { OnOk result (out.new ≡ out.old ++ round_words (robust N.value model.now) round.now) }
+    ensures appended { OnOk result (out.new
+        ≡ out.old ++ round_words (robust N.value model.now) round.now) }
 {
     out.push(kind_word(round.kind))?;
     out.push(b" ")?;
@@ -89,7 +92,8 @@ fn via_word(by_step: bool) -> &'static [u8]
 fn put_cut<N: Exact>(model: &Model<N>, round: &Round, out: &mut Text) -> Result<(), Memory>
     requires valid { IsValid N.value model.now }
     requires named { IsRoundOf (robust N.value model.now) round.now }
-    ensures appended { OnOk result (out.new ≡ out.old ++ cut_words (robust N.value model.now) round.now) }
+    ensures appended { OnOk result (out.new
+        ≡ out.old ++ cut_words (robust N.value model.now) round.now) }
 {
     out.push(b" cut ")?;
     put_form(model, round.form, out)?;

@@ -49,7 +49,8 @@ fn put_set_rows<N: Exact>(
 ) -> Result<(), Memory>
     requires valid { IsValid N.value model.now }
     requires count { length rows.now ≡ length (set_rows (robust N.value model.now)) }
-    ensures appended { OnOk result (out.new ≡ out.old ++ set_rows_text (robust N.value model.now) rows.now) }
+    ensures appended { OnOk result (out.new
+        ≡ out.old ++ set_rows_text (robust N.value model.now) rows.now) }
 {
     let columns = set_columns(alloc, model)?;
     for index in 0..set_row_count(model) {
@@ -70,7 +71,8 @@ fn put_row<N: Exact>(
     requires valid { IsValid N.value model.now }
     requires inside { index < length (set_rows (robust N.value model.now)) }
     ensures appended { OnOk result (out.new ≡ out.old
-        ++ set_row_line columns.now (name_at (set_row_names (robust N.value model.now)) index) row.now) }
+        ++ set_row_line columns.now
+        (name_at (set_row_names (robust N.value model.now)) index) row.now) }
 {
     out.push(b"set ")?;
     put_set_row(model, index, out)?;
@@ -90,7 +92,8 @@ fn put_forms<N: Exact>(
 ) -> Result<(), Memory>
     requires valid { IsValid N.value model.now }
     requires count { length matrices.now ≡ length (forms_of (robust N.value model.now)) }
-    ensures appended { OnOk result (out.new ≡ out.old ++ forms_text (robust N.value model.now) matrices.now) }
+    ensures appended { OnOk result (out.new
+        ≡ out.old ++ forms_text (robust N.value model.now) matrices.now) }
 {
     let labels = form_labels(alloc, model)?;
     for index in 0..form_count(model) {
@@ -110,7 +113,8 @@ fn put_matrix_line<N: Exact>(
 ) -> Result<(), Memory>
     requires valid { IsValid N.value model.now }
     requires inside { index < length (forms_of (robust N.value model.now)) }
-    ensures appended { OnOk result (out.new ≡ out.old ++ form_line labels.now.fronts labels.now.columns
+    ensures appended { OnOk result (out.new
+        ≡ out.old ++ form_line labels.now.fronts labels.now.columns
         (name_at (form_names (robust N.value model.now)) index) matrix.now) }
 {
     out.push(b"form ")?;

@@ -31,7 +31,8 @@ pub fn spot_text<N: Exact>(alloc: Global, model: &Model<N>, spot: &Spot) -> Resu
 fn put_spot<N: Exact>(model: &Model<N>, spot: &Spot, out: &mut Text) -> Result<(), Memory>
     requires valid { IsValid N.value model.now }
     requires named { IsSpotOf (robust N.value model.now) spot.now }
-    ensures appended { OnOk result (out.new ≡ out.old ++ spot_words (robust N.value model.now) spot.now) }
+    ensures appended { OnOk result (out.new
+        ≡ out.old ++ spot_words (robust N.value model.now) spot.now) }
 {
     match spot {
         Spot::Coefficient(place) => {
@@ -67,7 +68,8 @@ fn put_spot<N: Exact>(model: &Model<N>, spot: &Spot, out: &mut Text) -> Result<(
 fn put_where<N: Exact>(model: &Model<N>, place: Where, out: &mut Text) -> Result<(), Memory>
     requires valid { IsValid N.value model.now }
     requires named { IsWhereOf (robust N.value model.now) place }
-    ensures appended { OnOk result (out.new ≡ out.old ++ where_words (robust N.value model.now) place) }
+    ensures appended { OnOk result (out.new
+        ≡ out.old ++ where_words (robust N.value model.now) place) }
 {
     match place {
         Where::Form(form) => put_form(model, form, out),
@@ -121,7 +123,8 @@ pub(crate) fn put_basis(basis: &[u32], out: &mut Text) -> Result<(), Memory>
 fn put_program<N: Exact>(model: &Model<N>, program: Program, out: &mut Text) -> Result<(), Memory>
     requires valid { IsValid N.value model.now }
     requires named { IsProgramOf (robust N.value model.now) program }
-    ensures appended { OnOk result (out.new ≡ out.old ++ program_words (robust N.value model.now) program) }
+    ensures appended { OnOk result (out.new
+        ≡ out.old ++ program_words (robust N.value model.now) program) }
 {
     match program {
         Program::Set => out.push(b"set"),

@@ -79,7 +79,8 @@ fn put_values<N: Exact>(
     out: &mut Text,
 ) -> Result<(), Memory>
     ensures appended { OnOk result (out.new
-        ≡ out.old ++ line (values_text adaptives.now slacks.now (line_of N.value values.now).values)) }
+        ≡ out.old ++ line
+        (values_text adaptives.now slacks.now (line_of N.value values.now).values)) }
 {
     out.push(b" inside")?;
     put_named_numbers(adaptives, values.adaptives.items(), out)?;
@@ -91,7 +92,8 @@ fn put_values<N: Exact>(
 
 /// Appends ` NAME NUM` for each name and its number.
 fn put_named_numbers<N: Exact>(names: &[Text], numbers: &[N], out: &mut Text) -> Result<(), Memory>
-    ensures appended { OnOk result (out.new ≡ out.old ++ named_texts names.now (map N.value numbers.now)) }
+    ensures appended { OnOk result (out.new
+        ≡ out.old ++ named_texts names.now (map N.value numbers.now)) }
 {
     for (name, number) in names.iter().zip(numbers) {
         put_named_number(name.bytes(), *number, out)?;
@@ -111,7 +113,8 @@ fn put_named_number<N: Exact>(name: &[u8], number: N, out: &mut Text) -> Result<
 
 /// The names of the adaptive variables.
 fn adaptive_names<N: Exact>(alloc: Global, adaptives: &[Adaptive<N>]) -> Result<List<Text>, Memory>
-    ensures list { IfOk result (λ list. list ≡ names_of_adaptives (map (adaptive_of N.value) adaptives.now)) }
+    ensures list { IfOk result (λ list. list
+        ≡ names_of_adaptives (map (adaptive_of N.value) adaptives.now)) }
 {
     let mut names = List::new(alloc);
     for adaptive in adaptives {
@@ -161,7 +164,8 @@ fn push_own_bounds<N: Exact>(
     adaptive: &Adaptive<N>,
     names: &mut List<Text>,
 ) -> Result<(), Memory>
-    ensures appended { OnOk result (names.new ≡ names.old ++ own_bound_names (adaptive_of N.value adaptive.now)) }
+    ensures appended { OnOk result (names.new
+        ≡ names.old ++ own_bound_names (adaptive_of N.value adaptive.now)) }
 {
     let own = adaptive.name.bytes();
     push_declared(alloc, adaptive.lower.is_some(), own, b".lower", names)?;

@@ -29,7 +29,8 @@ pub fn put_terms(
     numbers: &[i64],
     columns: &[Text],
 ) -> Result<(), Memory>
-    ensures appended { OnOk result (out.new ≡ out.old ++ terms_text front.now numbers.now columns.now) }
+    ensures appended { OnOk result (out.new
+        ≡ out.old ++ terms_text front.now numbers.now columns.now) }
 {
     for (number, name) in numbers.iter().zip(columns) {
         put_term(out, *number, front, name.bytes())?;
@@ -44,7 +45,8 @@ pub fn put_matrix(
     columns: &[Text],
     matrix: &[List<i64>],
 ) -> Result<(), Memory>
-    ensures appended { OnOk result (out.new ≡ out.old ++ matrix_text fronts.now columns.now matrix.now) }
+    ensures appended { OnOk result (out.new
+        ≡ out.old ++ matrix_text fronts.now columns.now matrix.now) }
 {
     for (front, numbers) in fronts.iter().zip(matrix) {
         put_terms(out, front.bytes(), numbers.items(), columns)?;

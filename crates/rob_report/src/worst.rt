@@ -65,7 +65,8 @@ fn put_greatest<N: Exact>(
     requires valid { IsValid N.value model.now }
     requires form_in { form < length (forms (robust N.value model.now)) }
     ensures appended { OnOk result (out.new
-        ≡ out.old ++ greatest_text (robust N.value model.now) form (N.value slack) (map N.value scenario.now)) }
+        ≡ out.old ++ greatest_text (robust N.value model.now) form (N.value slack)
+        (map N.value scenario.now)) }
 {
     out.push(b"worst ")?;
     put_form(model, form, out)?;

@@ -1,5 +1,5 @@
--- Judging in order: item after item is found not wide, up to the first that is, where a computation stops. It begins with
--- all, goes one step on where what comes is not wide, stops where it is, and ends.
+-- Judging in order: item after item is found not wide, up to the first that is, where a computation stops. It begins
+-- with all, goes one step on where what comes is not wide, stops where it is, and ends.
 use Rattle.std.specs.Prelude.{◌≡◌, List, [], ◌++◌, refl}
 use Rattle.std.proofs.Common.{sym, ◌∙◌, ap, subst, append_assoc}
 use Rattle.rob_meaning.specs.Places.{Each}

@@ -29,7 +29,8 @@ fn bound_table<N: Exact, L: Ledger>(
 ) -> Result<Table<N>, Memory>
     requires few { parameter < 1000 }
     ensures row { IfOk result (λ t. row_of (numbers_of N.value t)
-        ≡ (if lower then lower_row parameter (N.value bound) else upper_row parameter (N.value bound))) }
+        ≡ (if lower then lower_row parameter (N.value bound)
+        else upper_row parameter (N.value bound))) }
     ensures counted { NeverFell L.ops L.wides ledger.old ledger.new }
 {
     let mut table = Table::new(alloc);
@@ -59,9 +60,11 @@ fn append_bound<N: Exact, L: Ledger>(
     requires few_parameters { parameter < 1000 }
     requires few { length rows.old < 1000 }
     ensures row { Appends N.limit (robust N.value model.now)
-        (if_declared (if lower then lower_row parameter else upper_row parameter) (option_map N.value bound.now))
+        (if_declared (if lower then lower_row parameter else upper_row parameter)
+        (option_map N.value bound.now))
         (judged_rows (robust N.value model.now) (length rows.old)
-        (if_declared (if lower then lower_row parameter else upper_row parameter) (option_map N.value bound.now)))
+        (if_declared (if lower then lower_row parameter else upper_row parameter)
+        (option_map N.value bound.now)))
         rows.old rows.new (L.wides ledger.old) (L.wides ledger.new) result }
     ensures counted { NeverFell L.ops L.wides ledger.old ledger.new }
 {
@@ -83,7 +86,8 @@ pub fn append_bounds<N: Exact, L: Ledger>(
     requires empty { rows.old ≡ [] }
     ensures rows { Appends N.limit (robust N.value model.now)
         (bound_rows zero (robust N.value model.now).parameters)
-        (judged_rows (robust N.value model.now) zero (bound_rows zero (robust N.value model.now).parameters))
+        (judged_rows (robust N.value model.now) zero
+        (bound_rows zero (robust N.value model.now).parameters))
         [] rows.new (L.wides ledger.old) (L.wides ledger.new) result }
     ensures counted { NeverFell L.ops L.wides ledger.old ledger.new }
 {

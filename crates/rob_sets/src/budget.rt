@@ -33,7 +33,8 @@ fn member_table<N: Exact, L: Ledger>(
     requires few { member.now.param < 1000 }
     requires few_lifts { lift < 1000 }
     ensures row { IfOk result (λ t. row_of (numbers_of N.value t)
-        ≡ (if up then up_row lift (member_of N.value member.now) else down_row lift (member_of N.value member.now))) }
+        ≡ (if up then up_row lift (member_of N.value member.now)
+        else down_row lift (member_of N.value member.now))) }
     ensures counted { NeverFell L.ops L.wides ledger.old ledger.new }
 {
     let mut table = Table::new(alloc);
@@ -100,9 +101,11 @@ fn append_member<N: Exact, L: Ledger>(
     requires few_parameters { member.now.param < 1000 }
     requires few_lifts { lift < 1000 }
     ensures row { Appends N.limit (robust N.value model.now)
-        ((if up then up_row lift (member_of N.value member.now) else down_row lift (member_of N.value member.now)) ∷ [])
+        ((if up then up_row lift (member_of N.value member.now)
+        else down_row lift (member_of N.value member.now)) ∷ [])
         (judged_rows (robust N.value model.now) (length rows.old)
-        ((if up then up_row lift (member_of N.value member.now) else down_row lift (member_of N.value member.now))
+        ((if up then up_row lift (member_of N.value member.now)
+        else down_row lift (member_of N.value member.now))
         ∷ []))
         rows.old rows.new (L.wides ledger.old) (L.wides ledger.new) result }
     ensures counted { NeverFell L.ops L.wides ledger.old ledger.new }
@@ -122,7 +125,8 @@ pub fn append_budget<N: Exact, L: Ledger>(
     ledger: &mut L,
 ) -> Result<(), ElabErr>
     requires valid { IsValid N.value model.now }
-    requires members { Each (IsMember (robust N.value model.now)) (map (member_of N.value) members.now) }
+    requires members { Each (IsMember (robust N.value model.now))
+        (map (member_of N.value) members.now) }
     requires few { length rows.old + (2 * length members.now + 1) < 1000 }
     requires few_lifts { lift + length members.now < 1000 }
     ensures rows { Appends N.limit (robust N.value model.now)

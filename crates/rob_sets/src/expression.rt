@@ -31,8 +31,8 @@ pub fn coefficients<N: Exact, L: Ledger>(
     requires valid { IsValid N.value model.now }
     requires inside { IsInside (robust N.value model.now) (expression_of N.value e.now) }
     requires linear { IsLinear (robust N.value model.now) (expression_of N.value e.now) }
-    ensures table { Tabulates N.value N.limit (robust N.value model.now) (expression_of N.value e.now)
-        (L.wides ledger.old) (L.wides ledger.new) result }
+    ensures table { Tabulates N.value N.limit (robust N.value model.now)
+        (expression_of N.value e.now) (L.wides ledger.old) (L.wides ledger.new) result }
     ensures counted { NeverFell L.ops L.wides ledger.old ledger.new }
 {
     match e {
@@ -69,10 +69,13 @@ fn sum<N: Exact, L: Ledger>(
     ledger: &mut L,
 ) -> Result<Table<N>, Stop>
     requires valid { IsValid N.value model.now }
-    requires inside { TermsInside (robust N.value model.now) (terms_of (map (signed_of N.value) terms.now)) }
-    requires linear { AreLinear (robust N.value model.now) (terms_of (map (signed_of N.value) terms.now)) }
+    requires inside { TermsInside (robust N.value model.now)
+        (terms_of (map (signed_of N.value) terms.now)) }
+    requires linear { AreLinear (robust N.value model.now)
+        (terms_of (map (signed_of N.value) terms.now)) }
     ensures table { Tabulates N.value N.limit (robust N.value model.now)
-        (sum_of (terms_of (map (signed_of N.value) terms.now))) (L.wides ledger.old) (L.wides ledger.new) result }
+        (sum_of (terms_of (map (signed_of N.value) terms.now))) (L.wides ledger.old)
+        (L.wides ledger.new) result }
     ensures counted { NeverFell L.ops L.wides ledger.old ledger.new }
 {
     let mut so_far = Table::new(alloc);
@@ -92,8 +95,10 @@ fn product<N: Exact, L: Ledger>(
     ledger: &mut L,
 ) -> Result<Table<N>, Stop>
     requires valid { IsValid N.value model.now }
-    requires inside { FactorsInside (robust N.value model.now) (factors_of (map (expression_of N.value) factors.now)) }
-    requires linear { FactorsLinear (robust N.value model.now) (factors_of (map (expression_of N.value) factors.now)) }
+    requires inside { FactorsInside (robust N.value model.now)
+        (factors_of (map (expression_of N.value) factors.now)) }
+    requires linear { FactorsLinear (robust N.value model.now)
+        (factors_of (map (expression_of N.value) factors.now)) }
     requires uncertain { uncertain_degree (robust N.value model.now)
         (product_of (factors_of (map (expression_of N.value) factors.now))) ≤ 1 }
     requires decision { decision_degree (robust N.value model.now)

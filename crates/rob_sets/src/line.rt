@@ -62,8 +62,10 @@ pub fn less<N: Exact, L: Ledger>(
 ) -> Result<Table<N>, Stop>
     ensures table { IfOk result (λ t. (k j : ℕ) → numbers_of N.value t k j
         ≡ numbers_of N.value left k j +ℚ signed true (numbers_of N.value right.now k j)) }
-    ensures wide { IfErr result (StopsFor (Rose (L.wides ledger.old) (L.wides ledger.new) × ((k : ℕ) × (j : ℕ)
-        × IsWide N.limit (numbers_of N.value left k j +ℚ signed true (numbers_of N.value right.now k j))))) }
+    ensures wide { IfErr result (StopsFor
+        (Rose (L.wides ledger.old) (L.wides ledger.new) × ((k : ℕ) × (j : ℕ)
+        × IsWide N.limit
+        (numbers_of N.value left k j +ℚ signed true (numbers_of N.value right.now k j))))) }
     ensures counted { NeverFell L.ops L.wides ledger.old ledger.new }
 {
     let mut table = left;
@@ -110,7 +112,8 @@ pub fn append_line<N: Exact, L: Ledger>(
 ) -> Result<(), ElabErr>
     requires valid { IsValid N.value model.now }
     requires left { IsSetSide (robust N.value model.now) (expression_of N.value line.now.left.now) }
-    requires right { IsSetSide (robust N.value model.now) (expression_of N.value line.now.right.now) }
+    requires right { IsSetSide (robust N.value model.now)
+        (expression_of N.value line.now.right.now) }
     requires few { length rows.old + 2 < 1000 }
     ensures rows { Appends N.limit (robust N.value model.now)
         (map (expression_row (robust N.value model.now))

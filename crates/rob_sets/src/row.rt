@@ -29,7 +29,8 @@ fn row_numbers<N: Exact, L: Ledger>(
 ) -> Result<Vec<N>, AllocError>
     requires few_parameters { parameters ≤ 1000 }
     requires few_lifts { lifts ≤ 1000 }
-    ensures numbers { IfOk result (λ v. map N.value v.items ≡ (row_of (numbers_of N.value table.now)).limit
+    ensures numbers { IfOk result (λ v. map N.value v.items
+        ≡ (row_of (numbers_of N.value table.now)).limit
         ∷ (tabulate parameters (row_of (numbers_of N.value table.now)).on_parameters
         ++ tabulate lifts (row_of (numbers_of N.value table.now)).on_lifts)) }
     ensures counted { NeverFell L.ops L.wides ledger.old ledger.new }
@@ -70,8 +71,10 @@ pub fn append_row<N: Exact, L: Ledger>(
 ) -> Result<(), ElabErr>
     requires valid { IsValid N.value model.now }
     requires few { length rows.old < 1000 }
-    ensures row { Appends N.limit (robust N.value model.now) (row_of (numbers_of N.value table.now) ∷ [])
-        (judged_row (robust N.value model.now) (length rows.old) (row_of (numbers_of N.value table.now)) ∷ [])
+    ensures row { Appends N.limit (robust N.value model.now)
+        (row_of (numbers_of N.value table.now) ∷ [])
+        (judged_row (robust N.value model.now) (length rows.old)
+        (row_of (numbers_of N.value table.now)) ∷ [])
         rows.old rows.new (L.wides ledger.old) (L.wides ledger.new) result }
     ensures counted { NeverFell L.ops L.wides ledger.old ledger.new }
 {

@@ -34,7 +34,8 @@ pub fn clear_set<N: Exact, L: Ledger>(
     // An answer comes only where nothing that is judged is wide; a refusal names the first spot where something is.
     ensures none_wide { OnOk result (NothingWide N.limit (robust N.value model.now)
         (judged_set (robust N.value model.now))) }
-    ensures cause { IfErr result (HasCause N.limit (robust N.value model.now) (judged_set (robust N.value model.now))) }
+    ensures cause { IfErr result (HasCause N.limit (robust N.value model.now)
+        (judged_set (robust N.value model.now))) }
     ensures rose { IfErr result (RoseIfWide (L.wides ledger.old) (L.wides ledger.new)) }
     ensures counted { NeverFell L.ops L.wides ledger.old ledger.new }
 {
@@ -58,7 +59,8 @@ fn append_statements<N: Exact, L: Ledger>(
     requires few { length rows.old < 200 }
     ensures rows { Appends N.limit (robust N.value model.now)
         (statement_rows (robust N.value model.now) zero (robust N.value model.now).set_lines)
-        (judged_statements (robust N.value model.now) zero zero (length rows.old) (robust N.value model.now).set_lines)
+        (judged_statements (robust N.value model.now) zero zero (length rows.old)
+        (robust N.value model.now).set_lines)
         rows.old rows.new (L.wides ledger.old) (L.wides ledger.new) result }
     ensures counted { NeverFell L.ops L.wides ledger.old ledger.new }
 {
@@ -84,11 +86,13 @@ fn append_statement<N: Exact, L: Ledger>(
 ) -> Result<(), ElabErr>
     requires valid { IsValid N.value model.now }
     requires line { IsSetLine (robust N.value model.now) (set_line_of N.value line.now) }
-    requires few { length rows.old + (2 * lift_count_of (set_line_of N.value line.now ∷ []) + 2) < 1000 }
+    requires few { length rows.old + (2 * lift_count_of (set_line_of N.value line.now ∷ []) + 2)
+        < 1000 }
     requires few_lifts { lift + lift_count_of (set_line_of N.value line.now ∷ []) < 1000 }
     ensures rows { Appends N.limit (robust N.value model.now)
         (statement_rows (robust N.value model.now) lift (set_line_of N.value line.now ∷ []))
-        (judged_statements (robust N.value model.now) number lift (length rows.old) (set_line_of N.value line.now ∷ []))
+        (judged_statements (robust N.value model.now) number lift (length rows.old)
+        (set_line_of N.value line.now ∷ []))
         rows.old rows.new (L.wides ledger.old) (L.wides ledger.new) result }
     ensures counted { NeverFell L.ops L.wides ledger.old ledger.new }
 {

@@ -114,10 +114,12 @@ impl<N: Exact> Table<N> {
         ledger: &mut L,
     ) -> Result<(), Stop>
         ensures joined { OnOk result ((k j : ℕ) → numbers_of N.value self.new k j
-            ≡ numbers_of N.value self.old k j +ℚ with_sign minus (numbers_of N.value other.now k j)) }
+            ≡ numbers_of N.value self.old k j
+            +ℚ with_sign minus (numbers_of N.value other.now k j)) }
         ensures wide { IfErr result (StopsFor (Rose (L.wides ledger.old) (L.wides ledger.new)
             × ((k : ℕ) × (j : ℕ) × IsWide N.limit
-            (numbers_of N.value self.old k j +ℚ with_sign minus (numbers_of N.value other.now k j))))) }
+            (numbers_of N.value self.old k j
+            +ℚ with_sign minus (numbers_of N.value other.now k j))))) }
         ensures counted { NeverFell L.ops L.wides ledger.old ledger.new }
     {
         for (cell, x) in &other.numbers {

@@ -31,7 +31,8 @@ pub fn with_budget<N: Exact>(
     ensures replaced { IfOk result (λ other. robust N.value other
         ≡ reach.with_budget (robust N.value model.now) n (N.value limit)) }
     ensures valid { IfOk result (λ other. IsValid N.value other) }
-    ensures named { IfOk result (λ other. IsNamed (robust N.value model.now) → IsNamed (robust N.value other)) }
+    ensures named { IfOk result (λ other. IsNamed (robust N.value model.now)
+        → IsNamed (robust N.value other)) }
     ensures rule { MatchResult result (λ _. IsBudgetAt (robust N.value model.now).set_lines n)
         (IsBudgetStop (robust N.value model.now).set_lines n) }
 {

@@ -15,7 +15,8 @@ use rob_number::Exact;
 /// The number of the first rule that is broken, or none where both are kept: 81 where the statement doesn't exist or
 /// isn't a budget, 82 where the limits don't rise strictly. It takes no memory.
 pub fn sweep_rule<N: Exact>(model: &Model<N>, n: u32, limits: &[N]) -> Option<u8>
-    ensures rule { IsFirstBroken (robust N.value model.now).set_lines n (map N.value limits.now) result }
+    ensures rule { IsFirstBroken (robust N.value model.now).set_lines n
+        (map N.value limits.now) result }
 {
     if !is_budget(model.set_lines.items(), n) {
         Some(81)

@@ -29,8 +29,10 @@ pub fn answer<N: Exact, L: Ledger>(
     requires valid { IsValid N.value model.now }
     // An answer comes only where nothing is wide when the model is written in whole numbers.
     ensures written { OnOk result (IsWritten N.limit (robust N.value model.now)) }
-    ensures answers { IfOk result (λ answer. Answers (robust N.value model.now) (answer_of N.value answer)) }
-    ensures empty { IfOk result (λ answer. NamesEmpty (robust N.value model.now) (answer_of N.value answer)) }
+    ensures answers { IfOk result (λ answer. Answers (robust N.value model.now)
+        (answer_of N.value answer)) }
+    ensures empty { IfOk result (λ answer. NamesEmpty (robust N.value model.now)
+        (answer_of N.value answer)) }
     ensures cause { IfErr result (HasCause N.limit (robust N.value model.now)) }
     ensures rose { IfErr result (RoseIfWide (L.wides ledger.old) (L.wides ledger.new)) }
     ensures counted { NeverFell L.ops L.wides ledger.old ledger.new }
@@ -45,7 +47,8 @@ pub fn answer<N: Exact, L: Ledger>(
 
 /// What a certificate claims.
 fn claimed<N: Exact>(cert: &Cert<N>) -> SweepAnswer<N>
-    ensures claim { answer_of N.value result ≡ status_answer (status_of cert.now.status) (N.value cert.now.value) }
+    ensures claim { answer_of N.value result
+        ≡ status_answer (status_of cert.now.status) (N.value cert.now.value) }
 {
     match cert.status {
         Status::Optimal => SweepAnswer::Optimal(cert.value),

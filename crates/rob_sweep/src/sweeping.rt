@@ -33,13 +33,14 @@ pub fn sweep<N: Exact, L: Ledger>(
     requires valid { IsValid N.value model.now }
     requires few { length limits.now < 2 ^ 32 }
     // Answers come only where nothing is wide when the models are written in whole numbers.
-    ensures written { OnOk result (AreWritten N.limit (robust N.value model.now) n (map N.value limits.now)) }
+    ensures written { OnOk result (AreWritten N.limit (robust N.value model.now) n
+        (map N.value limits.now)) }
     // Each answer is that of the model with its limit: the status, or that the set is empty, exactly where it is.
-    ensures swept { IfOk result (λ answers. Swept (robust N.value model.now) n (map N.value limits.now)
-        (map (answer_of N.value) answers)) }
+    ensures swept { IfOk result (λ answers. Swept (robust N.value model.now) n
+        (map N.value limits.now) (map (answer_of N.value) answers)) }
     // Where it is, one of the model's sets admits nothing.
-    ensures empty { IfOk result (λ answers. EachAnswer NamesEmpty (robust N.value model.now) n (map N.value limits.now)
-        (map (answer_of N.value) answers)) }
+    ensures empty { IfOk result (λ answers. EachAnswer NamesEmpty (robust N.value model.now) n
+        (map N.value limits.now) (map (answer_of N.value) answers)) }
     // Of any two answers the later one is no easier.
     ensures harder { IfOk result (λ answers.
         EachGrowsHarder (robust N.value model.now).sense (map (answer_of N.value) answers)) }
@@ -74,11 +75,14 @@ fn at_limit<N: Exact, L: Ledger>(
 ) -> Result<SweepAnswer<N>, SweepStop>
     requires valid { IsValid N.value model.now }
     requires budget { IsBudgetAt (robust N.value model.now).set_lines n }
-    ensures written { OnOk result (IsWritten N.limit (model_with (robust N.value model.now) n (N.value limit))) }
+    ensures written { OnOk result (IsWritten N.limit
+        (model_with (robust N.value model.now) n (N.value limit))) }
     ensures answers { IfOk result (λ answer.
-        Answers (model_with (robust N.value model.now) n (N.value limit)) (answer_of N.value answer)) }
+        Answers (model_with (robust N.value model.now) n (N.value limit))
+        (answer_of N.value answer)) }
     ensures empty { IfOk result (λ answer.
-        NamesEmpty (model_with (robust N.value model.now) n (N.value limit)) (answer_of N.value answer)) }
+        NamesEmpty (model_with (robust N.value model.now) n (N.value limit))
+        (answer_of N.value answer)) }
     ensures cause { IfErr result (IsLimitStop N.limit
         (model_with (robust N.value model.now) n (N.value limit)) number) }
     ensures counted { CountsSweep L.ops L.wides ledger.old ledger.new result }

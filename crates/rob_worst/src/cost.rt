@@ -50,7 +50,8 @@ fn column<N: Exact>(forms: &Forms, i: usize, c: usize, whole: &[i64]) -> Option<
     requires form_in { i < length forms.now.matrices }
     requires size { length whole.now ≡ suc (suc forms.now.columns) }
     requires fits { Each (λ a. nat_abs a ≤ N.limit) whole.now }
-    ensures number { MatchOption result ((c < forms.now.params) × IsWidePart forms.now i N.limit (suc c) whole.now)
+    ensures number { MatchOption result
+        ((c < forms.now.params) × IsWidePart forms.now i N.limit (suc c) whole.now)
         (λ z. (z ≡ column_part forms.now i whole.now c) × (nat_abs z ≤ N.limit)) }
 {
     if c < forms.params as usize {

@@ -133,7 +133,8 @@ impl<N: Exact> Finder<N> {
         requires finder { IsFinder set.now self.old }
         requires task { IfOk task (λ task. FitsSet N.limit set.now.columns task) }
         ensures answer { (m : RobustModel) → IsModel m → IsSetForm m set.now
-            → (step : Bool) (i : ℕ) → i < length (matrices m) → (z : List Fraction) → length z ≡ form_columns m
+            → (step : Bool) (i : ℕ) → i < length (matrices m) → (z : List Fraction)
+            → length z ≡ form_columns m
             → MatchResult task (IsTaskOf m step i z) (HasSearchCause N.limit m step i z)
             → Searches N.value N.limit m step i z (L.wides ledger.old) (L.wides ledger.new) result }
         ensures within { IfOk result (HasConstantWithin N.limit) }
@@ -157,10 +158,12 @@ impl<N: Exact> Finder<N> {
 
     /// An admitted scenario: the parameters of the basic solution of the last basis of the set's program.
     pub fn inside(&self, alloc: Global, forms: &Forms) -> Result<Scenario<N>, Memory>
-        requires finder { (set : SetRows) × AreElaborated N.limit forms.now set × IsFewSet set × IsFinder set self.now }
-        ensures scenario { IfOk result (λ scenario. (m : RobustModel) (set : SetRows) → IsModel m → IsForms m forms.now
-            → IsSetForm m set → IsFinder set self.now
-            → Admits m (scenario_of N.value scenario) × IsLastScenario m (scenario_of N.value scenario)) }
+        requires finder { (set : SetRows) × AreElaborated N.limit forms.now set × IsFewSet set
+            × IsFinder set self.now }
+        ensures scenario { IfOk result (λ scenario. (m : RobustModel) (set : SetRows) → IsModel m
+            → IsForms m forms.now → IsSetForm m set → IsFinder set self.now
+            → Admits m (scenario_of N.value scenario)
+            × IsLastScenario m (scenario_of N.value scenario)) }
     {
         let values = parameters(alloc, &self.solved, forms.params)?;
         Ok(Scenario { values })

@@ -51,7 +51,8 @@ fn greatest<N: Exact>(
 ) -> Result<Worst<N>, Memory>
     requires few { IsFewSet set.now }
     requires task { FitsSet N.limit set.now.columns task.now }
-    requires searched { HasSearched (program_of_set set.now) task.now.cost kinds.Optimal solver.now }
+    requires searched { HasSearched (program_of_set set.now) task.now.cost kinds.Optimal
+        solver.now }
     ensures found { IfOk result (TellsTask N.value set.now task.now) }
     ensures within { IfOk result (HasConstantWithin N.limit) }
 {
@@ -78,7 +79,8 @@ fn along<N: Exact>(
 ) -> Result<Worst<N>, Memory>
     requires few { IsFewSet set.now }
     requires task { FitsSet N.limit set.now.columns task.now }
-    requires searched { HasSearched (program_of_set set.now) task.now.cost kinds.Unbounded solver.now }
+    requires searched { HasSearched (program_of_set set.now) task.now.cost kinds.Unbounded
+        solver.now }
     ensures found { IfOk result (TellsTask N.value set.now task.now) }
     ensures within { IfOk result (HasConstantWithin N.limit) }
 {
@@ -97,8 +99,10 @@ fn direction<N: Exact>(alloc: Global, solver: &Solver<N>, count: u32) -> Result<
     requires ray { HasRay solver.now }
     requires few { count < 2 ^ 31 }
     requires inside { count + count ≤ solver.now.columns }
-    requires pairs { (c : ℕ) → c < count → OneIsZero (ray_of solver.now (plus c)) (ray_of solver.now (minus c)) }
-    ensures parameters { IfOk result (λ list. map N.value list ≡ differences count (ray_of solver.now)) }
+    requires pairs { (c : ℕ) → c < count
+        → OneIsZero (ray_of solver.now (plus c)) (ray_of solver.now (minus c)) }
+    ensures parameters { IfOk result (λ list. map N.value list
+        ≡ differences count (ray_of solver.now)) }
 {
     let numbers = ray(alloc, solver, 2 * count)?;
     pair_differences(alloc, numbers.items(), count as usize)

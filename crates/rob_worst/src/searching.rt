@@ -69,10 +69,11 @@ pub fn go_deeper<N: Exact, L: Ledger>(
     requires solved { IsSolved (program_of_set set.now) solved.now }
     requires rows { length set.now.rows ≡ positions search.now }
     requires depth { search.now.limit ≡ solved.now.limit }
-    requires stopped { HasStoppedSearch N.limit (program_of_set set.now) task.now.cost stop search.now }
+    requires stopped { HasStoppedSearch N.limit
+        (program_of_set set.now) task.now.cost stop search.now }
     ensures answer { (m : RobustModel) → IsSetForm m set.now
-        → (step : Bool) (i : ℕ) → i < length (matrices m) → (z : List Fraction) → length z ≡ form_columns m
-        → IsTaskOf m step i z task.now
+        → (step : Bool) (i : ℕ) → i < length (matrices m) → (z : List Fraction)
+        → length z ≡ form_columns m → IsTaskOf m step i z task.now
         → Searches N.value N.limit m step i z (L.wides ledger.old) (L.wides ledger.new) result }
     ensures within { IfOk result (HasConstantWithin N.limit) }
     ensures counted { NeverFell L.ops L.wides ledger.old ledger.new }
@@ -100,8 +101,10 @@ fn refused<N: Exact, L: Ledger>(
     requires few { IsFewSet set.now }
     requires rows { length set.now.rows ≡ positions solver.now }
     requires depth { solver.now.limit ≡ deep_limit }
-    requires stopped { HasStoppedSearch N.limit (program_of_set set.now) task.now.cost stop solver.now }
-    ensures cause { (m : RobustModel) → IsSetForm m set.now → (step : Bool) (i : ℕ) → (z : List Fraction)
+    requires stopped { HasStoppedSearch N.limit
+        (program_of_set set.now) task.now.cost stop solver.now }
+    ensures cause { (m : RobustModel) → IsSetForm m set.now → (step : Bool) (i : ℕ)
+        → (z : List Fraction)
         → IsTaskOf m step i z task.now → HasSearchCause N.limit m step i z result }
     ensures wides { CountsStop (L.wides ledger.old) (L.wides ledger.new) result }
     ensures counted { NeverFell L.ops L.wides ledger.old ledger.new }

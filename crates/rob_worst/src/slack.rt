@@ -19,7 +19,8 @@ pub fn slack<N: Exact, L: Ledger>(
 ) -> Result<N, Wide>
     requires scale { N.value scale ≢ of_int (pos 0) }
     requires constant { nat_abs constant ≤ N.limit }
-    ensures slack { IfOk result (λ slack. N.value slack ≡ slack_of (N.value scale) (N.value peak) (of_int constant)) }
+    ensures slack { IfOk result (λ slack. N.value slack
+        ≡ slack_of (N.value scale) (N.value peak) (of_int constant)) }
     // An answer comes only where neither the sum nor the quotient is wide, and a refusal only where one of them is.
     ensures fits { OnOk result (Fits N.limit (N.value peak +ℚ of_int constant)
         × Fits N.limit (slack_of (N.value scale) (N.value peak) (of_int constant))) }

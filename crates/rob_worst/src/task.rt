@@ -49,8 +49,8 @@ pub fn plan_task<N: Exact>(
     requires form_in { form < length model.forms.now.matrices }
     requires size { length plan.now.columns ≡ model.forms.now.columns }
     ensures fits { IfOk result (λ task. FitsSet N.limit model.entry.set.now.columns task) }
-    ensures task { (m : RobustModel) → IsForms m model.entry.forms.now → IsSetForm m model.entry.set.now
-        → MatchResult result
+    ensures task { (m : RobustModel) → IsForms m model.entry.forms.now
+        → IsSetForm m model.entry.set.now → MatchResult result
         (IsTaskOf m false form (plan_of N.value plan.now))
         (HasSearchCause N.limit m false form (plan_of N.value plan.now)) }
 {
@@ -69,8 +69,8 @@ pub fn step_task<N: Exact>(
     requires form_in { form < length model.forms.now.matrices }
     requires size { length step.now ≡ suc model.forms.now.columns }
     ensures fits { IfOk result (λ task. FitsSet N.limit model.entry.set.now.columns task) }
-    ensures task { (m : RobustModel) → IsForms m model.entry.forms.now → IsSetForm m model.entry.set.now
-        → MatchResult result
+    ensures task { (m : RobustModel) → IsForms m model.entry.forms.now
+        → IsSetForm m model.entry.set.now → MatchResult result
         (IsTaskOf m true form (step_of N.value step.now))
         (HasSearchCause N.limit m true form (step_of N.value step.now)) }
 {
@@ -90,8 +90,8 @@ fn task_at<N: Exact>(
     requires form_in { form < length model.forms.now.matrices }
     requires size { length vector.now ≡ suc (suc model.forms.now.columns) }
     ensures fits { IfOk result (λ task. FitsSet N.limit model.entry.set.now.columns task) }
-    ensures task { (m : RobustModel) → IsForms m model.entry.forms.now → IsSetForm m model.entry.set.now
-        → MatchResult result
+    ensures task { (m : RobustModel) → IsForms m model.entry.forms.now
+        → IsSetForm m model.entry.set.now → MatchResult result
         (IsTaskOf m by_step form (map N.value vector.now))
         (HasSearchCause N.limit m by_step form (map N.value vector.now)) }
 {

@@ -33,7 +33,8 @@ pub fn step_vector<N: Exact>(alloc: Global, step: &[N]) -> Result<List<N>, Memor
 
 /// A first number, and the others behind it.
 fn vector<N: Exact>(alloc: Global, first: N, others: &[N]) -> Result<List<N>, Memory>
-    ensures vector { IfOk result (λ list. map N.value list ≡ N.value first ∷ map N.value others.now) }
+    ensures vector { IfOk result (λ list. map N.value list
+        ≡ N.value first ∷ map N.value others.now) }
 {
     let mut numbers = List::new(alloc);
     numbers.push(first)?;

@@ -53,7 +53,8 @@ boundless_round-requires-clause-within g c =
     (ray_of c.args.solver.now) l) c.in-Ok-Broken.field-0-is
     (c.in-Ok-Broken.ensures.look e.model c.requires.model.is_model e.are_forms e.is_set)).1.base
 
-pub boundless_round-requires-in-Ok-Broken-look_at_plan-clause-within : goal.boundless_round-requires-in-Ok-Broken-look_at_plan-clause-within
+pub boundless_round-requires-in-Ok-Broken-look_at_plan-clause-within :
+    goal.boundless_round-requires-in-Ok-Broken-look_at_plan-clause-within
 boundless_round-requires-in-Ok-Broken-look_at_plan-clause-within g c =
     let e = c.requires.model.elaborated in
     (subst (λ (l : PlanLook g.row.N.Denot). IsPlanLook g.N.Exact.limit e.model g.N.Exact.value

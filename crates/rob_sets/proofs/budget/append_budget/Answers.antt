@@ -66,7 +66,8 @@ append_member-requires-in-loop-member-clause-few g c =
       appended_length c.in_ok-append_member.ensures.row,
     )
 
-pub append_member-requires-in-loop-member-clause-few_parameters : goal.append_member-requires-in-loop-member-clause-few_parameters
+pub append_member-requires-in-loop-member-clause-few_parameters :
+    goal.append_member-requires-in-loop-member-clause-few_parameters
 append_member-requires-in-loop-member-clause-few_parameters g c =
     let value = g.N.Exact.value in
     let inside =

@@ -140,7 +140,8 @@ returns-in_err-add-clause-table g c =
     (numbers_of value c.loop-parameter.table (S * c.written_count.result + get_or items i 0 + 1) (column + 1) +ℚ x)). (
       omega (arith, c.loop-parameter.invariant.counted.wides, c.one-number.ensures.wides, h.0),
       inl (rule_wide m S c.args.adaptive items i column (numbers_of value c.loop-parameter.table)
-          c.loop-parameter.invariant.rest c.written_count.result c.written_count.ensures.count c.loop-parameter-test.true
+          c.loop-parameter.invariant.rest c.written_count.result c.written_count.ensures.count
+          c.loop-parameter-test.true
           x c.one-number.ensures.value limit h.1),
     ))
     c.in_err-add.ensures.wide)
