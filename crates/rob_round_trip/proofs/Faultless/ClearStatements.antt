@@ -21,7 +21,6 @@ use Rattle.rob_rules.specs.declared.leaf.Leaf.{Leaf}
 use Rattle.rob_rules.specs.declared.leaf.Leaf.TheVariants as leaf
 use Rattle.rob_rules.specs.declared.sort.Sort.{Sort}
 use Rattle.rob_rules.specs.declared.sort.Sort.TheVariants as sort
-use Rattle.rob_syntax.proofs.OneReading.KindDecisions.{one_statement}
 use Rattle.rob_syntax.specs.Grammar.{tree_expr}
 use Rattle.rob_syntax.specs.Statements.{IsStatement, Line, Shares, Sides, adaptive, budget, goal, over, row, set, spell_line, spell_member, spell_name, spell_over, spell_rel, spell_sense, spell_sides, statement_of, uncertain, variable}
 use Rattle.rob_index.specs.Reading.{one}
@@ -40,6 +39,7 @@ use Rattle.rob_round_trip.proofs.Faultless.ClearProducts.{none_of_both}
 use Rattle.rob_round_trip.proofs.Faultless.FineLeaves.{IsFineLeaf, all_usable, all_within, fine_numeral, no_zero_divisor, not_zero}
 use Rattle.rob_round_trip.proofs.Faultless.LeafNames.{names_in, names_in-append, names_in-names, once}
 use Rattle.rob_round_trip.proofs.Faultless.ParameterWords.{no_decision, same_words, undecided}
+use Rattle.rob_round_trip.proofs.Indexed.OwnStatements.{one_statement}
 use Rattle.rob_round_trip.proofs.ReadBack.ExpressionText.{read_back, read_fine, symbols_append}
 use Rattle.rob_round_trip.proofs.ReadBack.NumberText.{number_back, numeral_of}
 use Rattle.rob_round_trip.proofs.ReadBack.StatementText.{bounds_back, bounds_of, list_back, member_of, member_spelled, parsed_sense, rel_of, rel_word, sense_word}

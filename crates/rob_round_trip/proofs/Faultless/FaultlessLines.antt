@@ -16,6 +16,7 @@ use Rattle.rob_rules.specs.Leaves.{leaves, relation_leaves, statement_leaves}
 use Rattle.rob_rules.specs.declared.leaf.Leaf.{Leaf}
 use Rattle.rob_syntax.specs.declared.syntax.Relation.{Relation}
 use Rattle.rob_syntax.specs.declared.syntax.Goal.{Goal}
+use Rattle.rob_syntax.specs.declared.syntax.Sense.TheVariants as sense
 use Rattle.rob_syntax.specs.declared.syntax.Statement.{Statement}
 use Rattle.rob_syntax.specs.declared.syntax.Statement.TheVariants as parsed
 use Rattle.rob_write.specs.Canonical.{Written}
@@ -26,7 +27,8 @@ use Rattle.rob_round_trip.specs.Readable.{AreStatements}
 use Rattle.rob_rules.specs.Reading.{Follows}
 use Rattle.rob_rules.specs.Scopes.{Earlier, behind}
 use Rattle.rob_rules.specs.Sizes.{start_sizes, counted, is_within}
-use Rattle.rob_syntax.specs.Statements.{IsStatement}
+use Rattle.rob_syntax.specs.Statements.{IsStatement, Line, spell_line}
+use Rattle.rob_syntax.specs.Statements as line
 use Rattle.rob_syntax.specs.Trees.{tree_of}
 use Rattle.rob_round_trip.proofs.Faultless.CanonicalParts.{GoalIs}
 use Rattle.rob_round_trip.proofs.Faultless.CanonicalWalk.{Walk}
@@ -34,7 +36,6 @@ use Rattle.rob_round_trip.proofs.Faultless.CanonicalSizes.{within_front}
 use Rattle.rob_rules.specs.Stages.{behind_all}
 use Rattle.rob_parse.proofs.Sizes.CountLemmas.{Counts, counts_none, counts_more}
 use Rattle.rob_parse.proofs.Degrees.DegreeLemmas.{EachName}
-use Rattle.rob_syntax.proofs.OneReading.KindDecisions.{some_symbols}
 use Rattle.rob_parse.proofs.Names.SortLemmas.{AllNamed, named_behind}
 use Rattle.rob_parse.proofs.Degrees.UsedLemmas.{Free, IsFreeName, free_tree, left, right}
 
@@ -98,6 +99,21 @@ pub counts_behind : (words : List (List ℕ)) (sorts : List (Option Sort)) (e : 
 counts_behind words sorts e [] = counts_none words sorts e.sizes
 counts_behind words sorts e (s ∷ list) =
     counts_more words sorts s list e.sizes (behind_all e (s ∷ list)).sizes (counts_behind words sorts (behind e s) list)
+
+-- ---- a line begins with its keyword, so no line is empty
+no_line : (l : Line) → [] ≡ spell_line l → ⊥
+no_line (line.uncertain d) same = cc
+no_line (line.over j) same = cc
+no_line (line.set d) same = cc
+no_line (line.budget d) same = cc
+no_line (line.variable d) same = cc
+no_line (line.adaptive d) same = cc
+no_line (line.goal sense.Minimise d) same = cc
+no_line (line.goal sense.Maximise d) same = cc
+no_line (line.row d) same = cc
+
+some_symbols : (s : Statement) → IsStatement [] s → ⊥
+some_symbols s is = no_line is.line is.spelled
 
 -- ---- lines without a fault follow one another
 module _ (limit : ℕ) (words : List (List ℕ)) where

@@ -43,10 +43,10 @@ use Rattle.rob_syntax.specs.declared.syntax.Statement.{Statement}
 use Rattle.rob_syntax.specs.declared.syntax.Statement.TheVariants as parsed
 
 -- ---- the line without indices
-abbrev bare_over : Option ℕ → Option Ref
+abbrev pub bare_over : Option ℕ → Option Ref
 bare_over o = option_map bare_ref o
 
-abbrev bare_share : Member → Ranged Share
+abbrev pub bare_share : Member → Ranged Share
 bare_share m = record {
   item = record {
     name = bare_ref m.name;
@@ -56,10 +56,10 @@ bare_share m = record {
   ranges = [];
 }
 
-abbrev bare_entry : ℕ → Ranged Ref
+abbrev pub bare_entry : ℕ → Ranged Ref
 bare_entry k = record { item = bare_ref k; ranges = [] }
 
-abbrev plain_sides : Sides → stated.Sides plain.Expr
+abbrev pub plain_sides : Sides → stated.Sides plain.Expr
 plain_sides s = record {
   left = plain_expr s.left;
   rel = seen_rel s.rel;
@@ -67,7 +67,7 @@ plain_sides s = record {
   over = bare_over s.right.over;
 }
 
-abbrev plain_line : Line → Indexed plain.Expr
+abbrev pub plain_line : Line → Indexed plain.Expr
 plain_line (line.uncertain d) = stated.uncertain (bare_ref d.name) (option_map seen_bounds d.bounds) []
 plain_line (line.over k) = stated.over (bare_ref k) []
 plain_line (line.set s) = stated.set (plain_sides s) []
@@ -148,7 +148,7 @@ sides_seen s =
 ended : (xs : List Symbol) {us : List is.Symbol} → seen_line xs ≡ us → seen_line xs ≡ us ++ []
 ended xs {us} h = h ∙ sym (append-nil us)
 
-line_seen : (l : Line) → seen_line (spell_line l) ≡ lines.spell_line (plain_line l)
+pub line_seen : (l : Line) → seen_line (spell_line l) ≡ lines.spell_line (plain_line l)
 line_seen (line.uncertain d) =
     let bounds = spell_optional d.bounds in
     seen_next (Reserved word.Uncertain) (Name d.name ∷ bounds)
@@ -201,7 +201,7 @@ entries_ranged : (on : List ℕ) → lines.AreAllRanged (map bare_entry on)
 entries_ranged [] = tt
 entries_ranged (k ∷ on) = (omega arith, entries_ranged on)
 
-is_line : (l : Line) → lines.IsLine (plain_line l)
+pub is_line : (l : Line) → lines.IsLine (plain_line l)
 is_line (line.uncertain d) = omega arith
 is_line (line.over k) = omega arith
 is_line (line.set s) = omega arith
@@ -237,11 +237,20 @@ is_plain (line.goal s e) = (plain_of_expr e.inner, over_plain e.over, refl)
 is_plain (line.row t) = (refl, sides_plain t.sides, refl)
 
 -- ---- with numbers for names it is the reader's statement
-bounds_back : (b : Option Bounds) → option_map own_bounds (option_map seen_bounds b) ≡ b
+pub bounds_back : (b : Option Bounds) → option_map own_bounds (option_map seen_bounds b) ≡ b
 bounds_back None = refl
 bounds_back (Some (Between both)) = refl
 bounds_back (Some (AtLeast a)) = refl
 bounds_back (Some (AtMost b)) = refl
+
+pub rel_back : (r : Rel) → own_rel (seen_rel r) ≡ r
+rel_back rel.AtMost = refl
+rel_back rel.AtLeast = refl
+rel_back rel.Equal = refl
+
+pub sense_back : (s : Sense) → own_sense (seen_sense s) ≡ s
+sense_back sense.Minimise = refl
+sense_back sense.Maximise = refl
 
 module _ (words : List (List ℕ)) where
   abbrev Found : List Symbol → Type 0
@@ -274,15 +283,6 @@ module _ (words : List (List ℕ)) where
       → map (number_of words) (itself_names words (map bare_entry on)) ≡ on
   list_back [] h = refl
   list_back (k ∷ on) h = let more = names_back on h.1 in λ i. h.0 i ∷ more i
-
-  rel_back : (r : Rel) → own_rel (seen_rel r) ≡ r
-  rel_back rel.AtMost = refl
-  rel_back rel.AtLeast = refl
-  rel_back rel.Equal = refl
-
-  sense_back : (s : Sense) → own_sense (seen_sense s) ≡ s
-  sense_back sense.Minimise = refl
-  sense_back sense.Maximise = refl
 
   sides_back : (s : Sides) → Found (spell_sides s)
       → numbered_relation words (itself words (plain.tree_expr (plain_expr s.left))) (seen_rel s.rel)
