@@ -1,12 +1,12 @@
 -- No canonical line has a fault, whatever line is in front of it.
 pub mod CanonicalSizes
-pub mod Clear
+pub mod FaultlessParts
 pub mod NoFault
 pub mod FineLeaves
 pub mod LeafNames
-pub mod ClearProducts
+pub mod FaultlessProducts
 pub mod ParameterWords
-pub mod ClearStatements
+pub mod FaultlessStatements
 pub mod CanonicalScopes
 pub mod SaidLines
 pub mod CanonicalWalk

@@ -28,14 +28,14 @@ use Rattle.rob_rules.specs.Sizes.{start_sizes, counted, is_within}
 use Rattle.rob_syntax.specs.Statements.{IsStatement}
 use Rattle.rob_syntax.specs.Trees.{tree_of}
 use Rattle.rob_round_trip.proofs.Faultless.CanonicalParts.{GoalIs, Parted, parted, joined}
-use Rattle.rob_round_trip.proofs.Faultless.CanonicalBlocks.{all_new, one_goal, goal_found, goals_are, sorts_are, goal_is, all_clear}
+use Rattle.rob_round_trip.proofs.Faultless.CanonicalBlocks.{all_new, one_goal, goal_found, goals_are, sorts_are, goal_is, all_faultless}
 use Rattle.rob_round_trip.proofs.Faultless.CanonicalScopes.{Kept, canonical_sorts, all_known, all_fresh, behind_adaptives, rows_declared, kept_noted}
 use Rattle.rob_round_trip.proofs.Faultless.CanonicalWalk.{Walk, walk_both, walk_pair, walk_statements, each_walk, IsNewThere, IsFirstGoal, kept_to_end}
 use Rattle.rob_parse.proofs.Sizes.StatementSizes.{added, sizes_are}
 use Rattle.rob_round_trip.proofs.Faultless.CanonicalSizes.{counts_within, written_counts, written_sizes}
 use Rattle.rob_rules.specs.Stages.{behind_all}
-use Rattle.rob_round_trip.proofs.Faultless.Clear.{AreClear}
-use Rattle.rob_round_trip.proofs.Faultless.ClearProducts.{statement_products}
+use Rattle.rob_round_trip.proofs.Faultless.FaultlessParts.{HasNoFaultBehind}
+use Rattle.rob_round_trip.proofs.Faultless.FaultlessProducts.{statement_products}
 use Rattle.rob_parse.proofs.Degrees.DegreeLemmas.{EachName, Clean, Stands}
 use Rattle.rob_round_trip.proofs.Faultless.FaultlessLines.{free_expressions, each_flat_apart, IsLinearStatement, linear_statement, names_behind, counts_behind, IsRight, right_follow, StaysWithin, within_walk}
 use Rattle.rob_round_trip.proofs.Indexed.PlainTexts.{text_reads}
@@ -125,13 +125,11 @@ module _ (limit : ℕ) (low : 1 ≤ limit) (small : limit < 2 ^ 62) (words : Lis
         (goals_are limit words m d spelled named readable list p) sets)
         of_rows
 
-    abbrev IsClear : Earlier → List Symbol → Statement → Type 0
-    IsClear e symbols s = AreClear limit e.sorts s
-
     abbrev HasGoodProducts : Earlier → List Symbol → Statement → Type 0
     HasGoodProducts e symbols s = Clean (flat_map (products e.sorts) (expressions s))
 
-    good_products : (e : Earlier) (symbols : List Symbol) (s : Statement) → Kept e.sorts f.sorts → IsClear e symbols s
+    good_products : (e : Earlier) (symbols : List Symbol) (s : Statement) → Kept e.sorts f.sorts
+        → HasNoFaultBehind limit e symbols s
         → IsLinearStatement w words f.sorts s → HasGoodProducts e symbols s
     good_products e symbols s kept free straight =
         statement_products w f.sorts e.sorts s
@@ -143,7 +141,7 @@ module _ (limit : ℕ) (low : 1 ≤ limit) (small : limit < 2 ^ 62) (words : Lis
     -- ---- no line has a fault
     no_fault : Walk words (IsRight limit words) first (lines_of m) all
     no_fault =
-        let clears = all_clear limit words m d spelled named readable list p small good once in
+        let faultless = all_faultless limit words m d spelled named readable list p small good once in
         let news = all_new limit words m d spelled named readable list p in
         let goals = one_goal limit words m d spelled named readable list p in
         let sizes = within_walk words [] first (lines_of m) all refl are within in
@@ -152,17 +150,18 @@ module _ (limit : ℕ) (low : 1 ≤ limit) (small : limit < 2 ^ 62) (words : Lis
         let kept = kept_to_end words first (lines_of m) all news in
         let of_products =
         walk_both words (λ e symbols s. Kept e.sorts f.sorts)
-        (λ e symbols s. IsClear e symbols s × IsLinearStatement w words f.sorts s) HasGoodProducts
+        (λ e symbols s. HasNoFaultBehind limit e symbols s × IsLinearStatement w words f.sorts s) HasGoodProducts
         (λ e symbols s a b. good_products e symbols s a b.0 b.1) first (lines_of m) all kept
-        (walk_pair words IsClear (λ e symbols s. IsLinearStatement w words f.sorts s) first
-        (lines_of m) all clears straight) in
-        walk_both words (λ e symbols s. IsStatement symbols s × (IsClear e symbols s × HasGoodProducts e symbols s))
+        (walk_pair words (HasNoFaultBehind limit) (λ e symbols s. IsLinearStatement w words f.sorts s) first
+        (lines_of m) all faultless straight) in
+        walk_both words
+        (λ e symbols s. IsStatement symbols s × (HasNoFaultBehind limit e symbols s × HasGoodProducts e symbols s))
         (λ e symbols s. IsNewThere words e symbols s
         × (IsFirstGoal words e symbols s × StaysWithin words e symbols s)) (IsRight limit words)
         (λ e symbols s a b. (a.0, no_faults limit e s a.1.0 b.0 a.1.1 b.1.0 b.1.1)) first (lines_of m) all
         (walk_pair words (λ e symbols s. IsStatement symbols s)
-        (λ e symbols s. IsClear e symbols s × HasGoodProducts e symbols s) first (lines_of m) all said
-        (walk_pair words IsClear HasGoodProducts first (lines_of m) all clears of_products))
+        (λ e symbols s. HasNoFaultBehind limit e symbols s × HasGoodProducts e symbols s) first (lines_of m) all said
+        (walk_pair words (HasNoFaultBehind limit) HasGoodProducts first (lines_of m) all faultless of_products))
         (walk_pair words (IsNewThere words)
         (λ e symbols s. IsFirstGoal words e symbols s × StaysWithin words e symbols s) first (lines_of m) all news
         (walk_pair words (IsFirstGoal words) (StaysWithin words) first (lines_of m) all goals sizes))

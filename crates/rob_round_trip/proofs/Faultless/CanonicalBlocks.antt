@@ -25,8 +25,8 @@ use Rattle.rob_round_trip.proofs.Faultless.CanonicalScopes.{AreFresh, Kept, behi
 use Rattle.rob_round_trip.proofs.Faultless.SaidLines.{parameter_said, declared_set_said, variable_said, set_said, adaptive_said, row_said}
 use Rattle.rob_round_trip.proofs.Faultless.CanonicalWalk.{Walk, walk_append, walk_kind, IsNewThere, IsFirstGoal, Block, block, plain_block}
 use Rattle.rob_rules.specs.Stages.{behind_all}
-use Rattle.rob_round_trip.proofs.Faultless.Clear.{AreClear}
-use Rattle.rob_round_trip.proofs.Faultless.ClearStatements.{answer_of, declared_set_clear, parameter_clear, variable_clear, set_clear, adaptive_clear, goal_clear, row_clear}
+use Rattle.rob_round_trip.proofs.Faultless.FaultlessParts.{HasNoFaultBehind}
+use Rattle.rob_round_trip.proofs.Faultless.FaultlessStatements.{answer_of, declared_set_faultless, parameter_faultless, variable_faultless, set_faultless, adaptive_faultless, goal_faultless, row_faultless}
 use Rattle.rob_round_trip.proofs.ReadBack.LinesText.{rows_declarable}
 use Rattle.rob_round_trip.proofs.Faultless.CanonicalParts.{behind_append, goal_later, GoalIs, no_goal_is, any_each, each_place, set_lines_of, goal_line_of, row_lines_of, Parted, joined}
 
@@ -271,9 +271,6 @@ module _ (limit : ℕ) (words : List (List ℕ)) (m : RobustModel) (d : AreDecla
     -- ---- no name and no number of a line is at fault
     module _ (small : limit < 2 ^ 62) (good : IsModel (written_model m))
         (once : Each HasDistinctMembers (written_model m).set_lines) where
-      abbrev Clears : Earlier → List Symbol → Statement → Type 0
-      Clears e symbols s = AreClear limit e.sorts s
-
       kept_as : (a b c : List (Option Sort)) → Kept a b → c ≡ b → Kept a c
       kept_as a b c kept same = subst (Kept a) (sym same) kept
 
@@ -340,8 +337,8 @@ module _ (limit : ℕ) (words : List (List ℕ)) (m : RobustModel) (d : AreDecla
           (readable.placed.row_sets ∙ sym (length-map m.rows (row_written (written_count m))))
           readable.placed.of_rows)
 
-      pub all_clear : Walk words Clears first (lines_of m) statements
-      all_clear =
+      pub all_faultless : Walk words (HasNoFaultBehind limit) first (lines_of m) statements
+      all_faultless =
           let parameters_later = parameters_known words m d spelled named.distinct in
           let sets_later = sets_stand words m d spelled named.distinct in
           let all_later = all_known words m d spelled named.distinct in
@@ -354,22 +351,22 @@ module _ (limit : ℕ) (words : List (List ℕ)) (m : RobustModel) (d : AreDecla
           let behind_fifth =
           kept_as (behind_adaptives words m) (behind_adaptives words m) fifth.sorts (λ k x is. is)
           adaptive_block.0.sorts_are in
-          along Clears
+          along (HasNoFaultBehind limit)
           (walk_kind words parameter_words (λ (x : model.Parameter). IsDeclarable words x.name
-          × (IsBound limit x.lower × IsBound limit x.upper)) Clears first.sorts
-          (λ z s e q is kept. parameter_clear limit small words e.sorts z q.0 q.1.0 q.1.1 s is) (written_parameters m)
-          first p.of_parameters (λ k x is. is)
+          × (IsBound limit x.lower × IsBound limit x.upper)) (HasNoFaultBehind limit) first.sorts
+          (λ z s e q is kept. parameter_faultless limit small words e.sorts z q.0 q.1.0 q.1.1 s is)
+          (written_parameters m) first p.of_parameters (λ k x is. is)
           (each_both (λ (x : model.Parameter). IsDeclarable words x.name)
           (λ (x : model.Parameter). IsBound limit x.lower × IsBound limit x.upper) _ (λ z a b. (a, b))
           (written_parameters m) d.parameters readable.parts.parameters)
           p.parameters parameter_block.0.new)
-          (walk_kind words declared_set_words (IsDeclarable words) Clears second.sorts
-          (λ z s e q is kept. declared_set_clear limit small words e.sorts z q s is) m.sets second
+          (walk_kind words declared_set_words (IsDeclarable words) (HasNoFaultBehind limit) second.sorts
+          (λ z s e q is kept. declared_set_faultless limit small words e.sorts z q s is) m.sets second
           p.of_names (λ k x is. is) d.sets
           p.names name_block.0.new)
-          (walk_kind words (placed_words (set_words names) m.sets) IsFineSet Clears (behind_sets words m)
-          (λ z s e q is kept.
-          set_clear limit small words e.sorts names
+          (walk_kind words (placed_words (set_words names) m.sets) IsFineSet (HasNoFaultBehind limit)
+          (behind_sets words m) (λ z s e q is kept.
+          set_faultless limit small words e.sorts names
           (parameters_later e.sorts
           (kept_more (behind_parameters words m) (behind_sets words m) e.sorts of_sets kept)) w
           z.0 q.0.0 q.0.1 q.0.2 z.1
@@ -378,23 +375,23 @@ module _ (limit : ℕ) (words : List (List ℕ)) (m : RobustModel) (d : AreDecla
           (kept_as (behind_sets words m) (behind_sets words m) named_behind.sorts (λ k x is. is) name_block.0.sorts_are)
           fine_set p.set set_block.0.new)
           (walk_kind words variable_words (λ (x : model.Variable). IsDeclarable words x.name
-          × (IsBound limit x.lower × IsBound limit x.upper)) Clears third.sorts
-          (λ z s e q is kept. variable_clear limit small words e.sorts z q.0 q.1.0 q.1.1 s is) m.variables third
+          × (IsBound limit x.lower × IsBound limit x.upper)) (HasNoFaultBehind limit) third.sorts
+          (λ z s e q is kept. variable_faultless limit small words e.sorts z q.0 q.1.0 q.1.1 s is) m.variables third
           p.of_variables (λ k x is. is)
           (each_both (λ (x : model.Variable). IsDeclarable words x.name)
           (λ (x : model.Variable). IsBound limit x.lower × IsBound limit x.upper) _ (λ z a b. (a, b)) m.variables
           d.variables readable.parts.variables)
           p.variables variable_block.0.new)
-          (walk_kind words (adaptive_words names) IsFineAdaptive Clears (behind_parameters words m)
-          (λ z s e q is kept. adaptive_clear limit small words e.sorts names (parameters_later e.sorts kept) z q.0 q.1.0
-          q.2 q.1.1.0 q.1.1.1 s is)
+          (walk_kind words (adaptive_words names) IsFineAdaptive (HasNoFaultBehind limit) (behind_parameters words m)
+          (λ z s e q is kept. adaptive_faultless limit small words e.sorts names (parameters_later e.sorts kept) z q.0
+          q.1.0 q.2 q.1.1.0 q.1.1.1 s is)
           m.adaptives fourth p.of_adaptives behind_fourth fine_adaptives p.adaptives adaptive_block.0.new)
-          (goal_clear limit small words fifth.sorts names (all_later fifth.sorts behind_fifth) m.sense w.objective
+          (goal_faultless limit small words fifth.sorts names (all_later fifth.sorts behind_fifth) m.sense w.objective
           readable.parts.objective m.objective_set
           (answer_of limit small words fifth.sorts m.sets (all_later fifth.sorts behind_fifth).sets m.objective_set
           readable.placed.of_objective) (parsed.Goal p.wish) p.goal)
-          (walk_kind words (placed_words (row_words names) m.sets) IsFineRow Clears (behind_adaptives words m)
-          (λ z s e q is kept.
-          row_clear limit small words e.sorts names (all_later e.sorts kept) z.0 q.0.0 q.0.1.0 q.0.1.1 z.1
+          (walk_kind words (placed_words (row_words names) m.sets) IsFineRow (HasNoFaultBehind limit)
+          (behind_adaptives words m) (λ z s e q is kept.
+          row_faultless limit small words e.sorts names (all_later e.sorts kept) z.0 q.0.0 q.0.1.0 q.0.1.1 z.1
           (answer_of limit small words e.sorts m.sets (all_later e.sorts kept).sets z.1 q.1) s is)
           (beside w.rows m.row_sets) sixth p.of_rows behind_fifth fine_rows p.rows row_block.0.new)

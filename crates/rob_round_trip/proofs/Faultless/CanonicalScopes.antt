@@ -18,7 +18,7 @@ use Rattle.rob_syntax.specs.Names.{IsWord, IsSpelled}
 use Rattle.rob_round_trip.specs.Readable.{StandsFor, AreKnown, IsDeclarable, AreDeclarable}
 use Rattle.rob_rules.specs.Scopes.{has_some}
 use Rattle.rob_syntax.specs.Symbols.{number_of}
-use Rattle.rob_round_trip.proofs.Faultless.Clear.{parameters_only}
+use Rattle.rob_round_trip.proofs.Faultless.FaultlessParts.{parameters_only}
 use Rattle.rob_parse.proofs.Names.DeclaredLemmas.{IsNew}
 use Rattle.rob_rules.proofs.GrowingLemmas.{nothing_at}
 use Rattle.rob_rules.proofs.LinkLemmas.{set_kept}

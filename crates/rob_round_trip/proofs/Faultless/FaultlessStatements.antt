@@ -34,8 +34,8 @@ use Rattle.rob_syntax.specs.declared.syntax.Member.{Member}
 use Rattle.rob_syntax.specs.declared.syntax.Policy.{Policy as Rule}
 use Rattle.rob_syntax.specs.declared.syntax.Statement.{Statement}
 use Rattle.rob_write.specs.Canonical.{Naming, Written, adaptive_words, bound_words, comparison_words, declared_set_words, expression_words, goal_words, listed, member_words, name as name_word, name_at, number_words, over_words, parameter_words, relation_word, row_words, set_words, sign, variable_words}
-use Rattle.rob_round_trip.proofs.Faultless.Clear.{AreClear, parameters_only}
-use Rattle.rob_round_trip.proofs.Faultless.ClearProducts.{none_of_both}
+use Rattle.rob_round_trip.proofs.Faultless.FaultlessParts.{HasNoFault, parameters_only}
+use Rattle.rob_round_trip.proofs.Faultless.FaultlessProducts.{none_of_both}
 use Rattle.rob_round_trip.proofs.Faultless.FineLeaves.{IsFineLeaf, all_usable, all_within, fine_numeral, no_zero_divisor, not_zero}
 use Rattle.rob_round_trip.proofs.Faultless.LeafNames.{names_in, names_in-append, names_in-names, once}
 use Rattle.rob_round_trip.proofs.Faultless.ParameterWords.{no_decision, same_words, undecided}
@@ -56,15 +56,15 @@ module _ (limit : ℕ) (small : limit < 2 ^ 62) (words : List (List ℕ)) (sorts
   abbrev AreFine : List Leaf → Type 0
   AreFine = Each (IsFineLeaf limit sorts)
 
-  -- the statement of a line is the one that is read of it, and is clear where its names and numbers are fine
-  line_clear : (symbols : List Symbol) (l : Line) (s : Statement) → symbols ≡ spell_line l → IsStatement symbols s
+  -- the statement of a line is the one that is read of it, and has no fault where its names and numbers are fine
+  line_faultless : (symbols : List Symbol) (l : Line) (s : Statement) → symbols ≡ spell_line l → IsStatement symbols s
       → AreFine (statement_leaves (statement_of l)) → is_over_none sorts (over_of (statement_of l)) ≡ false
       → list_any is_certain (members_of (statement_of l)) ≡ false
       → (is_listing (statement_of l) && has_twice (statement_leaves (statement_of l))) ≡ false
       → (is_of_set (statement_of l) && list_any (names_decision sorts) (statement_leaves (statement_of l))) ≡ false
-      → AreClear limit sorts s
-  line_clear symbols l s spelled is fine known deviates apart decided =
-      subst (AreClear limit sorts)
+      → HasNoFault limit sorts s
+  line_faultless symbols l s spelled is fine known deviates apart decided =
+      subst (HasNoFault limit sorts)
       (one_statement symbols (statement_of l) s (record { line = l; spelled = spelled; statement_is = refl }) is)
       (record {
         unknown = all_usable limit sorts (statement_leaves (statement_of l)) fine;
@@ -82,11 +82,11 @@ module _ (limit : ℕ) (small : limit < 2 ^ 62) (words : List (List ℕ)) (sorts
   bounds_fine None (Some u) h k = (fine_numeral limit u k, tt)
   bounds_fine (Some l) (Some u) h k = (fine_numeral limit l h, (fine_numeral limit u k, tt))
 
-  pub parameter_clear : (p : model.Parameter) → IsDeclarable words p.name
+  pub parameter_faultless : (p : model.Parameter) → IsDeclarable words p.name
       → IsBound limit p.lower → IsBound limit p.upper
-      → (s : Statement) → IsStatement (symbols_on words (parameter_words p)) s → AreClear limit sorts s
-  parameter_clear p d l u s is =
-      line_clear (symbols_on words (parameter_words p))
+      → (s : Statement) → IsStatement (symbols_on words (parameter_words p)) s → HasNoFault limit sorts s
+  parameter_faultless p d l u s is =
+      line_faultless (symbols_on words (parameter_words p))
       (uncertain (record { name = number_of words p.name; bounds = bounds_of p.lower p.upper })) s
       (ap (λ (x : List Symbol). Reserved word.Uncertain ∷ x)
       (name_back words p.name (bound_words p.lower p.upper) d.is_name
@@ -94,10 +94,11 @@ module _ (limit : ℕ) (small : limit < 2 ^ 62) (words : List (List ℕ)) (sorts
       (bounds_back limit small words p.lower p.upper l u)))
       is (bounds_fine p.lower p.upper l u) refl refl refl refl
 
-  pub variable_clear : (x : model.Variable) → IsDeclarable words x.name → IsBound limit x.lower → IsBound limit x.upper
-      → (s : Statement) → IsStatement (symbols_on words (variable_words x)) s → AreClear limit sorts s
-  variable_clear x d l u s is =
-      line_clear (symbols_on words (variable_words x))
+  pub variable_faultless : (x : model.Variable) → IsDeclarable words x.name
+      → IsBound limit x.lower → IsBound limit x.upper
+      → (s : Statement) → IsStatement (symbols_on words (variable_words x)) s → HasNoFault limit sorts s
+  variable_faultless x d l u s is =
+      line_faultless (symbols_on words (variable_words x))
       (variable (record { name = number_of words x.name; bounds = bounds_of x.lower x.upper })) s
       (ap (λ (y : List Symbol). Reserved word.Var ∷ y)
       (name_back words x.name (bound_words x.lower x.upper) d.is_name
@@ -105,10 +106,10 @@ module _ (limit : ℕ) (small : limit < 2 ^ 62) (words : List (List ℕ)) (sorts
       (bounds_back limit small words x.lower x.upper l u)))
       is (bounds_fine x.lower x.upper l u) refl refl refl refl
 
-  pub declared_set_clear : (n : List ℕ) → IsDeclarable words n
-      → (s : Statement) → IsStatement (symbols_on words (declared_set_words n)) s → AreClear limit sorts s
-  declared_set_clear n d s is =
-      line_clear (symbols_on words (declared_set_words n)) (over (number_of words n)) s
+  pub declared_set_faultless : (n : List ℕ) → IsDeclarable words n
+      → (s : Statement) → IsStatement (symbols_on words (declared_set_words n)) s → HasNoFault limit sorts s
+  declared_set_faultless n d s is =
+      line_faultless (symbols_on words (declared_set_words n)) (over (number_of words n)) s
       (ap (λ (x : List Symbol). Reserved word.Over ∷ x) (name_back words n [] d.is_name)) is tt refl refl refl refl
 
   -- ---- the set that a line answers to
@@ -164,28 +165,28 @@ module _ (limit : ℕ) (small : limit < 2 ^ 62) (words : List (List ℕ)) (sorts
 
   -- ---- lines over all names
   module _ (names : Naming) (known : AreKnown words sorts names) where
-    pub goal_clear : (sense : model.Sense) (objective : meaning.Expression) → IsReadable limit names objective
+    pub goal_faultless : (sense : model.Sense) (objective : meaning.Expression) → IsReadable limit names objective
         → (S : ℕ) → IsAnswer names.sets S
         → (s : Statement)
         → IsStatement (symbols_on words (goal_words names sense objective ++ over_words names.sets S)) s
-        → AreClear limit sorts s
-    goal_clear sense objective h S a s is =
+        → HasNoFault limit sorts s
+    goal_faultless sense objective h S a s is =
         let end = over_words names.sets S in
         let back = read_back limit small words sorts names known objective h in
-        line_clear (symbols_on words (goal_words names sense objective ++ end))
+        line_faultless (symbols_on words (goal_words names sense objective ++ end))
         (goal (parsed_sense sense) (record { inner = back.item; over = a.over })) s
         (sense_word words sense (expression_words names objective ++ end)
         ∙ ap (λ (x : List Symbol). spell_sense (parsed_sense sense) ∷ x)
         (symbols_append words (expression_words names objective) end ∙ (λ i. back.spelled i ++ a.spelled i)))
         is (read_fine limit small words sorts names known objective h) a.known refl refl refl
 
-    pub row_clear : (r : model.Row) → IsDeclarable words r.name → IsReadable limit names r.left
+    pub row_faultless : (r : model.Row) → IsDeclarable words r.name → IsReadable limit names r.left
         → IsReadable limit names r.right → (S : ℕ) → IsAnswer names.sets S
         → (s : Statement) → IsStatement (symbols_on words (row_words names r ++ over_words names.sets S)) s
-        → AreClear limit sorts s
-    row_clear r d h k S a s is =
+        → HasNoFault limit sorts s
+    row_faultless r d h k S a s is =
         let sides = the_sides names known r.left r.relation r.right h k names.sets S a in
-        line_clear (symbols_on words (row_words names r ++ over_words names.sets S))
+        line_faultless (symbols_on words (row_words names r ++ over_words names.sets S))
         (row (record { name = number_of words r.name; sides = sides })) s
         (ap (λ (x : List Symbol). Reserved word.Row ∷ x)
         (name_back words r.name
@@ -283,18 +284,18 @@ module _ (limit : ℕ) (small : limit < 2 ^ 62) (words : List (List ℕ)) (sorts
         (undecided_at h.parameter all.0.0.parameter)
         ∙ members_undecided hs all.1
 
-    pub set_clear : (m : RobustModel) (c : model.SetLine) → IsReadableSetLine limit names c → IsSetLine m c
+    pub set_faultless : (m : RobustModel) (c : model.SetLine) → IsReadableSetLine limit names c → IsSetLine m c
         → HasDistinctMembers c → (S : ℕ) → IsAnswer names.sets S
         → (s : Statement) → IsStatement (symbols_on words (set_words names c ++ over_words names.sets S)) s
-        → AreClear limit sorts s
-    set_clear m (model.line left r right) h of_set apart S a s is =
+        → HasNoFault limit sorts s
+    set_faultless m (model.line left r right) h of_set apart S a s is =
         let few = parameters_only names in
         let l = no_decision limit names m left h.0 of_set.0.1 in
         let k = no_decision limit names m right h.1 of_set.1.1 in
         let end = over_words names.sets S in
         let one = read_back limit small words sorts few known left l in
         let two = read_back limit small words sorts few known right k in
-        line_clear (symbols_on words (set_words names (model.line left r right) ++ end))
+        line_faultless (symbols_on words (set_words names (model.line left r right) ++ end))
         (set (the_sides few known left r right l k names.sets S a)) s
         (ap (λ (x : List Symbol). Reserved word.Set ∷ x)
         ((λ i. symbols_on words
@@ -305,8 +306,8 @@ module _ (limit : ℕ) (small : limit < 2 ^ 62) (words : List (List ℕ)) (sorts
         (leaves (tree_of (tree_expr two.item)))
         (undecided limit sorts names (tree_of (tree_expr one.item)) (subst (IsReadable limit few) (sym one.tree_is) l))
         (undecided limit sorts names (tree_of (tree_expr two.item)) (subst (IsReadable limit few) (sym two.tree_is) k)))
-    set_clear m (model.budget bound []) h of_set apart S a s is = absurd h
-    set_clear m (model.budget bound (x ∷ xs)) h of_set apart S a s is =
+    set_faultless m (model.budget bound []) h of_set apart S a s is = absurd h
+    set_faultless m (model.budget bound (x ∷ xs)) h of_set apart S a s is =
         let few = parameters_only names in
         let all = full m (x ∷ xs) h.1 of_set in
         let members = listed (member_words few) true (x ∷ xs) in
@@ -315,7 +316,7 @@ module _ (limit : ℕ) (small : limit < 2 ^ 62) (words : List (List ℕ)) (sorts
           limit = numeral_of bound;
           members = record { first = read_member x; more = map read_member xs; over = a.over };
         } in
-        line_clear (symbols_on words (set_words names (model.budget bound (x ∷ xs)) ++ end)) (budget shares) s
+        line_faultless (symbols_on words (set_words names (model.budget bound (x ∷ xs)) ++ end)) (budget shares) s
         (ap (λ (l : List Symbol). Reserved word.Budget ∷ l)
         (ap (symbols_on words) (append_assoc (number_words bound) (sign mark.Colon ∷ members) end)
         ∙ symbols_append words (number_words bound) (sign mark.Colon ∷ (members ++ end))
@@ -357,17 +358,17 @@ module _ (limit : ℕ) (small : limit < 2 ^ 62) (words : List (List ℕ)) (sorts
     bounds_undecided None (Some u) = refl
     bounds_undecided (Some l) (Some u) = refl
 
-    pub adaptive_clear : (y : model.AdaptiveVariable) → IsDeclarable words y.name
+    pub adaptive_faultless : (y : model.AdaptiveVariable) → IsDeclarable words y.name
         → Each (λ k. k < length names.parameters) y.on → AreDistinct y.on
         → IsBound limit y.lower → IsBound limit y.upper
-        → (s : Statement) → IsStatement (symbols_on words (adaptive_words names y)) s → AreClear limit sorts s
-    adaptive_clear y d all apart l u s is =
+        → (s : Statement) → IsStatement (symbols_on words (adaptive_words names y)) s → HasNoFault limit sorts s
+    adaptive_faultless y d all apart l u s is =
         let few = parameters_only names in
         let write : ℕ → List Written = λ k. name_at names.parameters k ∷ [] in
         let on = map number_at y.on in
         let rest = bound_leaves (bounds_of y.lower y.upper) in
         let policy : Rule = record { name = number_of words y.name; on = on; bounds = bounds_of y.lower y.upper } in
-        line_clear (symbols_on words (adaptive_words names y)) (adaptive policy) s
+        line_faultless (symbols_on words (adaptive_words names y)) (adaptive policy) s
         (ap (λ (x : List Symbol). Reserved word.Adaptive ∷ x)
         (name_back words y.name
         (sign mark.Open ∷ (listed write true y.on ++ sign mark.Close ∷ bound_words y.lower y.upper)) d.is_name

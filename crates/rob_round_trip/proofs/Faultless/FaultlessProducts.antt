@@ -105,50 +105,50 @@ module _ (m : RobustModel) (sorts before : List (Option Sort)) where
 
   mutual
     -- no product of an expression that is linear in the model is refused
-    pub products_clear : (t : Tree) → EachName (Stands m sorts before) t → meaning.IsLinear m (expression sorts t)
+    pub products_faultless : (t : Tree) → EachName (Stands m sorts before) t → meaning.IsLinear m (expression sorts t)
         → Clean (products before t)
-    products_clear (number n) stands linear = clean_none
-    products_clear (name k) stands linear = clean_none
-    products_clear (sum ts) stands linear = summands_clear ts stands linear
-    products_clear (product no_operands) stands linear = clean_none
-    products_clear (product (operand f fs)) stands linear =
+    products_faultless (number n) stands linear = clean_none
+    products_faultless (name k) stands linear = clean_none
+    products_faultless (sum ts) stands linear = summands_faultless ts stands linear
+    products_faultless (product no_operands) stands linear = clean_none
+    products_faultless (product (operand f fs)) stands linear =
         let d = operands_degree (operand f fs) stands in
         clean_together (products before f) (more_products before (degree before f) fs)
-        (products_clear f stands.0 linear.2.0)
-        (operands_clear fs (degree before f) (omega (arith, d.uncertain, linear.0))
+        (products_faultless f stands.0 linear.2.0)
+        (operands_faultless fs (degree before f) (omega (arith, d.uncertain, linear.0))
         (omega (arith, d.decision, linear.1)) stands.1 linear.2.1)
 
-    summands_clear : (ts : Summands) → EachSummand (Stands m sorts before) ts → meaning.AreLinear m (terms sorts ts)
+    summands_faultless : (ts : Summands) → EachSummand (Stands m sorts before) ts → meaning.AreLinear m (terms sorts ts)
         → Clean (sum_products before ts)
-    summands_clear no_summands stands linear = clean_none
-    summands_clear (summand minus t ts) stands linear =
-        clean_together (products before t) (sum_products before ts) (products_clear t stands.0 linear.0)
-        (summands_clear ts stands.1 linear.1)
+    summands_faultless no_summands stands linear = clean_none
+    summands_faultless (summand minus t ts) stands linear =
+        clean_together (products before t) (sum_products before ts) (products_faultless t stands.0 linear.0)
+        (summands_faultless ts stands.1 linear.1)
 
-    operands_clear : (fs : Operands) (p : Degree) → p.uncertain + (product_degree before fs).uncertain ≤ 1
+    operands_faultless : (fs : Operands) (p : Degree) → p.uncertain + (product_degree before fs).uncertain ≤ 1
         → p.decision + (product_degree before fs).decision ≤ 1
         → EachOperand (Stands m sorts before) fs → meaning.FactorsLinear m (factors sorts fs)
         → Clean (more_products before p fs)
-    operands_clear no_operands p u d stands linear = clean_none
-    operands_clear (operand f fs) p u d stands linear =
+    operands_faultless no_operands p u d stands linear = clean_none
+    operands_faultless (operand f fs) p u d stands linear =
         let q = times p (degree before f) in
         clean_together (q ∷ []) (products before f ++ more_products before q fs)
         (clean_low q (omega (arith, d)) (omega (arith, u)))
-        (clean_together (products before f) (more_products before q fs) (products_clear f stands.0 linear.0)
-        (operands_clear fs q (omega (arith, u)) (omega (arith, d)) stands.1 linear.1))
+        (clean_together (products before f) (more_products before q fs) (products_faultless f stands.0 linear.0)
+        (operands_faultless fs q (omega (arith, u)) (omega (arith, d)) stands.1 linear.1))
 
   -- the same of several expressions
-  pub all_clear : (ts : List Tree)
+  pub all_faultless : (ts : List Tree)
       → Each (λ (t : Tree). EachName (Stands m sorts before) t × meaning.IsLinear m (expression sorts t)) ts
       → Clean (flat_map (products before) ts)
-  all_clear [] each = clean_none
-  all_clear (t ∷ ts) each =
+  all_faultless [] each = clean_none
+  all_faultless (t ∷ ts) each =
       clean_together (products before t) (flat_map (products before) ts)
-      (products_clear t each.0.0 each.0.1) (all_clear ts each.1)
+      (products_faultless t each.0.0 each.0.1) (all_faultless ts each.1)
 
   -- no product of a statement is refused
   pub statement_products : (s : Statement)
       → Each (λ (t : Tree). EachName (Stands m sorts before) t
       × meaning.IsLinear m (expression sorts t)) (expressions s)
       → Clean (flat_map (products before) (expressions s))
-  statement_products s each = all_clear (expressions s) each
+  statement_products s each = all_faultless (expressions s) each
