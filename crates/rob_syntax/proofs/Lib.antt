@@ -6,5 +6,3 @@ pub mod TreeLemmas
 pub mod WordLemmas
 pub mod VersionLemmas
 pub mod SeenLemmas
-pub mod Readers
-pub mod OneReading

@@ -6,7 +6,6 @@ pub mod Grammar
 pub mod Lists
 pub mod Statements
 pub mod Trees
-pub mod Readers
 pub mod Seen
 pub mod Fronts
 pub mod Parts
