@@ -5,7 +5,6 @@ use Rattle.rob_syntax.specs.declared.symbol.Symbol.TheVariants.{Name, Sign, Rese
 use Rattle.rob_syntax.specs.declared.symbol.Mark.TheVariants as mark
 use Rattle.rob_syntax.specs.declared.symbol.Keyword.TheVariants as word
 use Rattle.rob_syntax.specs.declared.syntax.Numeral.{Numeral}
-use Rattle.rob_syntax.specs.declared.syntax.Syntax.{Syntax}
 use Rattle.rob_syntax.specs.declared.syntax.Signed.{Signed}
 use Rattle.rob_syntax.specs.declared.syntax.Interval.{Interval}
 use Rattle.rob_syntax.specs.declared.syntax.Bounds.{Bounds}
@@ -158,10 +157,6 @@ spell_line (adaptive p) = Reserved word.Adaptive ∷ spell_policy p
 spell_line (goal sense e) = spell_sense sense ∷ spell_ending e
 spell_line (row t) = Reserved word.Row ∷ spell_titled t
 
--- the expression's tree, and the set
-abbrev pub tree_ending : Ending → Syntax × Option ℕ
-tree_ending e = (tree_expr e.inner, e.over)
-
 -- both sides with their trees, and the set
 abbrev pub relation_of : Sides → Relation
 relation_of s = record { left = tree_expr s.left; rel = s.rel; right = tree_expr s.right.inner; over = s.right.over }
@@ -173,10 +168,6 @@ row_of t = record { name = t.name; relation = relation_of t.sides }
 -- all members
 abbrev pub members_of : Members → List Member
 members_of m = m.first ∷ m.more
-
--- all members, and the set
-abbrev pub members_over : Members → List Member × Option ℕ
-members_over m = (members_of m, m.over)
 
 -- the budget with all its members, and its set
 abbrev pub budget_of : Shares → Budget
