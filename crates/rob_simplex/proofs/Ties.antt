@@ -1,13 +1,12 @@
 -- Where rows tie: the slack columns that are not basic, listed, and what they decide of two rows.
 use Rattle.std.proofs.Common.{◌≡◌, ℕ, ◌+◌, ◌<◌, ◌≤◌, sym, ap, ◌∙◌, subst, arith, inl, inr, List, length, get_or, take, cond, nat_lt, Option, Some, None, Bool}
-use Rattle.std.specs.Option.{MatchOption}
 use Rattle.std.proofs.lemmas.Bool.{cases_eq, cases_lt}
 use Rattle.std.proofs.lemmas.Bool.Decides.{nat_tests}
 use Rattle.std.proofs.lemmas.Int.{ints}
 use lib.IntN.{ℤ, pos, ◌-ℤ◌, ◌*ℤ◌}
 use Rattle.rob_entries.proofs.Listing.{IsListedTo, all_listed}
 use Rattle.rob_simplex.specs.Dictionaries.{Table, columns_of, rows_of, Decided}
-use Rattle.rob_simplex.specs.FreeSlacks.{AreFree}
+use Rattle.rob_simplex.specs.FreeSlacks.{AreFree, lead}
 use Rattle.rob_simplex.proofs.RatioLemmas.{both_zero}
 
 -- ---- the list
@@ -32,22 +31,15 @@ of_listed t seen listed order room h =
     }
 
 -- ---- two rows
--- the difference of two rows over their divisors in a slack column
+-- what a slack column says of two rows
 abbrev pub tie : Table → ℕ → ℕ → ℤ → ℤ → ℕ → ℤ
-tie t i e p q k = (p *ℤ rows_of t e (t.columns + k)) -ℤ (q *ℤ rows_of t i (t.columns + k))
-
--- what a column decides, where it is one of the first ones
-pub decided_before : (before k : ℕ) (r : Option Bool) (f f' : ℤ) → f ≡ f' → k < before
-    → MatchOption r (f ≡ pos 0) (λ less. Decided less f)
-    → MatchOption r (k < before → f' ≡ pos 0) (λ less. (k < before) × Decided less f')
-decided_before before k None f f' e l h = λ kl. sym e ∙ h
-decided_before before k (Some less) f f' e l h = (l, subst (λ z. Decided less z) e h)
+tie t i e p q k = lead t i p e q (t.columns + k)
 
 -- of the first `count` slack columns that are listed, those before `before` don't decide
 abbrev pub Tied : Table → ℕ → ℕ → ℤ → ℤ → ℕ → List ℕ → ℕ → Type 0
 Tied t i e p q before slacks count =
     (s : ℕ) → s < count → get_or slacks s 0 < before
-    → (p *ℤ rows_of t e (t.columns + get_or slacks s 0)) -ℤ (q *ℤ rows_of t i (t.columns + get_or slacks s 0)) ≡ pos 0
+    → tie t i e p q (get_or slacks s 0) ≡ pos 0
 
 pub tied_more : (t : Table) (i e : ℕ) (p q : ℤ) (before : ℕ) (slacks : List ℕ) (count : ℕ)
     → Tied t i e p q before slacks count
@@ -83,10 +75,11 @@ module _ (t : Table) (i e : ℕ) (p q : ℤ) (seen before : ℕ) (slacks : List 
       → tie t i e p q j ≡ pos 0
   tied_all count end tied = tied_to count before (omega arith) (λ s sl l. omega arith) tied
 
-  pub tied_before : (count : ℕ) → count < length slacks → get_or slacks count 0 < before
-      → Tied t i e p q before slacks count → (j : ℕ) → j < get_or slacks count 0 → tie t i e p q j ≡ pos 0
-  tied_before count there b tied =
-      tied_to count (get_or slacks count 0) (omega arith)
+  -- those listed behind a column come later still
+  pub tied_below : (count k : ℕ) → count < length slacks → k ≤ before → k ≤ get_or slacks count 0
+      → Tied t i e p q before slacks count → (j : ℕ) → j < k → tie t i e p q j ≡ pos 0
+  tied_below count k there kb past tied =
+      tied_to count k kb
       (λ s sl l. elim (cases_lt s count) [
         | inl c ↦ c
         | inr c ↦ elim (cases_eq s count) [

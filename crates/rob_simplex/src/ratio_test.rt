@@ -1,10 +1,10 @@
 //! Which row leaves: of the rows that are positive in the entering column, the one whose right side and then slack
 //! entries, all over its entry in that column, come first. (Dantzig, Orden, Wolfe 1955.)
 
-ghost use Rattle.std.specs.Prelude.{◌≡◌, ◌≢◌, ◌<◌, ◌≤◌, ◌^◌, ◌-◌, ◌+◌, ◌<ℤ◌, ◌≤ℤ◌, ◌*ℤ◌, ◌-ℤ◌, ◌↔◌, ℕ, pos, nat_abs, IsTrue, IfSome, MatchOption};
+ghost use Rattle.std.specs.Prelude.{◌≡◌, ◌≢◌, ◌<◌, ◌≤◌, ◌^◌, ◌-◌, ◌+◌, ◌<ℤ◌, ◌≤ℤ◌, ◌*ℤ◌, ◌-ℤ◌, ◌↔◌, ℕ, pos, IsTrue, IfSome, MatchOption};
 ghost use Rattle.rob_linear.specs.Turns.{ComesBefore, Leaves};
-ghost use Rattle.rob_simplex.specs.Dictionaries.{positions, width_of, rows_of, columns_of, shape, GoesFirst, Decided, IsFree};
-ghost use Rattle.rob_simplex.specs.FreeSlacks.{AreFree};
+ghost use Rattle.rob_simplex.specs.Dictionaries.{positions, width_of, rows_of, columns_of, shape, GoesFirst, Decided};
+ghost use Rattle.rob_simplex.specs.FreeSlacks.{AreFree, lead};
 
 use crate::dictionary::Dictionary;
 use crate::free_slacks::FIRST;
@@ -47,8 +47,8 @@ impl<E: Entry> Dictionary<E> {
         requires i_in { i < positions self.now }
         requires e_in { e < positions self.now }
         ensures order { MatchOption result
-            ((E.value p *ℤ rows_of self.now e column) -ℤ (E.value q *ℤ rows_of self.now i column) ≡ pos 0)
-            (λ less. Decided less ((E.value p *ℤ rows_of self.now e column) -ℤ (E.value q *ℤ rows_of self.now i column))) }
+            (lead self.now i (E.value p) e (E.value q) column ≡ pos 0)
+            (λ less. Decided less (lead self.now i (E.value p) e (E.value q) column)) }
     {
         is_less(self.entry(i, column), p, self.entry(e, column), q)
     }
@@ -60,8 +60,8 @@ impl<E: Entry> Dictionary<E> {
         requires i_in { i < positions self.now }
         requires e_in { e < positions self.now }
         ensures order { MatchOption result
-            ((E.value p *ℤ rows_of self.now e column) -ℤ (E.value q *ℤ rows_of self.now i column) ≡ pos 0)
-            (λ less. Decided less ((E.value p *ℤ rows_of self.now e column) -ℤ (E.value q *ℤ rows_of self.now i column))) }
+            (lead self.now i (E.value p) e (E.value q) column ≡ pos 0)
+            (λ less. Decided less (lead self.now i (E.value p) e (E.value q) column)) }
     {
         is_less(
             self.dense_entry(i, column),
@@ -71,26 +71,16 @@ impl<E: Entry> Dictionary<E> {
         )
     }
 
-    /// The same in a slack column, where it is one of the first ones.
+    /// The same in a slack column, where a mark of either row is looked at first.
     #[inline(always)]
-    fn is_less_before(
-        &self,
-        before: usize,
-        k: usize,
-        i: usize,
-        p: E,
-        e: usize,
-        q: E,
-    ) -> Option<bool>
-        requires before_in { before ≤ positions self.now }
+    fn is_less_marked(&self, k: usize, i: usize, p: E, e: usize, q: E) -> Option<bool>
+        requires k_in { k < positions self.now }
         requires i_in { i < positions self.now }
         requires e_in { e < positions self.now }
-        ensures order { MatchOption result (k < before → (E.value p *ℤ rows_of self.now e (self.now.columns + k)) -ℤ (E.value q *ℤ rows_of self.now i (self.now.columns + k)) ≡ pos 0)
-            (λ less. (k < before) × Decided less ((E.value p *ℤ rows_of self.now e (self.now.columns + k)) -ℤ (E.value q *ℤ rows_of self.now i (self.now.columns + k)))) }
+        ensures order { MatchOption result
+            (lead self.now i (E.value p) e (E.value q) (self.now.columns + k) ≡ pos 0)
+            (λ less. Decided less (lead self.now i (E.value p) e (E.value q) (self.now.columns + k))) }
     {
-        if before <= k {
-            return None;
-        }
         if self.is_some_in(self.columns + k, i, e) {
             return self.is_less_at(self.columns + k, i, p, e, q);
         }
@@ -117,15 +107,18 @@ impl<E: Entry> Dictionary<E> {
         requires not_i { (k : ℕ) → k < before → columns_of self.now.basis i ≢ self.now.columns + k }
         requires not_e { (k : ℕ) → k < before → columns_of self.now.basis e ≢ self.now.columns + k }
         ensures order { MatchOption result
-            ((j : ℕ) → j < before → (E.value p *ℤ rows_of self.now e (self.now.columns + j)) -ℤ (E.value q *ℤ rows_of self.now i (self.now.columns + j)) ≡ pos 0)
+            ((j : ℕ) → j < before → lead self.now i (E.value p) e (E.value q) (self.now.columns + j) ≡ pos 0)
             (λ less. (k : ℕ) × (k < positions self.now)
-            × ((j : ℕ) → j < k → (E.value p *ℤ rows_of self.now e (self.now.columns + j)) -ℤ (E.value q *ℤ rows_of self.now i (self.now.columns + j)) ≡ pos 0)
-            × Decided less ((E.value p *ℤ rows_of self.now e (self.now.columns + k)) -ℤ (E.value q *ℤ rows_of self.now i (self.now.columns + k)))) }
+            × ((j : ℕ) → j < k → lead self.now i (E.value p) e (E.value q) (self.now.columns + j) ≡ pos 0)
+            × Decided less (lead self.now i (E.value p) e (E.value q) (self.now.columns + k))) }
     {
         let _ = seen;
         let _ = self.basis.len();
         for k in free {
-            match self.is_less_before(before, *k, i, p, e, q) {
+            if before <= *k {
+                return None;
+            }
+            match self.is_less_marked(*k, i, p, e, q) {
                 Some(less) => return Some(less),
                 None => {}
             }

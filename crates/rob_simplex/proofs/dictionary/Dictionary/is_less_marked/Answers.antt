@@ -1,8 +1,9 @@
-use Rattle.std.proofs.Common.{◌≡◌, ◌+◌, ◌*ℤ◌, ◌-ℤ◌, ap, subst, arith, pos}
-use Rattle.rob_simplex.specs.Dictionaries.{Table, rows_of}
+use Rattle.std.proofs.Common.{◌≡◌, ◌+◌, ap, subst, pos}
+use Rattle.std.specs.Option.{MatchOption}
+use Rattle.rob_simplex.specs.Dictionaries.{Table, Decided, rows_of}
+use Rattle.rob_simplex.specs.FreeSlacks.{lead}
 use Rattle.rob_simplex.proofs.RatioLemmas.{both_zero}
-use Rattle.rob_simplex.proofs.Ties.{decided_before}
-use Rattle.rob_simplex.proofs.dictionary.Dictionary.is_less_before.Goals as goal
+use Rattle.rob_simplex.proofs.dictionary.Dictionary.is_less_marked.Goals as goal
 
 pub returns-then-is_some_in : goal.returns-then-is_some_in
 returns-then-is_some_in g c =
@@ -12,12 +13,8 @@ returns-then-is_some_in g c =
     let en : c.self.inside.columns ≡ c.args.self.now.columns = ap (λ (t : Table). t.columns) c.self.view_is in
     record {
       order =
-          decided_before c.args.before c.args.k c.is_less_at.result
-          ((p *ℤ rows_of t c.args.e (c.self.inside.columns + c.args.k))
-          -ℤ (q *ℤ rows_of t c.args.i (c.self.inside.columns + c.args.k)))
-          ((p *ℤ rows_of t c.args.e (t.columns + c.args.k)) -ℤ (q *ℤ rows_of t c.args.i (t.columns + c.args.k)))
-          (ap (λ n. (p *ℤ rows_of t c.args.e (n + c.args.k)) -ℤ (q *ℤ rows_of t c.args.i (n + c.args.k))) en)
-          (omega (arith, c.if-before-k.false)) c.is_less_at.ensures.order;
+          subst (λ n. MatchOption c.is_less_at.result (lead t c.args.i p c.args.e q (n + c.args.k) ≡ pos 0)
+          (λ less. Decided less (lead t c.args.i p c.args.e q (n + c.args.k)))) en c.is_less_at.ensures.order;
     }
 
 pub returns : goal.returns
@@ -25,7 +22,7 @@ returns g c =
     let t = c.args.self.now in
     let en : c.self.inside.columns ≡ c.args.self.now.columns = ap (λ (t : Table). t.columns) c.self.view_is in
     record {
-      order = λ l.
+      order =
           both_zero (rows_of t c.args.i (t.columns + c.args.k)) (g.E.Entry.value c.args.p)
           (rows_of t c.args.e (t.columns + c.args.k)) (g.E.Entry.value c.args.q)
           (subst (λ n. rows_of t c.args.i (n + c.args.k) ≡ pos 0) en (c.is_some_in.ensures.i_zero c.if-is_some_in.false))
