@@ -1,11 +1,11 @@
 -- Where rows tie: the slack columns that are not basic, listed, and what they decide of two rows.
-use Rattle.std.proofs.Common.{◌≡◌, ℕ, ◌+◌, ◌<◌, ◌≤◌, sym, ap, ◌∙◌, subst, arith, inl, inr, List, length, get_or, take, cond, nat_lt, Option, Some, None, Bool}
+use Rattle.std.proofs.Common.{◌≡◌, ℕ, ◌+◌, ◌<◌, ◌≤◌, ap, ◌∙◌, arith, inl, inr, List, length, get_or, take, cond, nat_lt}
 use Rattle.std.proofs.lemmas.Bool.{cases_eq, cases_lt}
 use Rattle.std.proofs.lemmas.Bool.Decides.{nat_tests}
 use Rattle.std.proofs.lemmas.Int.{ints}
-use lib.IntN.{ℤ, pos, ◌-ℤ◌, ◌*ℤ◌}
+use lib.IntN.{ℤ, pos}
 use Rattle.rob_entries.proofs.Listing.{IsListedTo, all_listed}
-use Rattle.rob_simplex.specs.Dictionaries.{Table, columns_of, rows_of, Decided}
+use Rattle.rob_simplex.specs.Dictionaries.{Table, columns_of, rows_of}
 use Rattle.rob_simplex.specs.FreeSlacks.{AreFree, lead}
 use Rattle.rob_simplex.proofs.RatioLemmas.{both_zero}
 

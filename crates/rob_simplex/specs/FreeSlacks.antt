@@ -10,6 +10,6 @@ pub record AreFree (t : Table) (seen : ℕ) (slacks : List ℕ) : Type 0 where
       (k : ℕ) → k < seen → columns_of t.places (t.columns + k) < t.columns + 3
       → (j : ℕ) × (j < length slacks) × (k ≡ slice_index_or slacks j 0)
 
--- how far row e is before row i in a column, each over its divisor: above 0 where row i is the lesser
+-- what row e has over row i in a column, each over its divisor: above 0 where row i is the lesser
 abbrev pub lead : Table → ℕ → ℤ → ℕ → ℤ → ℕ → ℤ
 lead t i p e q c = (p *ℤ rows_of t e c) -ℤ (q *ℤ rows_of t i c)

@@ -29,16 +29,15 @@ returns-in-Some g c =
     (zero_beside c.self.invariant c.args.e (omega arith) c.args.before el room) c.requires.not_e in
     let there : c.loop-k.k-index < length c.args.free.now = omega arith in
     let k = get_or c.args.free.now c.loop-k.k-index 0 in
-    let found = c.in-Some.ensures.order in
-    let kl : k < c.args.before = omega (arith, c.if-before-k.false) in
+    let kl : get_or c.args.free.now c.loop-k.k-index 0 < c.args.before = omega (arith, c.if-before-k.false) in
     record {
       order = (
         k,
         omega arith,
         tied_below c.args.self.now c.args.i c.args.e (g.E.Entry.value c.args.p) (g.E.Entry.value c.args.q)
-            c.args.seen c.args.before c.args.free.now c.requires.free low zero_i zero_e c.loop-k.k-index k there
-            (omega arith) (omega arith) c.loop-k.invariant,
-        found,
+            c.args.seen c.args.before c.args.free.now c.requires.free low zero_i zero_e c.loop-k.k-index
+            (get_or c.args.free.now c.loop-k.k-index 0) there (omega arith) (omega arith) c.loop-k.invariant,
+        c.in-Some.ensures.order,
       );
     }
 
@@ -61,11 +60,12 @@ returns-then-before-k g c =
     → rows_of t c.args.e (t.columns + k) ≡ pos 0) c.self.view_is
     (zero_beside c.self.invariant c.args.e (omega arith) c.args.before el room) c.requires.not_e in
     let there : c.loop-k.k-index < length c.args.free.now = omega arith in
+    let past : c.args.before ≤ get_or c.args.free.now c.loop-k.k-index 0 = omega (arith, c.if-before-k.true) in
     record {
       order =
           tied_below c.args.self.now c.args.i c.args.e (g.E.Entry.value c.args.p) (g.E.Entry.value c.args.q)
           c.args.seen c.args.before c.args.free.now c.requires.free low zero_i zero_e c.loop-k.k-index c.args.before
-          there (omega arith) (omega (arith, c.if-before-k.true)) c.loop-k.invariant;
+          there (omega arith) past c.loop-k.invariant;
     }
 
 pub returns : goal.returns
