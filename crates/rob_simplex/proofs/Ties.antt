@@ -5,7 +5,7 @@ use Rattle.std.proofs.lemmas.Bool.Decides.{nat_tests}
 use Rattle.std.proofs.lemmas.Int.{ints}
 use lib.IntN.{ℤ, pos}
 use Rattle.rob_entries.proofs.Listing.{IsListedTo, all_listed}
-use Rattle.rob_simplex.specs.Dictionaries.{Table, columns_of, rows_of}
+use Rattle.rob_simplex.specs.Dictionaries.{Table, positions, columns_of, rows_of}
 use Rattle.rob_simplex.specs.FreeSlacks.{AreFree, lead}
 use Rattle.rob_simplex.proofs.RatioLemmas.{both_zero}
 
@@ -20,11 +20,12 @@ free_some t k l = grind (arith, nat_tests)
 pub free_zero : (t : Table) (k : ℕ) → t.columns + 3 ≤ columns_of t.places (t.columns + k) → free_row t k ≡ pos 0
 free_zero t k l = grind (arith, nat_tests)
 
-pub of_listed : (t : Table) (seen listed : ℕ) (order : List ℕ) → listed ≤ length order
+pub of_listed : (t : Table) (seen listed : ℕ) (order : List ℕ) → seen ≤ positions t → listed ≤ length order
     → IsListedTo (free_row t) seen order listed → AreFree t seen (take listed order)
-of_listed t seen listed order room h =
+of_listed t seen listed order few room h =
     let a = all_listed seen (free_row t) order listed room h in
     record {
+      within = few;
       inside = a.inside;
       rising = a.rising;
       all = λ k kl free. a.all k kl (λ z. let o : free_row t k ≡ pos 1 = free_some t k free in omega (arith, ints));

@@ -9,6 +9,13 @@ use crate::dictionary::Dictionary;
 use crate::entries::own_slack;
 use rob_entries::Entry;
 
+/// Which of the first slack columns are not basic, in order, and how many columns were looked at.
+#[derive(Clone, Copy)]
+pub struct Free<'a> {
+    pub slacks: &'a [usize],
+    pub seen: usize,
+}
+
 /// How many slack columns are looked at: where rows tie, mostly one of the first hundreds decides.
 pub const FIRST: usize = 256;
 
@@ -17,7 +24,6 @@ impl<E: Entry> Dictionary<E> {
     /// and how many were looked at.
     pub fn list_free(&self, order: &mut [usize]) -> (usize, usize)
         ensures few { result.0 ≤ length order.new }
-        ensures seen { result.1 ≤ positions self.now }
         ensures free { AreFree self.now result.1 (take result.0 order.new) }
     {
         let n = self.columns;

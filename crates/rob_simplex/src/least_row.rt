@@ -9,7 +9,7 @@ ghost use Rattle.rob_simplex.specs.Dictionaries.{positions, rows_of, width_of, s
 ghost use Rattle.rob_simplex.specs.FreeSlacks.{AreFree};
 
 use crate::dictionary::Dictionary;
-use crate::free_slacks::FIRST;
+use crate::free_slacks::{FIRST, Free};
 use crate::ratio_test::is_positive;
 use rob_entries::Entry;
 use std::cmp::Ordering;
@@ -60,16 +60,8 @@ impl<E: Entry> Dictionary<E> {
     }
 
     /// Whether row i may be the least, and comes before the best row so far. Its sign is looked at last.
-    fn is_lower(
-        &self,
-        free: &[usize],
-        seen: usize,
-        column: usize,
-        i: usize,
-        best: Option<usize>,
-    ) -> bool
-        requires seen_in { seen ≤ positions self.now }
-        requires free { AreFree self.now seen free.now }
+    fn is_lower(&self, free: Free, column: usize, i: usize, best: Option<usize>) -> bool
+        requires free { AreFree self.now free.seen free.slacks.now }
         requires column_in { column < width_of self.now }
         requires i_in { i < positions self.now }
         requires best_in { IfSome best (λ e. (e < positions self.now) × (rows_of self.now e column <ℤ pos 0)) }
@@ -83,7 +75,7 @@ impl<E: Entry> Dictionary<E> {
         match best {
             None => self.is_negative(i),
             Some(e) => {
-                self.comes_before(free, seen, i, divisor, e, self.minus_entry(e, column))
+                self.comes_before(free, i, divisor, e, self.minus_entry(e, column))
                     && self.is_negative(i)
             }
         }
@@ -140,11 +132,12 @@ impl<E: Entry> Dictionary<E> {
         let m = self.basis.len();
         let auxiliary = self.columns + m;
         let (listed, seen) = self.list_free(order);
-        let free = &order[..listed];
+        let slacks = &order[..listed];
+        let free = Free { slacks, seen };
         let mut best = self.first_below_zero(auxiliary);
         for passed in 0..m {
             let i = m - 1 - passed;
-            if self.is_lower(free, seen, auxiliary, i, best) {
+            if self.is_lower(free, auxiliary, i, best) {
                 best = Some(i);
             }
         }

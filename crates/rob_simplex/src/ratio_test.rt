@@ -7,7 +7,7 @@ ghost use Rattle.rob_simplex.specs.Dictionaries.{positions, width_of, rows_of, c
 ghost use Rattle.rob_simplex.specs.FreeSlacks.{AreFree, lead};
 
 use crate::dictionary::Dictionary;
-use crate::free_slacks::FIRST;
+use crate::free_slacks::{FIRST, Free};
 use rob_entries::Entry;
 use std::cmp::Ordering;
 
@@ -91,17 +91,15 @@ impl<E: Entry> Dictionary<E> {
     /// come before them.
     fn is_less_in_free(
         &self,
-        free: &[usize],
-        seen: usize,
+        free: Free,
         before: usize,
         i: usize,
         p: E,
         e: usize,
         q: E,
     ) -> Option<bool>
-        requires seen_in { seen ≤ positions self.now }
-        requires free { AreFree self.now seen free.now }
-        requires before_in { before ≤ seen }
+        requires free { AreFree self.now free.seen free.slacks.now }
+        requires before_in { before ≤ free.seen }
         requires i_in { i < positions self.now }
         requires e_in { e < positions self.now }
         requires not_i { (k : ℕ) → k < before → columns_of self.now.basis i ≢ self.now.columns + k }
@@ -112,9 +110,8 @@ impl<E: Entry> Dictionary<E> {
             × ((j : ℕ) → j < k → lead self.now i (E.value p) e (E.value q) (self.now.columns + j) ≡ pos 0)
             × Decided less (lead self.now i (E.value p) e (E.value q) (self.now.columns + k))) }
     {
-        let _ = seen;
         let _ = self.basis.len();
-        for k in free {
+        for k in free.slacks {
             if before <= *k {
                 return None;
             }
@@ -129,9 +126,8 @@ impl<E: Entry> Dictionary<E> {
     /// Whether row i comes before row e, each over its divisor. Slack entries count only where the right sides are in
     /// the same ratio; those that are not basic are listed.
     #[inline(never)]
-    pub fn comes_before(&self, free: &[usize], seen: usize, i: usize, p: E, e: usize, q: E) -> bool
-        requires seen_in { seen ≤ positions self.now }
-        requires free { AreFree self.now seen free.now }
+    pub fn comes_before(&self, free: Free, i: usize, p: E, e: usize, q: E) -> bool
+        requires free { AreFree self.now free.seen free.slacks.now }
         requires i_in { i < positions self.now }
         requires e_in { e < positions self.now }
         ensures decides { IsTrue result ↔ ComesBefore (shape self.now.columns (positions self.now))
@@ -142,8 +138,8 @@ impl<E: Entry> Dictionary<E> {
             Some(less) => return less,
             None => {}
         }
-        let before = self.before_own(seen, i, e);
-        match self.is_less_in_free(free, seen, before, i, p, e, q) {
+        let before = self.before_own(free.seen, i, e);
+        match self.is_less_in_free(free, before, i, p, e, q) {
             Some(less) => return less,
             None => {}
         }
@@ -157,16 +153,8 @@ impl<E: Entry> Dictionary<E> {
     }
 
     /// Whether row i is positive in the column and comes before the best row so far.
-    fn goes_first(
-        &self,
-        free: &[usize],
-        seen: usize,
-        column: usize,
-        i: usize,
-        best: Option<usize>,
-    ) -> bool
-        requires seen_in { seen ≤ positions self.now }
-        requires free { AreFree self.now seen free.now }
+    fn goes_first(&self, free: Free, column: usize, i: usize, best: Option<usize>) -> bool
+        requires free { AreFree self.now free.seen free.slacks.now }
         requires column_in { column < width_of self.now }
         requires i_in { i < positions self.now }
         requires best_in { IfSome best (λ e. (e < positions self.now) × (pos 0 <ℤ rows_of self.now e column)) }
@@ -179,7 +167,7 @@ impl<E: Entry> Dictionary<E> {
         }
         match best {
             None => true,
-            Some(e) => self.comes_before(free, seen, i, entry, e, self.entry(e, column)),
+            Some(e) => self.comes_before(free, i, entry, e, self.entry(e, column)),
         }
     }
 
@@ -202,11 +190,12 @@ impl<E: Entry> Dictionary<E> {
     {
         let m = self.basis.len();
         let (listed, seen) = self.list_free(order);
-        let free = &order[..listed];
+        let slacks = &order[..listed];
+        let free = Free { slacks, seen };
         let mut best = None;
         for passed in 0..m {
             let i = m - 1 - passed;
-            if self.goes_first(free, seen, column, i, best) {
+            if self.goes_first(free, column, i, best) {
                 best = Some(i);
             }
         }

@@ -64,8 +64,8 @@ returns g c =
     let en : c.self.inside.columns ≡ c.args.self.now.columns = ap (λ (t : Table). t.columns) c.self.view_is in
     let em : c.len-m.result ≡ positions c.args.self.now =
     c.len-m.ensures ∙ c.self.inside.basis.ok.0 ∙ ap (λ (t : Table). positions t) c.self.view_is in
-    let low : c.before_own-before.result ≤ c.args.seen = c.before_own-before.ensures.few in
-    let few : c.args.seen ≤ positions c.args.self.now = c.requires.seen_in in
+    let low : c.before_own-before.result ≤ c.args.free.seen = c.before_own-before.ensures.few in
+    let few : c.args.free.seen ≤ positions c.args.self.now = c.requires.free.within in
     record {
       decides =
           none_found (rows_of t c.args.i) (rows_of t c.args.e) t.columns (positions t) c.loop-k.k

@@ -32,16 +32,13 @@ loop-k-preserved g c =
           (free_zero c.args.self.now k (omega arith))))
     ]
 
-pub returns-clause-seen : goal.returns-clause-seen
-returns-clause-seen g c =
-    let em : c.len-m.result ≡ positions c.args.self.now =
-    c.len-m.ensures ∙ c.self.inside.basis.ok.0 ∙ ap (λ (t : Table). positions t) c.self.view_is in
-    omega (arith, c.min-seen.ensures)
-
 pub returns-clause-free : goal.returns-clause-free
 returns-clause-free g c =
     let few : c.loop-k.listed ≤ c.loop-k.k = c.loop-k.invariant.few in
+    let em : c.len-m.result ≡ positions c.args.self.now =
+    c.len-m.ensures ∙ c.self.inside.basis.ok.0 ∙ ap (λ (t : Table). positions t) c.self.view_is in
+    let seen : c.min-seen.result ≤ positions c.args.self.now = omega (arith, c.min-seen.ensures) in
     let room : c.min-seen.result ≤ length c.args.order.now = omega (arith, c.min-seen.ensures) in
     let end : c.loop-k.k ≡ c.min-seen.result = omega arith in
-    of_listed c.args.self.now c.min-seen.result c.loop-k.listed c.loop-k.order (omega arith)
+    of_listed c.args.self.now c.min-seen.result c.loop-k.listed c.loop-k.order seen (omega arith)
     (subst (λ n. IsListedTo (free_row c.args.self.now) n c.loop-k.order c.loop-k.listed) end c.loop-k.invariant)
