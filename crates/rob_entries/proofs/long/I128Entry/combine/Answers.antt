@@ -1,12 +1,50 @@
-use Rattle.std.proofs.Common.{sym, subst}
+use Rattle.std.proofs.Common.{◌≡◌, ◌≢◌, ◌-◌, ◌^◌, ◌<◌, ◌≤◌, sym, subst, arith, length, pos, nat_abs}
 use Rattle.std.proofs.lemmas.List.{map-id}
 use Rattle.std.specs.Result.{OnOk, OnErr}
-use Rattle.rob_rows.specs.PrimitiveParts.{IsWithin, HasWidePart}
+use Rattle.rob_algebra.specs.Gcd.{gcd}
+use Rattle.rob_linear.specs.Vectors.{at}
+use Rattle.rob_rows.specs.PrimitiveParts.{content, IsWithin, HasWidePart}
+use Rattle.rob_deep.proofs.Words.{read, seen}
+use Rattle.rob_entries.specs.Entries.{long_high}
 use Rattle.rob_entries.proofs.LongRows.{combination_read}
 use Rattle.rob_entries.proofs.long.I128Entry.combine.Goals as goal
 
-pub combine_deep-requires-clause-top_within : goal.combine_deep-requires-clause-top_within
-combine_deep-requires-clause-top_within c = subst (IsWithin c.args.limit) (map-id c.args.upper.now) c.requires.within.0
+pub combine_deep-requires : goal.combine_deep-requires
+combine_deep-requires c =
+    let p = c.args.p in
+    let q = c.args.q in
+    let last = length c.args.out.now - 1 in
+    let ep : read c.args.p ≡ c.args.p = seen c.args.p c.ranges.p in
+    let eq : read c.args.q ≡ c.args.q = seen c.args.q c.ranges.q in
+    let high : 2 ^ 126 - 1 < 2 ^ 126 = long_high in
+    let limit_in : c.args.limit ≤ 2 ^ 126 - 1 = c.requires.limit in
+    let p_in : nat_abs c.args.p ≤ 2 ^ 126 - 1 = c.requires.factors.0 in
+    let q_in : nat_abs c.args.q ≤ 2 ^ 126 - 1 = c.requires.factors.1 in
+    let some : 0 < length c.args.out.now = c.requires.own.0 in
+    let wide : length c.args.upper.now ≡ length c.args.out.now = c.requires.lengths.0 in
+    record {
+      ready = record {
+        limit_low = omega arith;
+        lowest = record {
+          lowest =
+              subst (λ t. gcd (nat_abs t) (nat_abs (read q)) ≤ 1) (sym ep)
+              (subst (λ t. gcd (nat_abs p) (nat_abs t) ≤ 1) (sym eq) c.requires.lowest);
+          p_size = subst (λ t. nat_abs t < 2 ^ 126) (sym ep) (omega arith);
+          q_size = subst (λ t. nat_abs t < 2 ^ 126) (sym eq) (omega arith);
+        };
+        pivot = subst (λ t. t ≢ pos 0) (sym ep) c.requires.pivot;
+        top_length = wide;
+        low_length = c.requires.lengths.1;
+        top_within = subst (IsWithin c.args.limit) (map-id c.args.upper.now) c.requires.within.0;
+        low_within = subst (IsWithin c.args.limit) (map-id c.args.low.now) c.requires.within.1;
+        primitive = subst (λ row. content row ≡ 1) (map-id c.args.low.now) c.requires.primitive;
+        own_in = record {
+          inside = omega arith;
+          nonzero = subst (λ row. at row last ≢ pos 0) (map-id c.args.upper.now) c.requires.own.2;
+          zero = subst (λ row. at row last ≡ pos 0) (map-id c.args.low.now) c.requires.own.1;
+        };
+      };
+    }
 
 pub returns-clause-bounded : goal.returns-clause-bounded
 returns-clause-bounded c =
