@@ -204,6 +204,10 @@ pub entry_low : (row : List ℤ) (place bound limit most : ℕ) → place < leng
 entry_low row place bound limit most inside h low high =
     let l : nat_abs (at row place) ≤ bound = h place (pos 0) inside in omega arith
 
+-- a row is within a limit that is over its bound
+pub within_up : (row : List ℤ) (bound limit : ℕ) → IsWithin bound row → bound ≤ limit → IsWithin limit row
+within_up row bound limit h low = λ j d jl. let l : nat_abs (get_or row j d) ≤ bound = h j d jl in omega arith
+
 -- a row in lowest terms that is not 0 everywhere has the content 1
 pub content_one : (row : List ℤ) (k : ℕ) → k < length row → at row k ≢ pos 0 → content row ≤ 1 → content row ≡ 1
 content_one row k l some low = elim (cases_eq (content row) 0) [

@@ -1,6 +1,7 @@
 -- Rows that are changed in place by another row.
-use Rattle.std.specs.Prelude.{◌≡◌, ◌≢◌, ℕ, ◌+◌, ◌*◌, ◌<◌, ◌≤◌, ℤ, pos, ◌*ℤ◌, ◌<ℤ◌, nat_abs, List, length, slice_index_or, take}
+use Rattle.std.specs.Prelude.{◌≡◌, ◌≢◌, ℕ, ◌+◌, ◌-◌, ◌*◌, ◌<◌, ◌≤◌, ℤ, pos, ◌*ℤ◌, ◌<ℤ◌, nat_abs, List, length, slice_index_or, take}
 use Rattle.std.specs.Int.RustNames.{unsigned_abs}
+use Rattle.rob_algebra.specs.Gcd.{gcd}
 use Rattle.rob_linear.specs.Vectors.{Vector, at}
 use Rattle.rob_linear.specs.Systems.{IsPrimitive}
 use Rattle.rob_linear.specs.Multiples.{IsClearedBy}
@@ -53,3 +54,40 @@ pub record IsMultipleOf (width : ℕ) (row part : Vector) : Type 0 where
   pub times : ℤ
   pub positive : pos 0 <ℤ times
   pub entries : (k : ℕ) → k < width → times *ℤ part k ≡ row k
+
+-- ---- what is asked
+-- p times a row less q times the entries of one that clears others can be put in lowest terms: of so many numbers, with
+-- marks from `start` on, both rows are within the limit, and the factors within `top` in lowest terms; p is above 0
+pub record CanApply (top limit : ℕ) (p q : ℤ) (row entries : List ℤ) (width start marks : ℕ) : Type 0 where
+  pub same_width : width ≡ length entries
+  pub marks_in : start + width ≤ marks
+  pub limit_low : limit ≤ top
+  pub positive : pos 0 <ℤ p
+  pub factors : (nat_abs p ≤ top) × (nat_abs q ≤ top)
+  pub lowest : gcd (nat_abs p) (nat_abs q) ≤ 1
+  pub within : IsWithin limit row × IsWithin limit entries
+  pub some : (k : ℕ) × (k < width) × (at entries k ≢ pos 0)
+  pub own : AreOwn (at row) (at entries) (width - 1)
+
+-- the row `by` can clear a row of so many numbers, with marks from `start` on and entries within the bound, of its
+-- entry at the place
+pub record CanClearRow (top limit : ℕ) (row : List ℤ) (by : Clearing) (bound place width start marks : ℕ) : Type 0 where
+  pub same_width : width ≡ length by.entries
+  pub marks_in : start + width ≤ marks
+  pub limit_low : limit ≤ top
+  pub bounded : IsBounded limit row bound
+  pub self_low : by.bound ≤ limit
+  pub place_in : place < width
+  pub positive : pos 0 <ℤ at by.entries place
+  pub own : AreOwn (at row) (at by.entries) (width - 1)
+
+-- the same of the row that begins at `start`, of rows one behind another
+pub record CanClear (top limit : ℕ) (cells : List ℤ) (by : Clearing) (bound place start : ℕ) : Type 0 where
+  pub inside : start + length by.entries ≤ length cells
+  pub limit_low : limit ≤ top
+  pub within : (k : ℕ) → k < length by.entries → nat_abs (at cells (start + k)) ≤ bound
+  pub bound_low : bound ≤ limit
+  pub self_low : by.bound ≤ limit
+  pub place_in : place < length by.entries
+  pub positive : pos 0 <ℤ at by.entries place
+  pub own : AreOwn (λ k. at cells (start + k)) (at by.entries) (length by.entries - 1)

@@ -1,11 +1,11 @@
 //! The numbers of rows, one row behind another. A row of a given width begins at its start.
 
-ghost use Rattle.std.specs.Prelude.{◌≡◌, ◌≢◌, ◌⊎◌, ℕ, ℤ, ◌<◌, ◌≤◌, ◌+◌, ◌-◌, ◌^◌, ◌*ℤ◌, ◌<ℤ◌, pos, neg_ℤ, nat_abs, set, take, drop, length, slice_index_or, IsFalse, IfOk, OnErr};
+ghost use Rattle.std.specs.Prelude.{◌≡◌, ◌≢◌, ◌⊎◌, ℕ, ℤ, ◌<◌, ◌≤◌, ◌+◌, ◌^◌, ◌*ℤ◌, pos, neg_ℤ, nat_abs, set, take, drop, length, slice_index_or, IsFalse, IfOk, OnErr};
 ghost use Rattle.rob_linear.specs.Vectors.{at};
 ghost use Rattle.rob_linear.specs.Multiples.{IsClearedBy};
 ghost use Rattle.rob_rows.specs.PrimitiveParts.{content};
 ghost use Rattle.rob_entries.specs.Choices.{IsLowest};
-ghost use Rattle.rob_entries.specs.Updates.{AreOwn, IsMultipleOf, IsWideCleared};
+ghost use Rattle.rob_entries.specs.Updates.{CanClear, IsMultipleOf, IsWideCleared};
 
 use crate::clearing::PivotRow;
 use crate::entry::Entry;
@@ -239,13 +239,7 @@ impl<E: Entry> Cells<E> {
         place: usize,
         limit: u128,
     ) -> Result<u128, Wide>
-        requires inside { start + length row.old.entries ≤ length self.old }
-        requires limit { limit ≤ E.top }
-        requires bounded { (k : ℕ) → k < length row.old.entries → nat_abs (at self.old (start + k)) ≤ bound }
-        requires bounds { (bound ≤ limit) × (row.old.bound ≤ limit) }
-        requires place_in { place < length row.old.entries }
-        requires positive { pos 0 <ℤ at row.old.entries place }
-        requires own { AreOwn (λ k. at self.old (start + k)) (at row.old.entries) (length row.old.entries - 1) }
+        requires ready { CanClear E.top limit self.old row.old bound place start }
         ensures cleared { IfOk result (λ _. IsClearedBy (length row.old.entries) place
             (λ k. at self.old (start + k)) (at row.old.entries) (λ k. at self.new (start + k))) }
         ensures bounded { IfOk result (λ sum. (sum ≤ limit) × ((k : ℕ) → k < length row.old.entries

@@ -4,13 +4,12 @@
 //! A number that bounds the entries of each row shows where the entries' type suffices. Else the row is put in lowest
 //! terms.
 
-ghost use Rattle.std.specs.Prelude.{◌≡◌, ◌≢◌, ℕ, ◌+◌, ◌<◌, ◌≤◌, ◌-◌, ◌*ℤ◌, ◌-ℤ◌, ◌<ℤ◌, pos, nat_abs, map, length, take, IfOk, OnOk, OnErr};
-ghost use Rattle.rob_algebra.specs.Gcd.{gcd};
+ghost use Rattle.std.specs.Prelude.{◌≡◌, ℕ, ◌+◌, ◌<◌, ◌≤◌, ◌*ℤ◌, ◌-ℤ◌, ◌<ℤ◌, pos, map, length, take, IfOk, OnOk, OnErr};
 ghost use Rattle.rob_linear.specs.Vectors.{at};
 ghost use Rattle.rob_linear.specs.Multiples.{IsClearedBy};
 ghost use Rattle.rob_rows.specs.PrimitiveParts.{combination, IsPrimitivePart, IsWithin, HasWidePart};
 ghost use Rattle.rob_entries.specs.Maps.{AreMarked};
-ghost use Rattle.rob_entries.specs.Updates.{AreListed, AreOwn, IsBounded, IsNarrowBy, IsWideCleared};
+ghost use Rattle.rob_entries.specs.Updates.{AreListed, CanApply, CanClearRow, IsBounded, IsNarrowBy, IsWideCleared};
 
 use crate::entry::Entry;
 use crate::updates::{mark, scale, subtract};
@@ -109,15 +108,8 @@ impl<E: Entry> PivotRow<E> {
         q: E,
         limit: u128,
     ) -> Result<u128, Wide>
-        requires length { length row.old ≡ length self.old.entries }
-        requires marks_in { start + length row.old ≤ length marks.old }
-        requires limit { limit ≤ E.top }
-        requires positive { pos 0 <ℤ E.value p }
-        requires factors { (nat_abs (E.value p) ≤ E.top) × (nat_abs (E.value q) ≤ E.top) }
-        requires lowest { gcd (nat_abs (E.value p)) (nat_abs (E.value q)) ≤ 1 }
-        requires within { IsWithin limit (map E.value row.old) × IsWithin limit self.old.entries }
-        requires some { (k : ℕ) × (k < length row.old) × (at self.old.entries k ≢ pos 0) }
-        requires own { AreOwn (at (map E.value row.old)) (at self.old.entries) (length row.old - 1) }
+        requires ready { CanApply E.top limit (E.value p) (E.value q) (map E.value row.old) self.old.entries
+            (length row.old) start (length marks.old) }
         ensures part { OnOk result (IsPrimitivePart (map E.value row.new)
             (combination (E.value p) (map E.value row.old) (E.value q) self.old.entries)) }
         ensures bounded { IfOk result (λ sum. IsBounded limit (map E.value row.new) sum) }
@@ -160,14 +152,8 @@ impl<E: Entry> PivotRow<E> {
         place: usize,
         limit: u128,
     ) -> Result<u128, Wide>
-        requires length { length row.old ≡ length self.old.entries }
-        requires marks_in { start + length row.old ≤ length marks.old }
-        requires limit { limit ≤ E.top }
-        requires row_in { IsBounded limit (map E.value row.old) bound }
-        requires self_in { self.old.bound ≤ limit }
-        requires place_in { place < length row.old }
-        requires positive { pos 0 <ℤ at self.old.entries place }
-        requires own { AreOwn (at (map E.value row.old)) (at self.old.entries) (length row.old - 1) }
+        requires ready { CanClearRow E.top limit (map E.value row.old) self.old bound place (length row.old) start
+            (length marks.old) }
         ensures cleared { IfOk result (λ _. IsClearedBy (length row.old) place (at (map E.value row.old))
             (at self.old.entries) (at (map E.value row.new))) }
         ensures bounded { IfOk result (λ sum. IsBounded limit (map E.value row.new) sum) }

@@ -1,12 +1,38 @@
-use Rattle.std.proofs.Common.{◌≡◌, ◌⊎◌, ◌<◌, ◌≤◌, ◌+◌, ◌*◌, ◌∙◌, ℕ, subst, sym, refl, set}
+use Rattle.std.proofs.Common.{◌≡◌, ◌⊎◌, ◌<◌, ◌≤◌, ◌+◌, ◌-◌, ◌*◌, ◌∙◌, ℕ, subst, sym, refl, arith, length, set}
 use Rattle.rob_linear.specs.Vectors.{at}
 use Rattle.rob_linear.specs.Multiples.{IsClearedBy}
-use Rattle.rob_entries.specs.Updates.{IsWideCleared}
+use Rattle.rob_entries.specs.Updates.{AreOwn, IsWideCleared}
 use Rattle.rob_rows.proofs.Reductions.{on_err}
-use Rattle.rob_simplex.specs.Tables.{row_at}
-use Rattle.rob_simplex.proofs.Clearing.{rows_apart}
+use Rattle.rob_simplex.specs.Tables.{row_at, bound_at}
+use Rattle.rob_simplex.proofs.Clearing.{row_in, rows_apart}
 use Rattle.rob_simplex.proofs.RowMoves.{written_bounds}
 use Rattle.rob_simplex.proofs.table.clear_row.Goals as goal
+
+pub clear-requires : goal.clear-requires
+clear-requires g c =
+    let a = c.requires.ready in
+    let et : c.TOP.result ≡ g.E.Entry.top = c.TOP.ensures ∙ g.met.E.Entry.top_told in
+    let il : c.args.i < length c.args.bounds.now = omega (arith, a.inside) in
+    let there : c.args.i * c.args.pivot.width + c.args.pivot.width ≤ length c.args.rows.now =
+    row_in g.E.Entry.top c.args.pivot.width c.args.rows.now c.args.bounds.now a.bounded c.args.i il in
+    let width : length c.args.pivot_row.now.entries ≡ c.args.pivot.width = a.width in
+    let bound : bound_at c.args.bounds.now c.args.i ≤ g.E.Entry.top = a.bounded.low c.args.i il in
+    let low : c.args.pivot_row.now.bound ≤ g.E.Entry.top = a.low in
+    let place : c.args.pivot.place < c.args.pivot.width = a.place_in in
+    record {
+      ready = record {
+        inside = omega arith;
+        limit_low = omega arith;
+        within = λ k l. a.bounded.within c.args.i k il (subst (λ (n : ℕ). k < n) a.width l);
+        bound_low = subst (λ (n : ℕ). bound_at c.args.bounds.now c.args.i ≤ n) (sym et) bound;
+        self_low = subst (λ (n : ℕ). c.args.pivot_row.now.bound ≤ n) (sym et) low;
+        place_in = omega arith;
+        positive = a.positive;
+        own =
+            subst (λ (n : ℕ). AreOwn (row_at c.args.rows.now c.args.pivot.width c.args.i)
+            (at c.args.pivot_row.now.entries) (n - 1)) (sym a.width) c.requires.own;
+      };
+    }
 
 pub returns-in_err-bounds-clause-wide : goal.returns-in_err-bounds-clause-wide
 returns-in_err-bounds-clause-wide g c =

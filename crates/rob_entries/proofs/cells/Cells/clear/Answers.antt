@@ -11,32 +11,47 @@ use Rattle.rob_entries.proofs.MapLemmas.{cleared_back, cleared_zero}
 use Rattle.rob_entries.proofs.ClearedCells.{own_here, wide_here, cleared_here, bounded_here}
 use Rattle.rob_entries.proofs.cells.Cells.clear.Goals as goal
 
-pub clear-requires-clause-row_in : goal.clear-requires-clause-row_in
-clear-requires-clause-row_in g c =
+pub clear-requires : goal.clear-requires
+clear-requires g c =
     let e : c.width-width.result ≡ length c.args.row.now.entries = c.width-width.ensures.width in
     let inside : c.args.start + c.width-width.result ≤ length c.args.self.now =
-    (let h = c.requires.inside in omega arith) in
+    (let h = c.requires.ready.inside in omega arith) in
+    let map_is : IsMapped c.args.self.now c.self.inside.marks.items =
+    subst (λ (t : List ℤ). IsMapped t c.self.inside.marks.items) c.self.view_is c.self.invariant in
+    let size : length c.as_mut_slice-marks.result.now ≡ length c.args.self.now =
+    ap length c.as_mut_slice-marks.ensures.value ∙ map_is.size in
+    let w : length (part c.as_mut_slice.result.now c.args.start c.width-width.result) ≡ c.width-width.result =
+    row_length g.E.Entry.value c.args.self.now c.self.inside.items.items c.as_mut_slice.result.now
+    c.self.inside.items.len c.self.view_is c.as_mut_slice.ensures.value c.self.inside.items.ok.0 c.args.start
+    c.width-width.result inside in
+    let place : c.args.place < length c.args.row.now.entries = c.requires.ready.place_in in
     record {
-      within = row_within g.E.Entry.value c.args.self.now c.self.inside.items.items c.as_mut_slice.result.now
-          c.self.inside.items.len c.self.view_is c.as_mut_slice.ensures.value c.self.inside.items.ok.0 c.args.start
-          c.width-width.result inside c.args.bound (λ k l. c.requires.bounded k (subst (λ n. k < n) e l));
-      low = c.requires.bounds.0;
+      ready = record {
+        same_width = w ∙ e;
+        marks_in = omega arith;
+        limit_low = c.requires.ready.limit_low;
+        bounded = record {
+          within = row_within g.E.Entry.value c.args.self.now c.self.inside.items.items c.as_mut_slice.result.now
+              c.self.inside.items.len c.self.view_is c.as_mut_slice.ensures.value c.self.inside.items.ok.0 c.args.start
+              c.width-width.result inside c.args.bound (λ k l. c.requires.ready.within k (subst (λ n. k < n) e l));
+          low = c.requires.ready.bound_low;
+        };
+        self_low = c.requires.ready.self_low;
+        place_in = omega arith;
+        positive = c.requires.ready.positive;
+        own =
+            own_here g.E.Entry.value c.args.self.now c.self.inside.items.items c.as_mut_slice.result.now
+            c.self.inside.items.len c.self.view_is c.as_mut_slice.ensures.value c.self.inside.items.ok.0 c.args.start
+            c.width-width.result inside (length c.args.row.now.entries) e c.args.place (at c.args.row.now.entries)
+            c.requires.ready.place_in c.requires.ready.own;
+      };
     }
-
-pub clear-requires-clause-own : goal.clear-requires-clause-own
-clear-requires-clause-own g c =
-    let e : c.width-width.result ≡ length c.args.row.now.entries = c.width-width.ensures.width in
-    let inside : c.args.start + c.width-width.result ≤ length c.args.self.now =
-    (let h = c.requires.inside in omega arith) in
-    own_here g.E.Entry.value c.args.self.now c.self.inside.items.items c.as_mut_slice.result.now c.self.inside.items.len
-    c.self.view_is c.as_mut_slice.ensures.value c.self.inside.items.ok.0 c.args.start c.width-width.result inside
-    (length c.args.row.now.entries) e c.args.place (at c.args.row.now.entries) c.requires.place_in c.requires.own
 
 pub returns-clause-cleared : goal.returns-clause-cleared
 returns-clause-cleared g c =
     let e : c.width-width.result ≡ length c.args.row.now.entries = c.width-width.ensures.width in
     let inside : c.args.start + c.width-width.result ≤ length c.args.self.now =
-    (let h = c.requires.inside in omega arith) in
+    (let h = c.requires.ready.inside in omega arith) in
     if_ok_more c.clear.result
     (λ x. IsClearedBy (length (part c.as_mut_slice.result.now c.args.start c.width-width.result)) c.args.place
     (at (map g.E.Entry.value (part c.as_mut_slice.result.now c.args.start c.width-width.result)))
@@ -50,7 +65,7 @@ returns-clause-cleared g c =
     (λ x. cleared_here g.E.Entry.value c.args.self.now c.self.inside.items.items c.as_mut_slice.result.now
     c.self.inside.items.len c.self.view_is c.as_mut_slice.ensures.value c.self.inside.items.ok.0 c.args.start
     c.width-width.result inside
-    (length c.args.row.now.entries) e c.args.place (at c.args.row.now.entries) c.requires.place_in
+    (length c.args.row.now.entries) e c.args.place (at c.args.row.now.entries) c.requires.ready.place_in
     c.clear.new.row c.clear.auto.row)
     c.clear.ensures.cleared
 
@@ -58,7 +73,7 @@ pub returns-clause-bounded : goal.returns-clause-bounded
 returns-clause-bounded g c =
     let e : c.width-width.result ≡ length c.args.row.now.entries = c.width-width.ensures.width in
     let inside : c.args.start + c.width-width.result ≤ length c.args.self.now =
-    (let h = c.requires.inside in omega arith) in
+    (let h = c.requires.ready.inside in omega arith) in
     if_ok_more c.clear.result (λ sum. IsBounded c.args.limit (map g.E.Entry.value c.clear.new.row) sum)
     (λ sum. (sum ≤ c.args.limit) × ((k : ℕ) → k < length c.args.row.now.entries
     → nat_abs (at
@@ -69,7 +84,7 @@ returns-clause-bounded g c =
     (bounded_here g.E.Entry.value c.args.self.now c.self.inside.items.items c.as_mut_slice.result.now
     c.self.inside.items.len c.self.view_is c.as_mut_slice.ensures.value c.self.inside.items.ok.0 c.args.start
     c.width-width.result inside
-    (length c.args.row.now.entries) e c.args.place (at c.args.row.now.entries) c.requires.place_in c.clear.new.row
+    (length c.args.row.now.entries) e c.args.place (at c.args.row.now.entries) c.requires.ready.place_in c.clear.new.row
     c.clear.auto.row c.args.limit)
     c.clear.ensures.bounded
 
@@ -77,7 +92,7 @@ pub returns-clause-others : goal.returns-clause-others
 returns-clause-others g c k o =
     let e : c.width-width.result ≡ length c.args.row.now.entries = c.width-width.ensures.width in
     let inside : c.args.start + c.width-width.result ≤ length c.args.self.now =
-    (let h = c.requires.inside in omega arith) in
+    (let h = c.requires.ready.inside in omega arith) in
     stored_other g.E.Entry.value c.args.self.now c.self.inside.items.items c.as_mut_slice.result.now
     c.self.inside.items.len c.self.view_is c.as_mut_slice.ensures.value c.self.inside.items.ok.0 c.args.start
     c.width-width.result inside c.clear.new.row c.clear.auto.row k
@@ -87,19 +102,19 @@ pub returns-clause-wide : goal.returns-clause-wide
 returns-clause-wide g c =
     let e : c.width-width.result ≡ length c.args.row.now.entries = c.width-width.ensures.width in
     let inside : c.args.start + c.width-width.result ≤ length c.args.self.now =
-    (let h = c.requires.inside in omega arith) in
+    (let h = c.requires.ready.inside in omega arith) in
     on_err_weaker c.clear.result
     (wide_here g.E.Entry.value c.args.self.now c.self.inside.items.items c.as_mut_slice.result.now
     c.self.inside.items.len c.self.view_is c.as_mut_slice.ensures.value c.self.inside.items.ok.0 c.args.start
     c.width-width.result inside
-    (length c.args.row.now.entries) e c.args.place (at c.args.row.now.entries) c.requires.place_in c.args.limit)
+    (length c.args.row.now.entries) e c.args.place (at c.args.row.now.entries) c.requires.ready.place_in c.args.limit)
     c.clear.ensures.wide
 
 pub returns-clause-unchanged : goal.returns-clause-unchanged
 returns-clause-unchanged g c =
     let e : c.width-width.result ≡ length c.args.row.now.entries = c.width-width.ensures.width in
     let inside : c.args.start + c.width-width.result ≤ length c.args.self.now =
-    (let h = c.requires.inside in omega arith) in
+    (let h = c.requires.ready.inside in omega arith) in
     on_err_weaker c.clear.result
     (stored_same g.E.Entry.value c.args.self.now c.self.inside.items.items c.as_mut_slice.result.now
     c.self.inside.items.len c.self.view_is c.as_mut_slice.ensures.value c.self.inside.items.ok.0 c.args.start
@@ -113,7 +128,7 @@ invariant_of-self g c =
     let marks = c.self.inside.marks.items in
     let e : c.width-width.result ≡ length c.args.row.now.entries = c.width-width.ensures.width in
     let inside : c.args.start + c.width-width.result ≤ length c.args.self.now =
-    (let h = c.requires.inside in omega arith) in
+    (let h = c.requires.ready.inside in omega arith) in
     let map_is : IsMapped c.args.self.now c.self.inside.marks.items =
     subst (λ (t : List ℤ). IsMapped t c.self.inside.marks.items) c.self.view_is c.self.invariant in
     let size : length c.clear.new.marks ≡ length c.self.inside.marks.items =
@@ -156,19 +171,3 @@ invariant_of-self g c =
     (row_at g.E.Entry.value c.args.self.now c.self.inside.items.items c.as_mut_slice.result.now
     c.self.inside.items.len c.self.view_is c.as_mut_slice.ensures.value c.self.inside.items.ok.0 c.args.start
     c.width-width.result inside k l ∙ z) tz))
-
-pub clear-requires-clause-marks_in : goal.clear-requires-clause-marks_in
-clear-requires-clause-marks_in g c =
-    let value = g.E.Entry.value in
-    let e : c.width-width.result ≡ length c.args.row.now.entries = c.width-width.ensures.width in
-    let inside : c.args.start + c.width-width.result ≤ length c.args.self.now =
-    (let h = c.requires.inside in omega arith) in
-    let map_is : IsMapped c.args.self.now c.self.inside.marks.items =
-    subst (λ (t : List ℤ). IsMapped t c.self.inside.marks.items) c.self.view_is c.self.invariant in
-    let size : length c.as_mut_slice-marks.result.now ≡ length c.args.self.now =
-    ap length c.as_mut_slice-marks.ensures.value ∙ map_is.size in
-    let w : length (part c.as_mut_slice.result.now c.args.start c.width-width.result) ≡ c.width-width.result =
-    row_length g.E.Entry.value c.args.self.now c.self.inside.items.items c.as_mut_slice.result.now
-    c.self.inside.items.len c.self.view_is c.as_mut_slice.ensures.value c.self.inside.items.ok.0 c.args.start
-    c.width-width.result inside in
-    omega arith

@@ -14,9 +14,9 @@ combine-requires-clause-primitive g c =
     let value = g.E.Entry.value in
     let same : map g.E.Entry.value c.as_slice.result.now ≡ c.args.self.now.entries =
     ap (map value) c.as_slice.ensures.value ∙ ap (λ (v : Clearing). v.entries) c.self.view_is in
-    let some = c.requires.some in
+    let some = c.requires.ready.some in
     let inside : some.0 < length c.args.self.now.entries =
-    (let l : some.0 < length c.args.row.now = some.1 in let n = c.requires.length in omega arith) in
+    (let l : some.0 < length c.args.row.now = some.1 in let n = c.requires.ready.same_width in omega arith) in
     subst (λ (t : List ℤ). content t ≡ 1) (sym same)
     (content_one c.args.self.now.entries some.0 inside some.2
     (subst (λ (v : Clearing). content v.entries ≤ 1) c.self.view_is c.self.invariant.lowest))
@@ -41,13 +41,13 @@ mark-requires-clause-lengths g c =
     let value = g.E.Entry.value in
     let same : map g.E.Entry.value c.as_slice-3.result.now ≡ c.args.self.now.entries =
     ap (map value) c.as_slice-3.ensures.value ∙ ap (λ (v : Clearing). v.entries) c.self.view_is in
-    sym (length-map c.as_slice-3.result.now value) ∙ ap length same ∙ sym c.requires.length
+    sym (length-map c.as_slice-3.result.now value) ∙ ap length same ∙ sym c.requires.ready.same_width
     ∙ sym c.copy_from_slice.auto.self
 
 pub mark-requires-clause-marks_in : goal.mark-requires-clause-marks_in
 mark-requires-clause-marks_in g c =
     let n : length c.copy_from_slice.new.self ≡ length c.args.row.now = c.copy_from_slice.auto.self in
-    let h : c.args.start + length c.args.row.now ≤ length c.args.marks.now = c.requires.marks_in in
+    let h : c.args.start + length c.args.row.now ≤ length c.args.marks.now = c.requires.ready.marks_in in
     omega arith
 
 pub returns-clause-marked : goal.returns-clause-marked
