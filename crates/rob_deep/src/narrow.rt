@@ -9,7 +9,8 @@ use crate::halves::product;
 /// A bound on the entries of a combination of two rows, from one on the entries of each; nothing exactly where it is
 /// over the limit.
 pub fn bound_of(factors: Factors, bound: u128, other: u128, limit: u128) -> Option<u128>
-    ensures bound { IfSome result (λ sum. sum ≡ nat_abs factors.p * bound + nat_abs factors.q * other) }
+    ensures bound { IfSome result (λ sum. sum
+        ≡ nat_abs factors.p * bound + nat_abs factors.q * other) }
     ensures within { IfSome result (λ sum. sum ≤ limit) }
     ensures wide { IfNone result (limit < nat_abs factors.p * bound + nat_abs factors.q * other) }
 {

@@ -117,7 +117,8 @@ impl<E: Entry> Cells<E> {
     pub fn largest(&self, start: usize, width: usize) -> u128
         requires inside { start + width ≤ length self.now }
         ensures bound { (k : ℕ) → k < width → nat_abs (at self.now (start + k)) ≤ result }
-        ensures reached { 0 < result → (k : ℕ) × (k < width) × (nat_abs (at self.now (start + k)) ≡ result) }
+        ensures reached { 0 < result → (k : ℕ) × (k < width)
+            × (nat_abs (at self.now (start + k)) ≡ result) }
     {
         E::largest(&self.items.as_slice()[start..start + width])
     }
@@ -133,7 +134,8 @@ impl<E: Entry> Cells<E> {
     ) -> usize
         requires row_in { start + count ≤ length self.now }
         requires near_in { count ≤ length near.now }
-        ensures lowest { IsLowest (λ k. at self.now (start + k)) (λ k. slice_index_or near.now k 0) count before
+        ensures lowest { IsLowest (λ k. at self.now (start + k))
+            (λ k. slice_index_or near.now k 0) count before
             result }
     {
         lowest_column(&self.items.as_slice()[start..start + count], near, before)
@@ -152,7 +154,8 @@ impl<E: Entry> Cells<E> {
         requires row_in { start + count ≤ length self.now }
         requires near_in { count ≤ length near.now }
         ensures low { result ≤ before }
-        ensures zeros { (k : ℕ) → k < count → low ≤ slice_index_or near.now k 0 → slice_index_or near.now k 0 < result
+        ensures zeros { (k : ℕ) → k < count → low ≤ slice_index_or near.now k 0
+            → slice_index_or near.now k 0 < result
             → at self.now (start + k) ≡ pos 0 }
     {
         lowest_marked(
@@ -189,8 +192,10 @@ impl<E: Entry> Cells<E> {
         requires inside { start + width ≤ length self.old }
         requires within { (k : ℕ) → k < width → nat_abs (at self.old (start + k)) ≤ bound }
         requires bound { bound ≤ E.top }
-        ensures row { (k : ℕ) → k < width → at self.new (start + k) ≡ neg_ℤ (at self.old (start + k)) }
-        ensures others { (k : ℕ) → (k < start) ⊎ (start + width ≤ k) → at self.new k ≡ at self.old k }
+        ensures row { (k : ℕ) → k < width → at self.new (start + k)
+            ≡ neg_ℤ (at self.old (start + k)) }
+        ensures others { (k : ℕ) → (k < start) ⊎ (start + width ≤ k) → at self.new k
+            ≡ at self.old k }
         ensures size { length self.new ≡ length self.old }
     {
         negate(&mut self.items.as_mut_slice()[start..start + width], bound);
@@ -201,12 +206,15 @@ impl<E: Entry> Cells<E> {
         requires inside { start + width ≤ length self.old }
         requires limit { limit ≤ E.top }
         requires within { (k : ℕ) → k < width → nat_abs (at self.old (start + k)) ≤ limit }
-        ensures row { IsMultipleOf width (λ k. at self.old (start + k)) (λ k. at self.new (start + k)) }
+        ensures row { IsMultipleOf width (λ k. at self.old (start + k))
+            (λ k. at self.new (start + k)) }
         ensures lowest { content (take width (drop start self.new)) ≤ 1 }
         ensures bound { (k : ℕ) → k < width → nat_abs (at self.new (start + k)) ≤ result }
-        ensures reached { 0 < result → (k : ℕ) × (k < width) × (nat_abs (at self.new (start + k)) ≡ result) }
+        ensures reached { 0 < result → (k : ℕ) × (k < width)
+            × (nat_abs (at self.new (start + k)) ≡ result) }
         ensures low { result ≤ limit }
-        ensures others { (k : ℕ) → (k < start) ⊎ (start + width ≤ k) → at self.new k ≡ at self.old k }
+        ensures others { (k : ℕ) → (k < start) ⊎ (start + width ≤ k) → at self.new k
+            ≡ at self.old k }
         ensures size { length self.new ≡ length self.old }
     {
         let row = &mut self.items.as_mut_slice()[start..start + width];
@@ -219,9 +227,11 @@ impl<E: Entry> Cells<E> {
     /// terms.
     pub fn load(&self, row: &mut PivotRow<E>, start: usize, bound: u128)
         requires inside { start + length row.old.entries ≤ length self.now }
-        requires within { (k : ℕ) → k < length row.old.entries → nat_abs (at self.now (start + k)) ≤ bound }
+        requires within { (k : ℕ) → k < length row.old.entries → nat_abs (at self.now (start + k))
+            ≤ bound }
         requires bound { bound ≤ E.top }
-        ensures entries { IsMultipleOf (length row.old.entries) (λ k. at self.now (start + k)) (at row.new.entries) }
+        ensures entries { IsMultipleOf (length row.old.entries) (λ k. at self.now (start + k))
+            (at row.new.entries) }
         ensures size { length row.new.entries ≡ length row.old.entries }
         ensures bound { row.new.bound ≤ bound }
     {

@@ -80,11 +80,13 @@ impl<E: Entry> PivotRow<E> {
         requires length { length row.old ≡ length self.now.entries }
         requires marks_in { start + length row.old ≤ length marks.old }
         requires positive { pos 0 <ℤ E.value p }
-        requires narrow { IsNarrowBy E.top (length row.old) (E.value p) (E.value q) (at (map E.value row.old))
+        requires narrow { IsNarrowBy E.top (length row.old) (E.value p) (E.value q)
+            (at (map E.value row.old))
             (at self.now.entries) }
         ensures entries { (k : ℕ) → k < length row.old → at (map E.value row.new) k
             ≡ (E.value p *ℤ at (map E.value row.old) k) -ℤ (E.value q *ℤ at self.now.entries k) }
-        ensures marked { AreMarked start (length row.old) (at (map E.value row.new)) (at self.now.entries) marks.old
+        ensures marked { AreMarked start (length row.old) (at (map E.value row.new))
+            (at self.now.entries) marks.old
             marks.new }
     {
         scale(row, p);
@@ -108,7 +110,8 @@ impl<E: Entry> PivotRow<E> {
         q: E,
         limit: u128,
     ) -> Result<u128, Wide>
-        requires ready { CanApply E.top limit (E.value p) (E.value q) (map E.value row.old) self.old.entries
+        requires ready { CanApply E.top limit (E.value p) (E.value q)
+            (map E.value row.old) self.old.entries
             (length row.old) start (length marks.old) }
         ensures part { OnOk result (IsPrimitivePart (map E.value row.new)
             (combination (E.value p) (map E.value row.old) (E.value q) self.old.entries)) }
@@ -116,7 +119,8 @@ impl<E: Entry> PivotRow<E> {
         ensures wide { OnErr result
             (HasWidePart limit (combination (E.value p) (map E.value row.old) (E.value q) self.old.entries)) }
         ensures unchanged { OnErr result (row.new ≡ row.old) }
-        ensures marked { IfOk result (λ _. AreMarked start (length row.old) (at (map E.value row.new))
+        ensures marked { IfOk result (λ _. AreMarked start (length row.old)
+            (at (map E.value row.new))
             (at self.old.entries) marks.old marks.new) }
         ensures kept { OnErr result (marks.new ≡ marks.old) }
         ensures same { self.new ≡ self.old }
@@ -152,15 +156,18 @@ impl<E: Entry> PivotRow<E> {
         place: usize,
         limit: u128,
     ) -> Result<u128, Wide>
-        requires ready { CanClearRow E.top limit (map E.value row.old) self.old bound place (length row.old) start
+        requires ready { CanClearRow E.top limit (map E.value row.old) self.old bound place
+            (length row.old) start
             (length marks.old) }
-        ensures cleared { IfOk result (λ _. IsClearedBy (length row.old) place (at (map E.value row.old))
+        ensures cleared { IfOk result (λ _. IsClearedBy (length row.old) place
+            (at (map E.value row.old))
             (at self.old.entries) (at (map E.value row.new))) }
         ensures bounded { IfOk result (λ sum. IsBounded limit (map E.value row.new) sum) }
         ensures wide { OnErr result
             (IsWideCleared limit (length row.old) place (at (map E.value row.old)) (at self.old.entries)) }
         ensures unchanged { OnErr result (row.new ≡ row.old) }
-        ensures marked { IfOk result (λ _. AreMarked start (length row.old) (at (map E.value row.new))
+        ensures marked { IfOk result (λ _. AreMarked start (length row.old)
+            (at (map E.value row.new))
             (at self.old.entries) marks.old marks.new) }
         ensures kept { OnErr result (marks.new ≡ marks.old) }
         ensures same { self.new ≡ self.old }
@@ -180,7 +187,8 @@ impl<E: Entry> PivotRow<E> {
 fn list_places<E: Entry>(row: &[E], places: &mut [usize]) -> usize
     requires room { length places.old ≡ length row.now }
     ensures few { result ≤ length places.new }
-    ensures listed { AreListed (length row.now) (at (map E.value row.now)) (take result places.new) }
+    ensures listed { AreListed (length row.now) (at (map E.value row.now))
+        (take result places.new) }
 {
     let mut listed = 0;
     for k in 0..row.len() {

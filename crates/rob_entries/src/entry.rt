@@ -47,7 +47,8 @@ pub trait Entry: Copy + Drop {
 
     /// Whether it is below 0, 0, or above 0.
     fn sign(self) -> Ordering
-        ensures sign { MatchOrdering result (value self <ℤ pos 0) (value self ≡ pos 0) (pos 0 <ℤ value self) };
+        ensures sign { MatchOrdering result (value self <ℤ pos 0) (value self ≡ pos 0)
+            (pos 0 <ℤ value self) };
 
     /// Whether it is 0.
     final fn is_zero(self) -> bool
@@ -83,13 +84,16 @@ pub trait Entry: Copy + Drop {
         requires limit { limit ≤ top }
         requires bound_in { bound ≤ limit }
         requires other_in { other ≤ limit }
-        ensures bound { IfSome result (λ sum. sum ≡ nat_abs (value p) * bound + nat_abs (value q) * other) }
+        ensures bound { IfSome result (λ sum. sum
+            ≡ nat_abs (value p) * bound + nat_abs (value q) * other) }
         ensures within { IfSome result (λ sum. sum ≤ limit) }
-        ensures wide { IfNone result (limit < nat_abs (value p) * bound + nat_abs (value q) * other) };
+        ensures wide { IfNone result (limit < nat_abs (value p) * bound + nat_abs
+            (value q) * other) };
 
     /// p * a - q * b, where the sizes of both products together are within what the type allows.
     fn fused(p: Self, a: Self, q: Self, b: Self) -> Self
-        requires narrow { nat_abs (value p) * nat_abs (value a) + nat_abs (value q) * nat_abs (value b) ≤ top }
+        requires narrow { nat_abs (value p) * nat_abs (value a) + nat_abs (value q) * nat_abs
+            (value b) ≤ top }
         ensures value { value result ≡ (value p *ℤ value a) -ℤ (value q *ℤ value b) };
 
     /// Writes p times `upper` less q times `low`, divided by the greatest common divisor of its entries, to `out`.
@@ -110,7 +114,8 @@ pub trait Entry: Copy + Drop {
         requires factors { (nat_abs (value p) ≤ top) × (nat_abs (value q) ≤ top) }
         requires lowest { gcd (nat_abs (value p)) (nat_abs (value q)) ≤ 1 }
         requires lengths { (length upper.now ≡ length out.old) × (length low.now ≡ length out.old) }
-        requires within { IsWithin limit (map value upper.now) × IsWithin limit (map value low.now) }
+        requires within { IsWithin limit (map value upper.now)
+            × IsWithin limit (map value low.now) }
         requires primitive { content (map value low.now) ≡ 1 }
         requires own { (0 < length out.old) × (at (map value low.now) (length out.old - 1) ≡ pos 0)
             × (at (map value upper.now) (length out.old - 1) ≢ pos 0) }

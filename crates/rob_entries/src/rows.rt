@@ -11,7 +11,8 @@ use crate::entry::Entry;
 pub fn negate<E: Entry>(row: &mut [E], bound: u128)
     requires within { IsWithin bound (map E.value row.old) }
     requires bound { bound ≤ E.top }
-    ensures negated { (k : ℕ) → k < length row.old → at (map E.value row.new) k ≡ neg_ℤ (at (map E.value row.old) k) }
+    ensures negated { (k : ℕ) → k < length row.old → at (map E.value row.new) k
+        ≡ neg_ℤ (at (map E.value row.old) k) }
 {
     for k in 0..row.len() {
         row[k] = row[k].minus();
@@ -34,7 +35,8 @@ fn lower<E: Entry>(best: usize, entry: E, column: usize) -> usize
 /// place.
 pub fn lowest_column<E: Entry>(row: &[E], near: &[usize], before: usize) -> usize
     requires near_in { length row.now ≤ length near.now }
-    ensures lowest { IsLowest (at (map E.value row.now)) (λ k. slice_index_or near.now k 0) (length row.now) before
+    ensures lowest { IsLowest (at (map E.value row.now)) (λ k. slice_index_or near.now k 0)
+        (length row.now) before
         result }
 {
     let mut best = before;

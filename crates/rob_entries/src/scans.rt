@@ -10,7 +10,8 @@ const PART: usize = 32;
 /// Whether a mark is on.
 #[inline(always)]
 fn has_some(marks: &[bool]) -> bool
-    ensures none { IsFalse result → (k : ℕ) → k < length marks.now → slice_index_or marks.now k true ≡ false }
+    ensures none { IsFalse result → (k : ℕ) → k < length marks.now → slice_index_or marks.now k true
+        ≡ false }
 {
     let mut some = false;
     for k in 0..marks.len() {
@@ -60,7 +61,8 @@ fn lowest_in_part(marks: &[bool], near: &[usize], from: usize, low: usize, befor
     requires marks_in { from + 32 ≤ length marks.now }
     requires near_in { from + 32 ≤ length near.now }
     ensures low { result ≤ before }
-    ensures floor { IsFloor marks.now (λ k. slice_index_or near.now k 0) from (from + 32) low result }
+    ensures floor { IsFloor marks.now (λ k. slice_index_or near.now k 0) from
+        (from + 32) low result }
 {
     if has_some(&marks[from..from + PART]) {
         lowest_between(marks, near, from, from + PART, low, before)
@@ -73,7 +75,8 @@ fn lowest_in_part(marks: &[bool], near: &[usize], from: usize, low: usize, befor
 pub fn lowest_marked(marks: &[bool], near: &[usize], low: usize, before: usize) -> usize
     requires near_in { length marks.now ≤ length near.now }
     ensures low { result ≤ before }
-    ensures floor { IsFloor marks.now (λ k. slice_index_or near.now k 0) 0 (length marks.now) low result }
+    ensures floor { IsFloor marks.now (λ k. slice_index_or near.now k 0) 0
+        (length marks.now) low result }
 {
     let parts = marks.len() / PART;
     let mut best = before;

@@ -21,11 +21,13 @@ pub fn subtract<E: Entry>(
     requires lengths { length other.now ≡ length row.old }
     requires marks_in { start + length row.old ≤ length marks.old }
     requires listed { AreListed (length other.now) (at (map E.value other.now)) places.now }
-    requires narrow { IsNarrowBy E.top (length row.old) (pos 1) (E.value q) (at (map E.value row.old))
+    requires narrow { IsNarrowBy E.top (length row.old) (pos 1) (E.value q)
+        (at (map E.value row.old))
         (at (map E.value other.now)) }
     ensures entries { (k : ℕ) → k < length row.old → at (map E.value row.new) k
         ≡ at (map E.value row.old) k -ℤ (E.value q *ℤ at (map E.value other.now) k) }
-    ensures marked { AreMarked start (length row.old) (at (map E.value row.new)) (at (map E.value other.now)) marks.old
+    ensures marked { AreMarked start (length row.old) (at (map E.value row.new))
+        (at (map E.value other.now)) marks.old
         marks.new }
 {
     let _ = marks.len();
@@ -76,7 +78,8 @@ pub fn mark<E: Entry>(marks: &mut [bool], start: usize, row: &[E], other: &[E], 
     requires lengths { length other.now ≡ length row.now }
     requires marks_in { start + length row.now ≤ length marks.old }
     requires listed { AreListed (length other.now) (at (map E.value other.now)) places.now }
-    ensures marked { AreMarked start (length row.now) (at (map E.value row.now)) (at (map E.value other.now)) marks.old
+    ensures marked { AreMarked start (length row.now) (at (map E.value row.now))
+        (at (map E.value other.now)) marks.old
         marks.new }
 {
     let _ = marks.len();

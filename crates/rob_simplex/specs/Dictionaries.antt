@@ -54,7 +54,8 @@ spare_column n m = suc (suc (suc (n + m)))
 
 -- a row as a function of the column, from its entries at w places and its own entry behind them
 abbrev pub read_row : ℕ → Columns → ℕ → Vector → ℕ → ℤ
-read_row w places i row c = cond (nat_lt (places c) w) (row (places c)) (cond (nat_eq (places c) (w + i)) (row w) (pos 0))
+read_row w places i row c =
+    cond (nat_lt (places c) w) (row (places c)) (cond (nat_eq (places c) (w + i)) (row w) (pos 0))
 
 -- the rows of a dictionary
 abbrev pub rows_of : Table → Matrix
@@ -62,17 +63,20 @@ rows_of t i = read_row (t.columns + 3) (columns_of t.places) i (row_at t.table (
 
 -- the kept row stands at the objective's position
 abbrev pub kept_row_of : Table → Vector
-kept_row_of t = read_row (t.columns + 3) (columns_of t.places) (positions t) (row_at t.table (t.columns + 4) (suc (positions t)))
+kept_row_of t =
+    read_row (t.columns + 3) (columns_of t.places) (positions t) (row_at t.table (t.columns + 4) (suc (positions t)))
 
 -- sizes, the maps of places and columns, and the bounds of the rows
-pub record IsSound (limit n : ℕ) (basis places near : List ℕ) (table : List ℤ) (bounds : List ℕ) (workspace : ℕ) : Type 0 where
+pub record IsSound (limit n : ℕ) (basis places near : List ℕ) (table : List ℤ) (bounds : List ℕ)
+    (workspace : ℕ) : Type 0 where
   pub few : n + length basis < 2 ^ 31
   pub limit_low : 1 ≤ limit
   pub count : length bounds ≡ length basis + 2
   pub bounded : HasBounds limit (n + 4) table bounds
   pub places_size : length places ≡ n + length basis + 4
   pub near_size : length near ≡ n + 3
-  pub placed : IsPlaced (length basis) (n + 3) (n + length basis + 4) (columns_of places) (columns_of near) (basic_columns n basis)
+  pub placed : IsPlaced (length basis) (n + 3) (n + length basis + 4) (columns_of places) (columns_of near)
+      (basic_columns n basis)
   pub right_at : columns_of places (right_column n (length basis)) ≡ n + 2
   pub workspace_is : workspace ≡ n + 4
 
@@ -121,10 +125,12 @@ pub record KeepsOwn (count : ℕ) (t : Table) (row : ℕ) : Type 0 where
 
 -- of the rows before `count` but this one each is cleared; the others stay. The kept row is the last one
 pub record ClearsTable (count : ℕ) (t t' : Table) (row column : ℕ) : Type 0 where
-  pub cleared : (i : ℕ) → i < count → i ≤ positions t → i ≢ row → IsClearedBy (width_of t) column (rows_of t i) (rows_of t row) (rows_of t' i)
+  pub cleared : (i : ℕ) → i < count → i ≤ positions t → i ≢ row
+      → IsClearedBy (width_of t) column (rows_of t i) (rows_of t row) (rows_of t' i)
   pub row_stays : (c : ℕ) → rows_of t' row c ≡ rows_of t row c
   pub others : (i c : ℕ) → count ≤ i → i ≤ positions t → rows_of t' i c ≡ rows_of t i c
-  pub kept : suc (positions t) < count → IsClearedBy (width_of t) column (kept_row_of t) (rows_of t row) (kept_row_of t')
+  pub kept : suc (positions t) < count
+      → IsClearedBy (width_of t) column (kept_row_of t) (rows_of t row) (kept_row_of t')
   pub kept_stays : count ≤ suc (positions t) → (c : ℕ) → kept_row_of t' c ≡ kept_row_of t c
 
 -- the rows before row i are cleared, and row i would be wide
@@ -152,7 +158,9 @@ shape n m = kept_of (sized n m (λ i j. pos 0) (λ i. pos 0) (λ j. pos 0))
 
 -- row i is positive in the column, and comes before the best row so far, if there is one
 abbrev pub GoesFirst : ℕ → ℕ → Matrix → ℕ → ℕ → Option ℕ → Type 0
-GoesFirst n m rows column i best = (pos 0 <ℤ rows i column) × IfSome best (λ e. ComesBefore (shape n m) (rows i) (rows i column) (rows e) (rows e column))
+GoesFirst n m rows column i best =
+    (pos 0 <ℤ rows i column)
+    × IfSome best (λ e. ComesBefore (shape n m) (rows i) (rows i column) (rows e) (rows e column))
 
 -- row i may be the least: it is negative in the column, and its key is lexicographically negative
 abbrev pub MayBeLeast : ℕ → ℕ → Matrix → ℕ → ℕ → Type 0
@@ -161,7 +169,8 @@ MayBeLeast n m rows column i = (rows i column <ℤ pos 0) × IsLexNegative (suc 
 -- row i may be the least, and comes before the best row so far, if there is one
 abbrev pub IsLower : ℕ → ℕ → Matrix → ℕ → ℕ → Option ℕ → Type 0
 IsLower n m rows column i best =
-    (rows i column <ℤ pos 0) × IfSome best (λ e. ComesBefore (shape n m) (rows i) (neg_ℤ (rows i column)) (rows e) (neg_ℤ (rows e column)))
+    (rows i column <ℤ pos 0)
+    × IfSome best (λ e. ComesBefore (shape n m) (rows i) (neg_ℤ (rows i column)) (rows e) (neg_ℤ (rows e column)))
     × IsLexNegative (suc m) (key (shape n m) (rows i))
 
 -- the sign of a number that is not 0
@@ -178,7 +187,8 @@ pub record IsClosed (t : Table) : Type 0 where
 -- a column has come in at a position: its row stays up to a factor, and clears the column in the others
 pub record IsPivoted (t t' : Table) (row column : ℕ) : Type 0 where
   pub row_at : IsParallel (width_of t) (rows_of t' row) (rows_of t row)
-  pub row_other : (i : ℕ) → i ≤ positions t → i ≢ row → IsClearedBy (width_of t) column (rows_of t i) (rows_of t row) (rows_of t' i)
+  pub row_other : (i : ℕ) → i ≤ positions t → i ≢ row
+      → IsClearedBy (width_of t) column (rows_of t i) (rows_of t row) (rows_of t' i)
 
 -- a pivot was begun: the position is open, its row stays up to a factor, and each other row is as it was, or cleared
 pub record IsBegunPivot (t t' : Table) (row column : ℕ) : Type 0 where
@@ -188,4 +198,5 @@ pub record IsBegunPivot (t t' : Table) (row column : ℕ) : Type 0 where
   pub row_at : IsParallel (width_of t) (rows_of t' row) (rows_of t row)
   pub row_other :
       (i : ℕ) → i ≤ positions t → i ≢ row
-      → ((c : ℕ) → c < width_of t → rows_of t' i c ≡ rows_of t i c) ⊎ IsClearedBy (width_of t) column (rows_of t i) (rows_of t row) (rows_of t' i)
+      → ((c : ℕ) → c < width_of t → rows_of t' i c ≡ rows_of t i c)
+      ⊎ IsClearedBy (width_of t) column (rows_of t i) (rows_of t row) (rows_of t' i)

@@ -71,7 +71,8 @@ pub record IsRayAt (IsEnd : Columns → Type 0) (P : Program) (s : Solver) : Typ
   pub open point use *
   pub enters : Enters (system_of P) (entries s) (column_of s.state)
   pub ends : EndsUnbounded (system_of P) (own_of (system_of P) (columns_of s.basis)) (entries s) (column_of s.state)
-  pub move : IsBasicMove (system_of P) (own_of (system_of P) (columns_of s.basis)) (entries s) (column_of s.state) (ray_of s)
+  pub move : IsBasicMove (system_of P) (own_of (system_of P) (columns_of s.basis)) (entries s) (column_of s.state)
+      (ray_of s)
   pub feasible : IsFeasible P (point_of s)
   pub improving : IsImprovingRay P (ray_of s)
   pub unbounded : IsUnbounded P

@@ -32,7 +32,8 @@ pub record InSecond (P : Program) (t : Table) : Type 0 where
 -- the last basis: no column improves the objective, or this one does without limit
 abbrev pub EndsIn : Program → Option ℕ → Table → Type 0
 EndsIn P None t = (k : ℕ) → k < P.n + P.m → pos 0 ≤ℤ rows_of t P.m k
-EndsIn P (Some column) t = FirstNegative (P.n + P.m) (rows_of t P.m) column × ((i : ℕ) → i < P.m → rows_of t i column ≤ℤ pos 0)
+EndsIn P (Some column) t =
+    FirstNegative (P.n + P.m) (rows_of t P.m) column × ((i : ℕ) → i < P.m → rows_of t i column ≤ℤ pos 0)
 
 -- how far the rank of the objective's row is from its bound, for n columns and m rows within the limit
 abbrev pub rank_left : ℕ → ℕ → Table → ℕ

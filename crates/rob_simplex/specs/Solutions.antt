@@ -28,7 +28,8 @@ over_own s v i = of_pair (v i) (nat_abs (entries s i (columns_of s.basis i)))
 
 -- the basic solution
 abbrev pub point_of : Solver → ℕ → Fraction
-point_of s column = at_position (position_of s.basis column) (over_own s (λ i. entries s i (s.columns + positions s + 1)))
+point_of s column =
+    at_position (position_of s.basis column) (over_own s (λ i. entries s i (s.columns + positions s + 1)))
 
 -- the basic direction: that column grows by 1, and each basic column by minus its row's entry there over the row's own
 abbrev pub ray_of : Solver → ℕ → Fraction

@@ -19,7 +19,8 @@ start_column n m k = cond (nat_lt k n) k (cond (nat_eq k n) (n + m) (cond (nat_e
 -- its own entry
 abbrev pub start_entry : ℕ → Vector → ℤ → ℤ → Vector
 start_entry n low auxiliary right k =
-    cond (nat_lt k n) (low k) (cond (nat_eq k n) auxiliary (cond (nat_eq k (n + 1)) (pos 0) (cond (nat_eq k (n + 2)) right (pos 1))))
+    cond (nat_lt k n) (low k)
+    (cond (nat_eq k n) auxiliary (cond (nat_eq k (n + 1)) (pos 0) (cond (nat_eq k (n + 2)) right (pos 1))))
 
 -- the dictionary has the program's starting rows
 pub record IsStartingTable (P : Program) (t : Table) : Type 0 where

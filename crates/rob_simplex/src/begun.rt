@@ -18,7 +18,8 @@ impl<E: Entry> Dictionary<E> {
     pub fn end_turn<L: Ledger>(&mut self, row: usize, ledger: &mut L) -> Result<(), usize>
         requires row_in { row < positions self.old }
         requires begun { (P : Program) × HasBegunTurn (InSecond P) self.old row }
-        ensures turned { (P : Program) → HasBegunTurn (InSecond P) self.old row → OnOk result (InSecond P self.new) }
+        ensures turned { (P : Program) → HasBegunTurn (InSecond P) self.old row
+            → OnOk result (InSecond P self.new) }
         ensures wide { (P : Program) → HasBegunTurn (InSecond P) self.old row
             → IfErr result (λ i. HasWideRow self.old.limit P (columns_of self.new.basis) i) }
         ensures position { IfErr result (λ i. i ≤ positions self.old) }

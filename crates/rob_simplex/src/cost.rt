@@ -25,7 +25,8 @@ impl<E: Entry> Dictionary<E> {
     fn drop_cost(&mut self)
         ensures objective { (c : ℕ) → c < width_of self.old
             → rows_of self.new (positions self.old) c ≡ unit_row (suc (self.old.columns + positions self.old)) c }
-        ensures rows { (i c : ℕ) → i < positions self.old → rows_of self.new i c ≡ rows_of self.old i c }
+        ensures rows { (i c : ℕ) → i < positions self.old → rows_of self.new i c
+            ≡ rows_of self.old i c }
         ensures basis { self.new.basis ≡ self.old.basis }
         ensures sized { IsSized self.old self.new }
     {
@@ -44,13 +45,15 @@ impl<E: Entry> Dictionary<E> {
     fn lower<L: Ledger>(&mut self, column: usize, factor: i64, ledger: &mut L) -> Result<(), Wide>
         requires way { HasWay self.old column }
         requires factor { nat_abs factor < 2 ^ 62 }
-        requires own { rows_of self.old (positions self.old) (suc (self.old.columns + positions self.old)) ≢ pos 0 }
+        requires own { rows_of self.old (positions self.old)
+            (suc (self.old.columns + positions self.old)) ≢ pos 0 }
         ensures lowered { OnOk result (IsLowered (width_of self.old) column
             (amount_of self.old factor) (rows_of self.old (positions self.old))
             (rows_of self.new (positions self.old))) }
         ensures wide { OnErr result (IsWideLowered self.old.limit (width_of self.old) column
             (amount_of self.old factor) (rows_of self.old (positions self.old))) }
-        ensures rows { (i c : ℕ) → i < positions self.old → rows_of self.new i c ≡ rows_of self.old i c }
+        ensures rows { (i c : ℕ) → i < positions self.old → rows_of self.new i c
+            ≡ rows_of self.old i c }
         ensures basis { self.new.basis ≡ self.old.basis }
         ensures sized { IsSized self.old self.new }
         ensures counted { CountsRows L.ops L.wides ledger.old ledger.new }
@@ -85,7 +88,8 @@ impl<E: Entry> Dictionary<E> {
         requires ready { CanClear (positions self.old + 1) self.old i column }
         requires way { HasWay self.old column }
         requires alone { IsAlone self.old i column }
-        requires small { (k c : ℕ) → k ≤ positions self.old → nat_abs (rows_of self.old k c) ≤ self.old.limit }
+        requires small { (k c : ℕ) → k ≤ positions self.old → nat_abs (rows_of self.old k c)
+            ≤ self.old.limit }
         requires factor { nat_abs factor < 2 ^ 62 }
         ensures cleared { OnOk result (HasCleared self.old self.new i column factor) }
         ensures wide { OnErr result (HasRefusedCost self.old.limit self.old i column factor) }

@@ -15,8 +15,10 @@ impl<E: Entry> Dictionary<E> {
         requires b_in { b < positions self.old }
         ensures rows { (i c : ℕ) → i ≤ positions self.old → c < width_of self.old
             → rows_of self.new i c ≡ rows_of self.old (exchanged a b i) c }
-        ensures kept { (c : ℕ) → c < width_of self.old → kept_row_of self.new c ≡ kept_row_of self.old c }
-        ensures basis { (i : ℕ) → columns_of self.new.basis i ≡ columns_of self.old.basis (exchanged a b i) }
+        ensures kept { (c : ℕ) → c < width_of self.old → kept_row_of self.new c
+            ≡ kept_row_of self.old c }
+        ensures basis { (i : ℕ) → columns_of self.new.basis i
+            ≡ columns_of self.old.basis (exchanged a b i) }
         ensures sized { IsSized self.old self.new }
     {
         let width = self.columns + 4;
@@ -48,7 +50,8 @@ impl<E: Entry> Dictionary<E> {
     /// Keeps the objective's row behind it.
     pub fn keep_objective(&mut self)
         ensures kept { (c : ℕ) → kept_row_of self.new c ≡ rows_of self.old (positions self.old) c }
-        ensures rows { (i c : ℕ) → i ≤ positions self.old → rows_of self.new i c ≡ rows_of self.old i c }
+        ensures rows { (i c : ℕ) → i ≤ positions self.old → rows_of self.new i c
+            ≡ rows_of self.old i c }
         ensures basis { self.new.basis ≡ self.old.basis }
         ensures sized { IsSized self.old self.new }
     {
@@ -59,8 +62,10 @@ impl<E: Entry> Dictionary<E> {
 
     /// Writes the kept row back to the objective's position.
     pub fn restore_objective(&mut self)
-        ensures objective { (c : ℕ) → rows_of self.new (positions self.old) c ≡ kept_row_of self.old c }
-        ensures rows { (i c : ℕ) → i < positions self.old → rows_of self.new i c ≡ rows_of self.old i c }
+        ensures objective { (c : ℕ) → rows_of self.new (positions self.old) c
+            ≡ kept_row_of self.old c }
+        ensures rows { (i c : ℕ) → i < positions self.old → rows_of self.new i c
+            ≡ rows_of self.old i c }
         ensures basis { self.new.basis ≡ self.old.basis }
         ensures sized { IsSized self.old self.new }
     {
@@ -71,12 +76,16 @@ impl<E: Entry> Dictionary<E> {
 
     /// Writes the auxiliary objective to the objective's row: 1 in the auxiliary column and in its own.
     pub fn write_auxiliary(&mut self)
-        requires free { IsFree self.old.columns self.old.basis (self.old.columns + positions self.old) }
-        ensures auxiliary { rows_of self.new (positions self.old) (self.old.columns + positions self.old) ≡ pos 1 }
-        ensures own { rows_of self.new (positions self.old) (suc (self.old.columns + positions self.old)) ≡ pos 1 }
+        requires free { IsFree self.old.columns self.old.basis
+            (self.old.columns + positions self.old) }
+        ensures auxiliary { rows_of self.new (positions self.old)
+            (self.old.columns + positions self.old) ≡ pos 1 }
+        ensures own { rows_of self.new (positions self.old)
+            (suc (self.old.columns + positions self.old)) ≡ pos 1 }
         ensures zero { (c : ℕ) → c < width_of self.old → c ≢ self.old.columns + positions self.old
             → c ≢ suc (self.old.columns + positions self.old) → rows_of self.new (positions self.old) c ≡ pos 0 }
-        ensures rows { (i c : ℕ) → i < positions self.old → rows_of self.new i c ≡ rows_of self.old i c }
+        ensures rows { (i c : ℕ) → i < positions self.old → rows_of self.new i c
+            ≡ rows_of self.old i c }
         ensures kept { (c : ℕ) → kept_row_of self.new c ≡ kept_row_of self.old c }
         ensures basis { self.new.basis ≡ self.old.basis }
         ensures sized { IsSized self.old self.new }

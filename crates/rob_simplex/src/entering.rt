@@ -10,7 +10,8 @@ impl<E: Entry> Dictionary<E> {
     /// The first structural or slack column with a negative entry in a row, if there is one.
     pub fn first_negative(&self, row: usize) -> Option<usize>
         requires row_in { row ≤ positions self.now }
-        requires own { pos 0 ≤ℤ rows_of self.now row (basic_columns self.now.columns self.now.basis row) }
+        requires own { pos 0 ≤ℤ rows_of self.now row
+            (basic_columns self.now.columns self.now.basis row) }
         ensures first { MatchOption result
             ((c : ℕ) → c < self.now.columns + positions self.now → pos 0 ≤ℤ rows_of self.now row c)
             (λ column. FirstNegative (self.now.columns + positions self.now) (rows_of self.now row) column) }

@@ -107,10 +107,12 @@ impl<E: Entry> Dictionary<E> {
         ledger: &mut L,
     ) -> Result<bool, usize>
         requires stands { (P : Program) × InBeside P q self.old }
-        requires first { FirstNegative (self.old.columns + positions self.old) (rows_of self.old q) column }
+        requires first { FirstNegative (self.old.columns + positions self.old)
+            (rows_of self.old q) column }
         ensures turned { IfOk result (λ stays. (P : Program) → InBeside P q self.old
             → HasTurnedBeside P q stays self.old self.new) }
-        ensures opened { IfErr result (λ i. (P : Program) → InBeside P q self.old → IsOpenBeside P q self.new) }
+        ensures opened { IfErr result (λ i. (P : Program) → InBeside P q self.old
+            → IsOpenBeside P q self.new) }
         ensures sized { IsSized self.old self.new }
         ensures counted { CountsRows L.ops L.wides ledger.old ledger.new }
     {

@@ -28,7 +28,8 @@ impl<E: Entry> Dictionary<E> {
     fn tells_wide<N: Exact>(&self, growing: Option<usize>, i: usize) -> bool
         requires own { HasOwn self.now }
         requires i_in { i < positions self.now }
-        requires growing_in { IfSome growing (λ column. column < self.now.columns + positions self.now) }
+        requires growing_in { IfSome growing
+            (λ column. column < self.now.columns + positions self.now) }
         ensures wide { OnTrue result (TellsWideAt N.limit growing self.now i) }
         ensures fits { OnFalse result (TellsAt N.limit growing self.now i) }
     {
@@ -48,7 +49,8 @@ impl<E: Entry> Dictionary<E> {
     /// The first position before the objective's whose row tells a number that is wide, if there is one.
     fn first_wide<N: Exact>(&self, growing: Option<usize>) -> Option<usize>
         requires own { HasOwn self.now }
-        requires growing_in { IfSome growing (λ column. column < self.now.columns + positions self.now) }
+        requires growing_in { IfSome growing
+            (λ column. column < self.now.columns + positions self.now) }
         ensures first { MatchOption result
             ((i : ℕ) → i < positions self.now → TellsAt N.limit growing self.now i)
             (λ i. (i < positions self.now) × TellsWideAt N.limit growing self.now i
@@ -85,7 +87,8 @@ impl<E: Entry> Dictionary<E> {
     /// this column grows, or at an optimum. Position m is the objective's.
     pub fn judge<N: Exact>(&self, growing: Option<usize>) -> Option<usize>
         requires own { HasOwn self.now }
-        requires growing_in { IfSome growing (λ column. column < self.now.columns + positions self.now) }
+        requires growing_in { IfSome growing
+            (λ column. column < self.now.columns + positions self.now) }
         ensures judged { MatchOption result (Tells N.limit growing self.now)
             (λ i. (i ≤ positions self.now) × TellsWideFirst N.limit growing self.now i) }
     {

@@ -17,7 +17,8 @@ use std::cmp::Ordering;
 /// Whether a number is below 0; none for 0.
 #[inline(always)]
 fn is_below<E: Entry>(a: E) -> Option<bool>
-    ensures sign { MatchOption result (E.value a ≡ pos 0) (λ below. Decided below (neg_ℤ (E.value a))) }
+    ensures sign { MatchOption result (E.value a ≡ pos 0)
+        (λ below. Decided below (neg_ℤ (E.value a))) }
 {
     match a.sign() {
         Ordering::Less => Some(true),
@@ -27,8 +28,8 @@ fn is_below<E: Entry>(a: E) -> Option<bool>
 }
 
 impl<E: Entry> Dictionary<E> {
-    /// Whether the first number of a row's right side and slack entries that is not 0 is negative. Most rows that are 0 on
-    /// their right side have few entries, so slack entries are read from the first one on that may not be 0.
+    /// Whether the first number of a row's right side and slack entries that is not 0 is negative. Most rows that are
+    /// 0 on their right side have few entries, so slack entries are read from the first one on that may not be 0.
     #[inline(never)]
     fn is_negative(&self, i: usize) -> bool
         requires row_in { i < positions self.now }
@@ -64,7 +65,8 @@ impl<E: Entry> Dictionary<E> {
         requires free { AreFree self.now free.seen free.slacks.now }
         requires column_in { column < width_of self.now }
         requires i_in { i < positions self.now }
-        requires best_in { IfSome best (λ e. (e < positions self.now) × (rows_of self.now e column <ℤ pos 0)) }
+        requires best_in { IfSome best (λ e. (e < positions self.now)
+            × (rows_of self.now e column <ℤ pos 0)) }
         ensures decides { IsTrue result
             ↔ IsLower self.now.columns (positions self.now) (rows_of self.now) column i best }
     {
@@ -116,8 +118,10 @@ impl<E: Entry> Dictionary<E> {
     /// on, as in the ratio test.
     pub fn least(&self) -> Option<usize>
         ensures least { MatchOption result
-            (HasNoLeast (shape self.now.columns (positions self.now)) (self.now.columns + positions self.now) (rows_of self.now))
-            (λ e. IsLeast (shape self.now.columns (positions self.now)) (self.now.columns + positions self.now) (rows_of self.now) e) }
+            (HasNoLeast (shape self.now.columns (positions self.now))
+            (self.now.columns + positions self.now) (rows_of self.now))
+            (λ e. IsLeast (shape self.now.columns (positions self.now))
+            (self.now.columns + positions self.now) (rows_of self.now) e) }
     {
         let mut order = [0usize; FIRST];
         self.least_by(&mut order)
@@ -126,8 +130,10 @@ impl<E: Entry> Dictionary<E> {
     /// The same, with room for the slack columns that are not basic.
     fn least_by(&self, order: &mut [usize]) -> Option<usize>
         ensures least { MatchOption result
-            (HasNoLeast (shape self.now.columns (positions self.now)) (self.now.columns + positions self.now) (rows_of self.now))
-            (λ e. IsLeast (shape self.now.columns (positions self.now)) (self.now.columns + positions self.now) (rows_of self.now) e) }
+            (HasNoLeast (shape self.now.columns (positions self.now))
+            (self.now.columns + positions self.now) (rows_of self.now))
+            (λ e. IsLeast (shape self.now.columns (positions self.now))
+            (self.now.columns + positions self.now) (rows_of self.now) e) }
     {
         let m = self.basis.len();
         let auxiliary = self.columns + m;

@@ -1,5 +1,5 @@
-//! The exact simplex method on condensed rows: a best point with dual values, an improving ray, or weights that show that no
-//! point is feasible.
+//! The exact simplex method on condensed rows: a best point with dual values, an improving ray, or weights that show
+//! that no point is feasible.
 #![tactic(auto)]
 
 mod begun;

@@ -96,7 +96,8 @@ fn write_factor<E: Entry>(
     ensures here { row_at rows.new width i place ≡ factor }
     ensures others { (j k : ℕ) → k < width → (k ≢ place) ⊎ (j ≢ i)
         → row_at rows.new width j k ≡ row_at rows.old width j k }
-    ensures bounded { HasBounds E.top width rows.old bounds.old → HasBounds E.top width rows.new bounds.new }
+    ensures bounded { HasBounds E.top width rows.old bounds.old
+        → HasBounds E.top width rows.new bounds.new }
 {
     let _ = rows.len();
     let entry = E::of(factor);

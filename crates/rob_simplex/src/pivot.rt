@@ -23,7 +23,8 @@ impl<E: Entry> Dictionary<E> {
     ) -> Result<(), usize>
         requires ready { CanClear count self.old row column }
         ensures cleared { OnOk result (ClearsTable count self.old self.new row column) }
-        ensures stopped { IfErr result (λ i. StopsTable self.old.limit count self.old self.new row column i) }
+        ensures stopped { IfErr result (λ i. StopsTable self.old.limit count self.old self.new row
+            column i) }
         ensures basis { self.new.basis ≡ self.old.basis }
         ensures sized { IsSized self.old self.new }
         ensures counted { CountsRows L.ops L.wides ledger.old ledger.new }
@@ -87,7 +88,8 @@ impl<E: Entry> Dictionary<E> {
         ensures pivoted { OnOk result (HasPivoted count self.old self.new row column) }
         ensures refused { IfErr result (RefusesPivot self.old.limit count self.old row column) }
         ensures broken { IfErr result (λ i. IsBroken self.old self.new row column) }
-        ensures small { (i c : ℕ) → i ≤ positions self.new → nat_abs (rows_of self.new i c) ≤ self.new.limit }
+        ensures small { (i c : ℕ) → i ≤ positions self.new → nat_abs (rows_of self.new i c)
+            ≤ self.new.limit }
         ensures basis { self.new.basis ≡ set self.old.basis row column }
         ensures sized { IsSized self.old self.new }
         ensures counted { CountsRows L.ops L.wides ledger.old ledger.new }

@@ -157,7 +157,8 @@ impl<E: Entry> Dictionary<E> {
         requires free { AreFree self.now free.seen free.slacks.now }
         requires column_in { column < width_of self.now }
         requires i_in { i < positions self.now }
-        requires best_in { IfSome best (λ e. (e < positions self.now) × (pos 0 <ℤ rows_of self.now e column)) }
+        requires best_in { IfSome best (λ e. (e < positions self.now)
+            × (pos 0 <ℤ rows_of self.now e column)) }
         ensures decides { IsTrue result
             ↔ GoesFirst self.now.columns (positions self.now) (rows_of self.now) column i best }
     {
@@ -175,7 +176,8 @@ impl<E: Entry> Dictionary<E> {
     /// the first one on, so each pass begins with the rows that the one before left in the machine's caches.
     pub fn leaving(&self, column: usize) -> Option<usize>
         requires column_in { column < width_of self.now }
-        ensures first { MatchOption result ((i : ℕ) → i < positions self.now → rows_of self.now i column ≤ℤ pos 0)
+        ensures first { MatchOption result ((i : ℕ) → i < positions self.now
+            → rows_of self.now i column ≤ℤ pos 0)
             (λ row. Leaves (shape self.now.columns (positions self.now)) (rows_of self.now) column row) }
     {
         let mut order = [0usize; FIRST];
@@ -185,7 +187,8 @@ impl<E: Entry> Dictionary<E> {
     /// The same, with room for the slack columns that are not basic.
     fn leaving_by(&self, column: usize, order: &mut [usize]) -> Option<usize>
         requires column_in { column < width_of self.now }
-        ensures first { MatchOption result ((i : ℕ) → i < positions self.now → rows_of self.now i column ≤ℤ pos 0)
+        ensures first { MatchOption result ((i : ℕ) → i < positions self.now
+            → rows_of self.now i column ≤ℤ pos 0)
             (λ row. Leaves (shape self.now.columns (positions self.now)) (rows_of self.now) column row) }
     {
         let m = self.basis.len();

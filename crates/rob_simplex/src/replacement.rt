@@ -16,9 +16,12 @@ impl<E: Entry> Dictionary<E> {
         ensures sized { IsSized self.old self.new }
         ensures rows { IsAlone self.old row column → (i c : ℕ) → i ≤ positions self.old
             → c < self.old.columns + positions self.old + 4 → rows_of self.new i c ≡ rows_of self.old i c }
-        ensures exchanged { IsExchanged self.old self.new row (columns_of self.old.basis row) column }
-        ensures small { (i c : ℕ) → i ≤ positions self.new → nat_abs (rows_of self.new i c) ≤ self.new.limit }
-        ensures kept { kept_row_of self.old column ≡ pos 0 → (c : ℕ) → kept_row_of self.new c ≡ kept_row_of self.old c }
+        ensures exchanged { IsExchanged self.old self.new row
+            (columns_of self.old.basis row) column }
+        ensures small { (i c : ℕ) → i ≤ positions self.new → nat_abs (rows_of self.new i c)
+            ≤ self.new.limit }
+        ensures kept { kept_row_of self.old column ≡ pos 0 → (c : ℕ) → kept_row_of self.new c
+            ≡ kept_row_of self.old c }
     {
         let place = self.places[column];
         let left = self.basis[row];

@@ -11,7 +11,8 @@ use rob_entries::{Cells, Entry};
 fn reduce_row<E: Entry>(rows: &mut Cells<E>, bounds: &mut [u128], i: usize, width: usize)
     requires bounded { HasBounds E.top width rows.old bounds.old }
     requires inside { i < length bounds.old }
-    ensures row { (d : ℤ) × (pos 0 <ℤ d) × ((k : ℕ) → k < width → d *ℤ row_at rows.new width i k ≡ row_at rows.old width i k) }
+    ensures row { (d : ℤ) × (pos 0 <ℤ d)
+        × ((k : ℕ) → k < width → d *ℤ row_at rows.new width i k ≡ row_at rows.old width i k) }
     ensures others { IsUnchangedBut i width (row_at rows.old width) (row_at rows.new width) }
     ensures bounded { HasBounds E.top width rows.new bounds.new }
 {
@@ -25,7 +26,8 @@ fn reduce_unless_one<E: Entry>(rows: &mut Cells<E>, bounds: &mut [u128], i: usiz
     requires bounded { HasBounds E.top width rows.old bounds.old }
     requires inside { i < length bounds.old }
     requires width { 1 ≤ width }
-    ensures row { (d : ℤ) × (pos 0 <ℤ d) × ((k : ℕ) → k < width → d *ℤ row_at rows.new width i k ≡ row_at rows.old width i k) }
+    ensures row { (d : ℤ) × (pos 0 <ℤ d)
+        × ((k : ℕ) → k < width → d *ℤ row_at rows.new width i k ≡ row_at rows.old width i k) }
     ensures others { IsUnchangedBut i width (row_at rows.old width) (row_at rows.new width) }
     ensures bounded { HasBounds E.top width rows.new bounds.new }
 {
@@ -40,7 +42,8 @@ fn reduce_unless_one<E: Entry>(rows: &mut Cells<E>, bounds: &mut [u128], i: usiz
 fn negate_row<E: Entry>(rows: &mut Cells<E>, bounds: &[u128], i: usize, width: usize)
     requires bounded { HasBounds E.top width rows.old bounds.now }
     requires inside { i < length bounds.now }
-    ensures row { (k : ℕ) → k < width → row_at rows.new width i k ≡ neg_ℤ (row_at rows.old width i k) }
+    ensures row { (k : ℕ) → k < width → row_at rows.new width i k
+        ≡ neg_ℤ (row_at rows.old width i k) }
     ensures others { IsUnchangedBut i width (row_at rows.old width) (row_at rows.new width) }
     ensures bounded { HasBounds E.top width rows.new bounds.now }
 {
@@ -54,7 +57,8 @@ impl<E: Entry> Dictionary<E> {
         requires row_in { row ≤ positions self.old }
         ensures row { (d : ℤ) × (pos 0 <ℤ d)
             × ((c : ℕ) → d *ℤ rows_of self.new row c ≡ rows_of self.old row c) }
-        ensures others { (i c : ℕ) → i ≤ positions self.old → i ≢ row → rows_of self.new i c ≡ rows_of self.old i c }
+        ensures others { (i c : ℕ) → i ≤ positions self.old → i ≢ row → rows_of self.new i c
+            ≡ rows_of self.old i c }
         ensures kept { (c : ℕ) → kept_row_of self.new c ≡ kept_row_of self.old c }
         ensures basis { self.new.basis ≡ self.old.basis }
         ensures sized { IsSized self.old self.new }
@@ -67,7 +71,8 @@ impl<E: Entry> Dictionary<E> {
     pub fn negate(&mut self, row: usize)
         requires row_in { row ≤ positions self.old }
         ensures row { (c : ℕ) → rows_of self.new row c ≡ neg_ℤ (rows_of self.old row c) }
-        ensures others { (i c : ℕ) → i ≤ positions self.old → i ≢ row → rows_of self.new i c ≡ rows_of self.old i c }
+        ensures others { (i c : ℕ) → i ≤ positions self.old → i ≢ row → rows_of self.new i c
+            ≡ rows_of self.old i c }
         ensures kept { (c : ℕ) → kept_row_of self.new c ≡ kept_row_of self.old c }
         ensures basis { self.new.basis ≡ self.old.basis }
         ensures sized { IsSized self.old self.new }

@@ -10,7 +10,8 @@ use rob_entries::{Cells, Entry};
 fn exchange_entries<E: Entry>(rows: &mut Cells<E>, a: usize, b: usize, width: usize)
     requires a_in { a * width + width ≤ length rows.old }
     requires b_in { b * width + width ≤ length rows.old }
-    ensures rows { (i k : ℕ) → k < width → row_at rows.new width i k ≡ row_at rows.old width (exchanged a b i) k }
+    ensures rows { (i k : ℕ) → k < width → row_at rows.new width i k
+        ≡ row_at rows.old width (exchanged a b i) k }
     ensures size { length rows.new ≡ length rows.old }
 {
     let _ = rows.len();
@@ -42,7 +43,8 @@ pub fn exchange_rows<E: Entry>(
     requires a_in { a < length bounds.old }
     requires b_in { b < length bounds.old }
     requires size { length rows.old ≡ length bounds.old * width }
-    ensures rows { (i k : ℕ) → k < width → row_at rows.new width i k ≡ row_at rows.old width (exchanged a b i) k }
+    ensures rows { (i k : ℕ) → k < width → row_at rows.new width i k
+        ≡ row_at rows.old width (exchanged a b i) k }
     ensures bounded { (limit : ℕ) → HasBounds limit width rows.old bounds.old
         → HasBounds limit width rows.new bounds.new }
 {

@@ -32,7 +32,8 @@ impl<E: Entry> Dictionary<E> {
     /// next one, and the turn was begun.
     fn advance<L: Ledger>(&mut self, ledger: &mut L) -> Result<Turn, Halt>
         requires stands { (P : Program) × StandsFor P self.old }
-        ensures turned { IfOk result (λ turn. (P : Program) → StandsFor P self.old → HasTurned P turn self.old self.new) }
+        ensures turned { IfOk result (λ turn. (P : Program) → StandsFor P self.old
+            → HasTurned P turn self.old self.new) }
         ensures wide { IfErr result (λ halt. (P : Program) → StandsFor P self.old
             → HasRefused self.old.limit P halt.position self.old self.new) }
         ensures begun { IfErr result (λ halt. HasBegunAt (λ t. t ≡ self.old) halt.cause self.new) }

@@ -64,8 +64,10 @@ pub fn fits<N: Exact, E: Entry>(numerator: E, denominator: E) -> bool
     requires numerator { nat_abs (E.value numerator) ≤ E.top }
     requires denominator { nat_abs (E.value denominator) ≤ E.top }
     requires positive { pos 0 <ℤ E.value denominator }
-    ensures fits { OnTrue result (Fits N.limit (of_pair (E.value numerator) (nat_abs (E.value denominator)))) }
-    ensures wide { OnFalse result (IsWide N.limit (of_pair (E.value numerator) (nat_abs (E.value denominator)))) }
+    ensures fits { OnTrue result (Fits N.limit
+        (of_pair (E.value numerator) (nat_abs (E.value denominator)))) }
+    ensures wide { OnFalse result (IsWide N.limit
+        (of_pair (E.value numerator) (nat_abs (E.value denominator)))) }
 {
     let limit = N::LIMIT as u128;
     if numerator.size() <= limit {

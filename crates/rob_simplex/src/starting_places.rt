@@ -46,7 +46,8 @@ fn column_at(n: usize, m: usize, k: usize) -> usize
 /// Writes the place of each column.
 pub fn number_places(places: &mut [usize], n: usize, m: usize)
     requires few { n + m < 2 ^ 31 }
-    ensures places { (c : ℕ) → c < length places.old → slice_index_or places.new c 0 ≡ start_place n m c }
+    ensures places { (c : ℕ) → c < length places.old → slice_index_or places.new c 0
+        ≡ start_place n m c }
 {
     for c in 0..places.len() {
         places[c] = place_of(n, m, c);
@@ -56,7 +57,8 @@ pub fn number_places(places: &mut [usize], n: usize, m: usize)
 /// Writes the column at each place.
 pub fn number_near(near: &mut [usize], n: usize, m: usize)
     requires few { n + m < 2 ^ 31 }
-    ensures near { (k : ℕ) → k < length near.old → slice_index_or near.new k 0 ≡ start_column n m k }
+    ensures near { (k : ℕ) → k < length near.old → slice_index_or near.new k 0
+        ≡ start_column n m k }
 {
     for k in 0..near.len() {
         near[k] = column_at(n, m, k);

@@ -22,7 +22,8 @@ impl<E: Entry> Dictionary<E> {
         requires ready { R.ready source.now }
         requires few { length (R.lp source.now).c + length (R.lp source.now).b < 2 ^ 31 }
         requires numbers { HasNumbersWithin (2 ^ 62 - 1) (R.lp source.now) }
-        ensures starts { IfOk result (λ dictionary. IsStartingTable (program_of (R.lp source.now)) dictionary) }
+        ensures starts { IfOk result (λ dictionary. IsStartingTable
+            (program_of (R.lp source.now)) dictionary) }
         ensures limit { IfOk result (λ dictionary. dictionary.limit ≡ E.top) }
     {
         let n = source.columns();
@@ -60,7 +61,8 @@ impl<E: Entry> Dictionary<E> {
 /// One entry of a constraint's condensed row.
 fn constraint_entry(numbers: &[i64], right: i64, k: usize) -> i64
     requires few { length numbers.now < 2 ^ 31 }
-    ensures value { result ≡ start_entry (length numbers.now) (at numbers.now) (neg_ℤ (pos 1)) right k }
+    ensures value { result ≡ start_entry (length numbers.now) (at numbers.now)
+        (neg_ℤ (pos 1)) right k }
 {
     let n = numbers.len();
     if k < n {
@@ -82,7 +84,8 @@ fn constraint_entry(numbers: &[i64], right: i64, k: usize) -> i64
 fn cost_entry(cost: &[i64], k: usize) -> i64
     requires few { length cost.now < 2 ^ 31 }
     requires within { (k : ℕ) → k < length cost.now → nat_abs (at cost.now k) < 2 ^ 62 }
-    ensures value { result ≡ start_entry (length cost.now) (λ k. neg_ℤ (at cost.now k)) (pos 0) (pos 0) k }
+    ensures value { result ≡ start_entry (length cost.now) (λ k. neg_ℤ (at cost.now k)) (pos 0)
+        (pos 0) k }
 {
     let n = cost.len();
     if k < n {
@@ -99,7 +102,8 @@ fn write_structural<E: Entry>(rows: &mut Cells<E>, i: usize, width: usize, numbe
     requires inside { i * width + width ≤ length rows.old }
     requires room { length numbers.now ≤ width }
     requires within { (k : ℕ) → k < length numbers.now → nat_abs (at numbers.now k) < 2 ^ 62 }
-    ensures entries { (k : ℕ) → k < length numbers.now → row_at rows.new width i k ≡ at numbers.now k }
+    ensures entries { (k : ℕ) → k < length numbers.now → row_at rows.new width i k
+        ≡ at numbers.now k }
     ensures others { IsUnchangedBut i width (row_at rows.old width) (row_at rows.new width) }
     ensures size { length rows.new ≡ length rows.old }
 {
@@ -160,7 +164,8 @@ fn write_row<E: Entry>(
     requires inside { i < length bounds.old }
     requires within { (k : ℕ) → k < length numbers.now → nat_abs (at numbers.now k) < 2 ^ 62 }
     requires right { nat_abs right < 2 ^ 62 }
-    ensures row { (k : ℕ) → k < length numbers.now + 4 → row_at rows.new (length numbers.now + 4) i k
+    ensures row { (k : ℕ) → k < length numbers.now + 4
+        → row_at rows.new (length numbers.now + 4) i k
         ≡ start_entry (length numbers.now) (at numbers.now) (neg_ℤ (pos 1)) right k }
     ensures others { (j k : ℕ) → j ≢ i → k < length numbers.now + 4
         → row_at rows.new (length numbers.now + 4) j k ≡ row_at rows.old (length numbers.now + 4) j k }
@@ -207,10 +212,12 @@ fn write_program<E: Entry, R: Rows>(
     requires numbers { HasNumbersWithin (2 ^ 62 - 1) (R.lp source.now) }
     requires bounded { HasBounds E.top (length numbers.old + 4) rows.old bounds.old }
     requires inside { m < length bounds.old }
-    ensures constraints { (i k : ℕ) → i < m → k < length numbers.old + 4 → row_at rows.new (length numbers.old + 4) i k
+    ensures constraints { (i k : ℕ) → i < m → k < length numbers.old + 4
+        → row_at rows.new (length numbers.old + 4) i k
         ≡ start_entry (length numbers.old) (at (slice_index_or (R.lp source.now).a i [])) (neg_ℤ (pos 1))
         (at (R.lp source.now).b i) k }
-    ensures objective { (k : ℕ) → k < length numbers.old + 4 → row_at rows.new (length numbers.old + 4) m k
+    ensures objective { (k : ℕ) → k < length numbers.old + 4
+        → row_at rows.new (length numbers.old + 4) m k
         ≡ start_entry (length numbers.old) (λ j. neg_ℤ (at (R.lp source.now).c j)) (pos 0) (pos 0) k }
     ensures bounded { HasBounds E.top (length numbers.old + 4) rows.new bounds.new }
 {
@@ -234,7 +241,8 @@ fn write_rows<E: Entry, R: Rows>(
     requires numbers { HasNumbersWithin (2 ^ 62 - 1) (R.lp source.now) }
     requires bounded { HasBounds E.top (length numbers.old + 4) rows.old bounds.old }
     requires inside { m ≤ length bounds.old }
-    ensures rows { (i k : ℕ) → i < m → k < length numbers.old + 4 → row_at rows.new (length numbers.old + 4) i k
+    ensures rows { (i k : ℕ) → i < m → k < length numbers.old + 4
+        → row_at rows.new (length numbers.old + 4) i k
         ≡ start_entry (length numbers.old) (at (slice_index_or (R.lp source.now).a i [])) (neg_ℤ (pos 1))
         (at (R.lp source.now).b i) k }
     ensures bounded { HasBounds E.top (length numbers.old + 4) rows.new bounds.new }
@@ -259,7 +267,8 @@ fn write_told_row<E: Entry, R: Rows>(
     requires numbers { HasNumbersWithin (2 ^ 62 - 1) (R.lp source.now) }
     requires bounded { HasBounds E.top (length numbers.old + 4) rows.old bounds.old }
     requires inside { i < length bounds.old }
-    ensures row { (k : ℕ) → k < length numbers.old + 4 → row_at rows.new (length numbers.old + 4) i k
+    ensures row { (k : ℕ) → k < length numbers.old + 4
+        → row_at rows.new (length numbers.old + 4) i k
         ≡ start_entry (length numbers.old) (at (slice_index_or (R.lp source.now).a i [])) (neg_ℤ (pos 1))
         (at (R.lp source.now).b i) k }
     ensures others { (j k : ℕ) → j ≢ i → k < length numbers.old + 4

@@ -28,10 +28,13 @@ pub fn clear_row<E: Entry>(
     i: usize,
 ) -> Result<(), Wide>
     requires ready { CanClearRows E.top pivot rows.old bounds.old pivot_row.old (suc i) }
-    requires own { AreOwn (row_at rows.old pivot.width i) (at pivot_row.old.entries) (pivot.width - 1) }
-    ensures cleared { OnOk result (IsClearedBy pivot.width pivot.place (row_at rows.old pivot.width i)
+    requires own { AreOwn (row_at rows.old pivot.width i) (at pivot_row.old.entries)
+        (pivot.width - 1) }
+    ensures cleared { OnOk result (IsClearedBy pivot.width pivot.place
+        (row_at rows.old pivot.width i)
         (at pivot_row.old.entries) (row_at rows.new pivot.width i)) }
-    ensures others { IsUnchangedBut i pivot.width (row_at rows.old pivot.width) (row_at rows.new pivot.width) }
+    ensures others { IsUnchangedBut i pivot.width (row_at rows.old pivot.width)
+        (row_at rows.new pivot.width) }
     ensures bounded { HasBounds E.top pivot.width rows.new bounds.new }
     ensures wide { OnErr result
         (IsWideCleared E.top pivot.width pivot.place (row_at rows.old pivot.width i) (at pivot_row.old.entries)) }
@@ -56,7 +59,8 @@ fn clear_other<E: Entry, L: Ledger>(
     requires ready { CanClearRows E.top pivot rows.old bounds.old pivot_row.old (suc i) }
     requires own { i ≢ pivot.row
         → AreOwn (row_at rows.old pivot.width i) (at pivot_row.old.entries) (pivot.width - 1) }
-    ensures cleared { (start : Matrix) → AreCleared i pivot.width pivot.row pivot.place (at pivot_row.old.entries)
+    ensures cleared { (start : Matrix) → AreCleared i pivot.width pivot.row pivot.place
+        (at pivot_row.old.entries)
         start (row_at rows.old pivot.width) → OnOk result (AreCleared (i + 1) pivot.width pivot.row pivot.place
         (at pivot_row.old.entries) start (row_at rows.new pivot.width)) }
     ensures bounded { HasBounds E.top pivot.width rows.new bounds.new }
@@ -91,7 +95,8 @@ pub fn clear_rows<E: Entry, L: Ledger>(
     requires ready { CanClearRows E.top pivot rows.old bounds.old pivot_row.old count }
     requires own { (i : ℕ) → i < count → i ≢ pivot.row
         → AreOwn (row_at rows.old pivot.width i) (at pivot_row.old.entries) (pivot.width - 1) }
-    ensures cleared { OnOk result (AreCleared count pivot.width pivot.row pivot.place (at pivot_row.old.entries)
+    ensures cleared { OnOk result (AreCleared count pivot.width pivot.row pivot.place
+        (at pivot_row.old.entries)
         (row_at rows.old pivot.width) (row_at rows.new pivot.width)) }
     ensures stopped { IfErr result (λ i. IsStopped E.top count pivot.width pivot.row pivot.place
         (at pivot_row.old.entries) (row_at rows.old pivot.width) (row_at rows.new pivot.width) i) }

@@ -262,7 +262,8 @@ impl<N: Exact, E: Entry> Work<N, E> {
         requires point { HasPoint self.now }
         requires inside { i < positions self.now }
         requires column { column < width_of self.now.dictionary }
-        requires fits { Fits N.limit (ratio_of self.now.dictionary i column (columns_of self.now.basis i)) }
+        requires fits { Fits N.limit (ratio_of self.now.dictionary i column
+            (columns_of self.now.basis i)) }
         ensures value { N.value result ≡ of_pair (rows_of self.now.dictionary i column)
             (nat_abs (rows_of self.now.dictionary i (columns_of self.now.basis i))) }
     {
@@ -278,7 +279,8 @@ impl<N: Exact, E: Entry> Work<N, E> {
         requires point { HasPoint self.now }
         requires inside { i < positions self.now }
         requires column { column < width_of self.now.dictionary }
-        requires fits { Fits N.limit (ratio_of self.now.dictionary i column (columns_of self.now.basis i)) }
+        requires fits { Fits N.limit (ratio_of self.now.dictionary i column
+            (columns_of self.now.basis i)) }
         ensures value { N.value result ≡ of_pair (neg_ℤ (rows_of self.now.dictionary i column))
             (nat_abs (rows_of self.now.dictionary i (columns_of self.now.basis i))) }
     {
@@ -312,7 +314,8 @@ impl<N: Exact, E: Entry> Work<N, E> {
         requires column { column < width_of self.now.dictionary }
         requires fits { Fits N.limit
             (ratio_of self.now.dictionary (positions self.now) column (objective_column self.now.dictionary)) }
-        ensures value { N.value result ≡ of_pair (rows_of self.now.dictionary (positions self.now) column)
+        ensures value { N.value result ≡ of_pair
+            (rows_of self.now.dictionary (positions self.now) column)
             (nat_abs (rows_of self.now.dictionary (positions self.now) (suc (self.now.columns + positions self.now)))) }
     {
         let m = self.dictionary.positions();

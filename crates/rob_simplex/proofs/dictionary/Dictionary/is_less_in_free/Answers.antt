@@ -64,7 +64,8 @@ returns-then-before-k g c =
     record {
       order =
           tied_below c.args.self.now c.args.i c.args.e (g.E.Entry.value c.args.p) (g.E.Entry.value c.args.q)
-          c.args.free.seen c.args.before c.args.free.slacks.now c.requires.free low zero_i zero_e c.loop-k.k-index c.args.before
+          c.args.free.seen c.args.before c.args.free.slacks.now c.requires.free low zero_i zero_e c.loop-k.k-index
+          c.args.before
           there (omega arith) past c.loop-k.invariant;
     }
 

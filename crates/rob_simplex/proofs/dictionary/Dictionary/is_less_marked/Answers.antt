@@ -25,6 +25,8 @@ returns g c =
       order =
           both_zero (rows_of t c.args.i (t.columns + c.args.k)) (g.E.Entry.value c.args.p)
           (rows_of t c.args.e (t.columns + c.args.k)) (g.E.Entry.value c.args.q)
-          (subst (λ n. rows_of t c.args.i (n + c.args.k) ≡ pos 0) en (c.is_some_in.ensures.i_zero c.if-is_some_in.false))
-          (subst (λ n. rows_of t c.args.e (n + c.args.k) ≡ pos 0) en (c.is_some_in.ensures.e_zero c.if-is_some_in.false));
+          (subst (λ n. rows_of t c.args.i (n + c.args.k) ≡ pos 0) en
+          (c.is_some_in.ensures.i_zero c.if-is_some_in.false))
+          (subst (λ n. rows_of t c.args.e (n + c.args.k) ≡ pos 0) en
+          (c.is_some_in.ensures.e_zero c.if-is_some_in.false));
     }

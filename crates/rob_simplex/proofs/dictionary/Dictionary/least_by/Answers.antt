@@ -27,12 +27,14 @@ loop-passed-preserved g c =
       | then-is_lower w ↦
           subst (λ b. IsLeastSoFar c.args.self.now.columns (positions c.args.self.now) (rows_of c.args.self.now)
           (c.args.self.now.columns + positions c.args.self.now) (c.loop-passed.passed + 1) b) (sym w.best-is)
-          (least_takes n m (rows_of t) (n + m) c.loop-passed.passed (c.len-m.result - 1 - c.loop-passed.passed) c.loop-passed.best
+          (least_takes n m (rows_of t) (n + m) c.loop-passed.passed (c.len-m.result - 1 - c.loop-passed.passed)
+          c.loop-passed.best
           il c.loop-passed.invariant (d.0 w.if-is_lower.true))
       | else-is_lower w ↦
           subst (λ b. IsLeastSoFar c.args.self.now.columns (positions c.args.self.now) (rows_of c.args.self.now)
           (c.args.self.now.columns + positions c.args.self.now) (c.loop-passed.passed + 1) b) (sym w.best-is)
-          (least_keeps n m (rows_of t) (n + m) c.loop-passed.passed (c.len-m.result - 1 - c.loop-passed.passed) c.loop-passed.best
+          (least_keeps n m (rows_of t) (n + m) c.loop-passed.passed (c.len-m.result - 1 - c.loop-passed.passed)
+          c.loop-passed.best
           il c.loop-passed.invariant
           (λ x. let y : c.is_lower.result ≡ true = d.1 x in let f : c.is_lower.result ≡ false =
           w.if-is_lower.false in cc))

@@ -10,10 +10,12 @@ returns-clause-resumable g c = λ P made.
     elim c.match-self.branch [
       | in-Narrow w ↦
           rw (w.result-is, w.self-inside-is)
-          (w.go_on.ensures.resumable P (subst (λ (s : Solver). HasBegun P s) (sym c.self.view_is ∙ ap shown w.in-Narrow.is) made))
+          (w.go_on.ensures.resumable P
+          (subst (λ (s : Solver). HasBegun P s) (sym c.self.view_is ∙ ap shown w.in-Narrow.is) made))
       | in-Deep w ↦
           rw (w.result-is, w.self-inside-is)
-          (w.go_on-in-Deep.ensures.resumable P (subst (λ (s : Solver). HasBegun P s) (sym c.self.view_is ∙ ap shown w.in-Deep.is) made))
+          (w.go_on-in-Deep.ensures.resumable P
+          (subst (λ (s : Solver). HasBegun P s) (sym c.self.view_is ∙ ap shown w.in-Deep.is) made))
     ]
 
 pub returns-clause-solved : goal.returns-clause-solved
@@ -21,10 +23,12 @@ returns-clause-solved g c = λ P made.
     elim c.match-self.branch [
       | in-Narrow w ↦
           rw (w.result-is, w.self-inside-is)
-          (w.go_on.ensures.solved P (subst (λ (s : Solver). HasBegun P s) (sym c.self.view_is ∙ ap shown w.in-Narrow.is) made))
+          (w.go_on.ensures.solved P
+          (subst (λ (s : Solver). HasBegun P s) (sym c.self.view_is ∙ ap shown w.in-Narrow.is) made))
       | in-Deep w ↦
           rw (w.result-is, w.self-inside-is)
-          (w.go_on-in-Deep.ensures.solved P (subst (λ (s : Solver). HasBegun P s) (sym c.self.view_is ∙ ap shown w.in-Deep.is) made))
+          (w.go_on-in-Deep.ensures.solved P
+          (subst (λ (s : Solver). HasBegun P s) (sym c.self.view_is ∙ ap shown w.in-Deep.is) made))
     ]
 
 pub returns-clause-caused : goal.returns-clause-caused
@@ -32,8 +36,10 @@ returns-clause-caused g c = λ P made.
     elim c.match-self.branch [
       | in-Narrow w ↦
           rw (w.result-is, w.self-inside-is)
-          (w.go_on.ensures.caused P (subst (λ (s : Solver). HasBegun P s) (sym c.self.view_is ∙ ap shown w.in-Narrow.is) made))
+          (w.go_on.ensures.caused P
+          (subst (λ (s : Solver). HasBegun P s) (sym c.self.view_is ∙ ap shown w.in-Narrow.is) made))
       | in-Deep w ↦
           rw (w.result-is, w.self-inside-is)
-          (w.go_on-in-Deep.ensures.caused P (subst (λ (s : Solver). HasBegun P s) (sym c.self.view_is ∙ ap shown w.in-Deep.is) made))
+          (w.go_on-in-Deep.ensures.caused P
+          (subst (λ (s : Solver). HasBegun P s) (sym c.self.view_is ∙ ap shown w.in-Deep.is) made))
     ]

@@ -9,8 +9,10 @@ returns-clause-resumable g c = λ P made.
     elim c.match-self.branch [
       | in-Narrow w ↦
           rw (w.result-is, w.self-inside-is)
-          (w.solve.ensures.resumable P (subst (λ (s : Solver). IsMadeFor P s) (sym c.self.view_is ∙ ap shown w.in-Narrow.is) made))
+          (w.solve.ensures.resumable P
+          (subst (λ (s : Solver). IsMadeFor P s) (sym c.self.view_is ∙ ap shown w.in-Narrow.is) made))
       | in-Deep w ↦
           rw (w.result-is, w.self-inside-is)
-          (w.solve-in-Deep.ensures.resumable P (subst (λ (s : Solver). IsMadeFor P s) (sym c.self.view_is ∙ ap shown w.in-Deep.is) made))
+          (w.solve-in-Deep.ensures.resumable P
+          (subst (λ (s : Solver). IsMadeFor P s) (sym c.self.view_is ∙ ap shown w.in-Deep.is) made))
     ]
