@@ -123,21 +123,19 @@ impl<E: Entry> Dictionary<E> {
         None
     }
 
-    /// Whether row i comes before row e, each over its divisor. Slack entries count only where the right sides are in
-    /// the same ratio; those that are not basic are listed.
+    /// Whether row i comes before row e, each over its divisor, where their right sides are in the same ratio: by their
+    /// slack entries, of which those that are not basic are listed.
     #[inline(never)]
-    pub fn comes_before(&self, free: Free, i: usize, p: E, e: usize, q: E) -> bool
+    fn comes_before_tied(&self, free: Free, i: usize, p: E, e: usize, q: E) -> bool
         requires free { AreFree self.now free.seen free.slacks.now }
         requires i_in { i < positions self.now }
         requires e_in { e < positions self.now }
+        requires tied { lead self.now i (E.value p) e (E.value q)
+            (self.now.columns + positions self.now + 2) ≡ pos 0 }
         ensures decides { IsTrue result ↔ ComesBefore (shape self.now.columns (positions self.now))
             (rows_of self.now i) (E.value p) (rows_of self.now e) (E.value q) }
     {
         let m = self.basis.len();
-        match self.is_less_in_dense(self.columns + m + 2, i, p, e, q) {
-            Some(less) => return less,
-            None => {}
-        }
         let before = self.before_own(free.seen, i, e);
         match self.is_less_in_free(free, before, i, p, e, q) {
             Some(less) => return less,
@@ -150,6 +148,23 @@ impl<E: Entry> Dictionary<E> {
             }
         }
         false
+    }
+
+    /// Whether row i comes before row e, each over its divisor. Mostly the right sides decide, so what follows where
+    /// they don't is a call of its own.
+    #[inline(always)]
+    pub fn comes_before(&self, free: Free, i: usize, p: E, e: usize, q: E) -> bool
+        requires free { AreFree self.now free.seen free.slacks.now }
+        requires i_in { i < positions self.now }
+        requires e_in { e < positions self.now }
+        ensures decides { IsTrue result ↔ ComesBefore (shape self.now.columns (positions self.now))
+            (rows_of self.now i) (E.value p) (rows_of self.now e) (E.value q) }
+    {
+        let m = self.basis.len();
+        match self.is_less_in_dense(self.columns + m + 2, i, p, e, q) {
+            Some(less) => less,
+            None => self.comes_before_tied(free, i, p, e, q),
+        }
     }
 
     /// Whether row i is positive in the column and comes before the best row so far.

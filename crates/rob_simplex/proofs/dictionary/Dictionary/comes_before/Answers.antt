@@ -1,6 +1,7 @@
-use Rattle.std.proofs.Common.{◌≡◌, ◌≤◌, ◌+◌, ◌∙◌, refl, ap, subst, arith, pos, ◌*ℤ◌, ◌-ℤ◌}
+use Rattle.std.proofs.Common.{◌≡◌, ◌+◌, ◌∙◌, refl, ap, subst, arith, pos}
 use Rattle.rob_simplex.specs.Dictionaries.{Table, positions, rows_of}
-use Rattle.rob_simplex.proofs.RatioLemmas.{first_found, later_found, none_found, zeros_more}
+use Rattle.rob_simplex.specs.FreeSlacks.{lead}
+use Rattle.rob_simplex.proofs.RatioLemmas.{first_found}
 use Rattle.rob_simplex.proofs.dictionary.Dictionary.comes_before.Goals as goal
 
 pub returns-in-Some : goal.returns-in-Some
@@ -17,59 +18,13 @@ returns-in-Some g c =
           (omega arith) c.in-Some.ensures.order;
     }
 
-pub returns-in-Some-is_less_at : goal.returns-in-Some-is_less_at
-returns-in-Some-is_less_at g c =
+pub comes_before_tied-requires-clause-tied : goal.comes_before_tied-requires-clause-tied
+comes_before_tied-requires-clause-tied g c =
     let t = c.args.self.now in
     let en : c.self.inside.columns ≡ c.args.self.now.columns = ap (λ (t : Table). t.columns) c.self.view_is in
     let em : c.len-m.result ≡ positions c.args.self.now =
     c.len-m.ensures ∙ c.self.inside.basis.ok.0 ∙ ap (λ (t : Table). positions t) c.self.view_is in
-    record {
-      decides =
-          later_found (rows_of t c.args.i) (rows_of t c.args.e) t.columns (positions t) c.self.inside.columns
-          (c.self.inside.columns + c.len-m.result + 2) c.loop-k.k (g.E.Entry.value c.args.p) (g.E.Entry.value c.args.q)
-          (g.E.Entry.value c.args.p) (g.E.Entry.value c.args.q)
-          c.in-Some-is_less_at.less refl refl en (omega arith) (omega arith) c.in-None.ensures.order c.loop-k.invariant
-          c.in-Some-is_less_at.ensures.order;
-    }
-
-pub returns-in-Some-is_less_in_free : goal.returns-in-Some-is_less_in_free
-returns-in-Some-is_less_in_free g c =
-    let t = c.args.self.now in
-    let en : c.self.inside.columns ≡ c.args.self.now.columns = ap (λ (t : Table). t.columns) c.self.view_is in
-    let em : c.len-m.result ≡ positions c.args.self.now =
-    c.len-m.ensures ∙ c.self.inside.basis.ok.0 ∙ ap (λ (t : Table). positions t) c.self.view_is in
-    let found = c.in-Some-is_less_in_free.ensures.order in
-    record {
-      decides =
-          later_found (rows_of t c.args.i) (rows_of t c.args.e) t.columns (positions t) t.columns
-          (c.self.inside.columns + c.len-m.result + 2) found.0 (g.E.Entry.value c.args.p) (g.E.Entry.value c.args.q)
-          (g.E.Entry.value c.args.p) (g.E.Entry.value c.args.q)
-          c.in-Some-is_less_in_free.less refl refl refl (omega arith) found.1 c.in-None.ensures.order found.2 found.3;
-    }
-
-pub loop-k-preserved : goal.loop-k-preserved
-loop-k-preserved g c =
-    let t = c.args.self.now in
-    let p = g.E.Entry.value c.args.p in
-    let q = g.E.Entry.value c.args.q in
-    let en : c.self.inside.columns ≡ c.args.self.now.columns = ap (λ (t : Table). t.columns) c.self.view_is in
-    zeros_more (λ j. (p *ℤ rows_of t c.args.e (t.columns + j)) -ℤ (q *ℤ rows_of t c.args.i (t.columns + j))) c.loop-k.k
-    c.loop-k.invariant
-    (subst (λ n. (p *ℤ rows_of t c.args.e (n + c.loop-k.k)) -ℤ (q *ℤ rows_of t c.args.i (n + c.loop-k.k)) ≡ pos 0) en
-    c.in-None-is_less_at.ensures.order)
-
-pub returns : goal.returns
-returns g c =
-    let t = c.args.self.now in
-    let en : c.self.inside.columns ≡ c.args.self.now.columns = ap (λ (t : Table). t.columns) c.self.view_is in
-    let em : c.len-m.result ≡ positions c.args.self.now =
-    c.len-m.ensures ∙ c.self.inside.basis.ok.0 ∙ ap (λ (t : Table). positions t) c.self.view_is in
-    let low : c.before_own-before.result ≤ c.args.free.seen = c.before_own-before.ensures.few in
-    let few : c.args.free.seen ≤ positions c.args.self.now = c.requires.free.within in
-    record {
-      decides =
-          none_found (rows_of t c.args.i) (rows_of t c.args.e) t.columns (positions t) c.loop-k.k
-          (c.self.inside.columns + c.len-m.result + 2) (g.E.Entry.value c.args.p) (g.E.Entry.value c.args.q)
-          (g.E.Entry.value c.args.p) (g.E.Entry.value c.args.q) refl refl (omega arith) (omega arith)
-          c.in-None.ensures.order c.loop-k.invariant;
-    }
+    let there : c.self.inside.columns + c.len-m.result + 2
+    ≡ c.args.self.now.columns + positions c.args.self.now + 2 = omega arith in
+    subst (λ n. lead t c.args.i (g.E.Entry.value c.args.p) c.args.e (g.E.Entry.value c.args.q) n ≡ pos 0) there
+    c.in-None.ensures.order

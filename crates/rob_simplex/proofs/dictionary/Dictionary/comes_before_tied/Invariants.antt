@@ -2,7 +2,7 @@
 use Rattle.std.specs.Prelude.{◌≡◌, ℕ, ◌<◌, ◌+◌, pos}
 use Rattle.rob_simplex.specs.Dictionaries.{rows_of}
 use Rattle.rob_simplex.proofs.RatioLemmas.{difference}
-use Rattle.rob_simplex.proofs.dictionary.Dictionary.comes_before.Given as goal
+use Rattle.rob_simplex.proofs.dictionary.Dictionary.comes_before_tied.Given as goal
 
 abbrev pub invariant-loop-k : goal.invariant-loop-k
 invariant-loop-k g l =
