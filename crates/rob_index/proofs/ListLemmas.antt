@@ -11,6 +11,9 @@ pub both_true : (a b : Bool) → (a && b) ≡ true → (a ≡ true) × (b ≡ tr
 both_true true b h = (refl, h)
 both_true false b h = cc
 
+pub true_both : {a b : Bool} → a ≡ true → b ≡ true → (a && b) ≡ true
+true_both {a} {b} h k = λ i. h i && k i
+
 pub or_false : (a : Bool) → (a || false) ≡ a
 or_false true = refl
 or_false false = refl
