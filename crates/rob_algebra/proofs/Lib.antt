@@ -1,3 +1,4 @@
+pub mod ListLemmas
 pub mod Parts
 mod Recipes
 pub mod Signs

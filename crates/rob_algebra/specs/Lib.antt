@@ -6,5 +6,6 @@ pub mod Fraction
 pub mod FractionLaws
 pub mod FractionOrder
 pub mod Width
+pub mod Items
 pub mod Lists
 pub mod FractionLists

@@ -1,0 +1,16 @@
+-- What is left of a list from a place on, and lists that are mapped twice.
+use Rattle.std.proofs.Common.{◌≡◌, ℕ, ◌+◌, ◌<◌, ◌≤◌, List, [], ◌∷◌, length, map, drop, get_or, refl, sym, ap, ◌∙◌}
+use Rattle.std.proofs.lemmas.List.{at_drop_more, at_drop_all}
+
+-- the items from a place on are the item there and those behind it
+pub drop_at : {A : Type 0} (xs : List A) (i : ℕ) (x : A) → i < length xs → x ≡ get_or xs i x
+    → drop i xs ≡ x ∷ drop (i + 1) xs
+drop_at {A} xs i x inside is =
+    at_drop_more (λ (l : List A). l) xs i x inside ∙ ap (λ (y : A). y ∷ drop (i + 1) xs) (sym is)
+
+pub drop_past : {A : Type 0} (xs : List A) (i : ℕ) → length xs ≤ i → drop i xs ≡ []
+drop_past {A} xs i all = at_drop_all (λ (l : List A). l) xs i all
+
+pub map_map : {A B C : Type 0} (g : B → C) (f : A → B) (xs : List A) → map g (map f xs) ≡ map (λ x. g (f x)) xs
+map_map g f [] = refl
+map_map g f (x ∷ xs) = ap (λ ys. g (f x) ∷ ys) (map_map g f xs)
