@@ -4,6 +4,7 @@ use Rattle.std.proofs.lemmas.List.{length-map}
 use Rattle.rob_algebra.specs.Fraction.{Fraction, of_int}
 use Rattle.rob_algebra.specs.FractionLaws.{ℚ_ring}
 use Rattle.rob_algebra.specs.Lists.{Rows}
+use Rattle.rob_algebra.proofs.ListLemmas.{map_map}
 use Rattle.rob_cert.specs.Shape.{AreCoversOf, HasParts, IsCoverOf, IsItemOf}
 use Rattle.rob_cert.specs.View.{certificate_of, status_of}
 use Rattle.rob_cert.specs.declared.certificate.Status.{Status}
@@ -14,7 +15,6 @@ use Rattle.rob_elab.specs.declared.forms.Forms.{Forms}
 use Rattle.rob_meaning.proofs.EachLemmas.{each_map}
 use Rattle.rob_meaning.proofs.MatrixLemmas.{matrix_height, matrix_rows}
 use Rattle.rob_meaning.proofs.NameLemmas.{length-form_names}
-use Rattle.rob_meaning.proofs.NamedLemmas.{map_map}
 use Rattle.rob_meaning.specs.Certificates.{Cover, Item}
 use Rattle.rob_meaning.specs.Clearing.{fractions}
 use Rattle.rob_meaning.specs.Forms as meaning

@@ -6,13 +6,14 @@ use Rattle.rob_meaning.proofs.DistinctLemmas.{Apart, apart_by, apart_left, apart
 use Rattle.rob_meaning.proofs.EachLemmas.{each_append, each_both, each_left, each_right}
 use Rattle.rob_meaning.proofs.FineNames.{split, split_one, split_two}
 use Rattle.rob_meaning.proofs.JoinedLemmas.{ArePlain, distinct_joined}
-use Rattle.rob_meaning.proofs.NamedLemmas.{each_all, each_flat, each_mapped, each_unmapped, map_map, parameter_plain, parameter_same, part}
+use Rattle.rob_meaning.proofs.NamedLemmas.{each_all, each_flat, each_mapped, each_unmapped, parameter_plain, parameter_same, part}
 use Rattle.rob_meaning.specs.Named.{AreDistinct, written_names, row_names, variable_names, adaptive_names, declared_names, IsFree, IsPlain, IsNamed}
 use Rattle.rob_meaning.specs.Names.{Name, Parts, joined, parameter_name}
 use Rattle.rob_meaning.specs.Places.{Each}
 use Rattle.rob_meaning.specs.RobustModel.{Parameter, RobustModel, in_set, joint_parameters, set_count, written_count, written_parameters}
 use Rattle.rob_meaning.specs.WellFormed.{IsModel}
 use Rattle.std.proofs.lemmas.List.{append-nil}
+use Rattle.rob_algebra.proofs.ListLemmas.{map_map}
 
 module _ (m : RobustModel) (named : IsNamed m) where
   -- the names behind those of the parameters, behind those of the sets, and behind those of the rows

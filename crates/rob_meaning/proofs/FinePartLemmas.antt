@@ -9,7 +9,7 @@ use Rattle.rob_meaning.proofs.DistinctLemmas.{distinct_append, apart_by, distinc
 use Rattle.rob_meaning.proofs.EachLemmas.{each_append}
 use Rattle.rob_meaning.proofs.FineNames.{all_plain, behind_begins, behind_two, first_part_of, front, front_append, joined_begins, joined_split, split, split_each, split_long, split_plain, split_same, split_then_plain}
 use Rattle.rob_meaning.proofs.JoinedLemmas.{ArePlain, distinct_joined, decimal_plain}
-use Rattle.rob_meaning.proofs.NamedLemmas.{part, plain_word, last_part, lower_is_not_upper, up_is_not_down, sides_distinct, sides_plain, each_mapped, each_all, each_flat, map_map, number_each, number_distinct}
+use Rattle.rob_meaning.proofs.NamedLemmas.{part, plain_word, last_part, lower_is_not_upper, up_is_not_down, sides_distinct, sides_plain, each_mapped, each_all, each_flat, number_each, number_distinct}
 use Rattle.rob_meaning.specs.Named.{AreDistinct, IsFree, HasDistinctMembers, IsNamed}
 use Rattle.rob_meaning.specs.Names.{Name, Parts, joined, parameter_name, bound_parts, side_parts, parameter_bound_parts, member_parts, statement_parts, lift_parts, condition_parts, by_number, set_row_names, set_column_names, set_condition_names}
 use Rattle.rob_meaning.specs.Places.{Each}

@@ -117,10 +117,6 @@ pub each_flat : {X A : Type 0} (P : A → Type 0) (Q : X → Type 0) (f : X → 
 each_flat P Q f h [] k = tt
 each_flat P Q f h (x ∷ xs) k = each_append P (f x) (flat_map f xs) (h x k.0) (each_flat P Q f h xs k.1)
 
-pub map_map : {A B C : Type 0} (g : B → C) (f : A → B) (xs : List A) → map g (map f xs) ≡ map (λ x. g (f x)) xs
-map_map g f [] = refl
-map_map g f (x ∷ xs) = ap (λ ys. g (f x) ∷ ys) (map_map g f xs)
-
 -- what the labels have, the keys have
 pub keyed_has : {X A : Type 0} (key : A → Name) (R : Name → Type 0) (label : X → Name) (f : X → List A) (xs : List X) →
     Each R (map label xs) → Keyed key label f xs → Each (λ a. R (key a)) (flat_map f xs)

@@ -1,6 +1,7 @@
 -- Lists by place: what a list of fractions lacks counts as 0.
 use Rattle.std.specs.Prelude.{ℕ, zero, suc, pos, List, [], ◌∷◌}
 use Rattle.rob_algebra.specs.Fraction.{Fraction, of_int, ◌+ℚ◌, ◌*ℚ◌}
+pub use Rattle.rob_algebra.specs.Items.{Each}
 
 -- the fraction 0
 abbrev pub 0ℚ : Fraction
@@ -15,11 +16,6 @@ abbrev pub at : List Fraction → ℕ → Fraction
 at [] k = 0ℚ
 at (x ∷ xs) zero = x
 at (x ∷ xs) (suc k) = at xs k
-
--- each item of the list has the property
-abbrev pub Each : {A : Type 0} → (A → Type 0) → List A → Type 0
-Each P [] = Unit {0}
-Each P (x ∷ xs) = P x × Each P xs
 
 -- each item has the property with its number, the first item's being `k`
 abbrev pub EachFrom : {A : Type 0} → ℕ → (ℕ → A → Type 0) → List A → Type 0
