@@ -4,6 +4,7 @@ use Rattle.std.proofs.Common.{◌≡◌, ℕ, Bool, false, List, [], ◌∷◌, 
 use Rattle.std.specs.Prelude.{ℤ, pos, nat_abs, int_lt, ◌||◌, Option, Some, None, if◌then◌else◌}
 use Rattle.std.specs.Fmt.{decimal}
 use Rattle.std.specs.List.{flat_map, list_any}
+use Rattle.rob_algebra.proofs.ListLemmas.{map_map}
 use Rattle.rob_index.specs.Statements.{Name, Parts, Factors, Index, Ref, Range, Tree, TreeParts, TreeFactors, Ranged, Share, Indexed}
 use Rattle.rob_index.specs.Statements as stated
 use Rattle.rob_index.specs.Expansion.{Setting, settings, with_value, index_value, index_text, ref_name, optional_name, summed, expand_each, expand_tree, expand_parts, expand_factors, member_of, ranges_of, statement_at, expand}
@@ -18,7 +19,6 @@ use Rattle.rob_expand.specs.Placing.{placed_parts, placed_factors}
 use Rattle.rob_expand.specs.Standing.{parts_at, factors_at}
 use Rattle.rob_expand.specs.Growing.{printed}
 use Rattle.rob_expand.specs.Instances.{ref_at, tree_at, set_at, each_at, member_at, instance_at, instance}
-use Rattle.rob_expand.proofs.PlaceLemmas.{map_twice}
 use Rattle.rob_expand.proofs.WalkLemmas.{join_both}
 
 -- ---- lists
@@ -138,7 +138,7 @@ module _ (words : List Name) where
       to inner x.item es
       (ref_printed (above ++ x.ranges) inner (ref x.item) es here_none
       (inside_more above x.ranges (setting_of names vs) (setting_of inner es) m (inside_nest x.ranges names vs es n))))
-      ∙ sym (map_twice (λ s. expanded s x.item) (setting_of inner) nest)
+      ∙ sym (map_map (λ s. expanded s x.item) (setting_of inner) nest)
       ∙ ap (map (λ s. expanded s x.item)) (sym (settings_are x.ranges names vs)) in
       join_both e (each_printed make expanded ref to above names xs none.1 vs m)
 
@@ -200,5 +200,5 @@ module _ (words : List Name) where
       let inner = (none_both is_out (range_places [] (ranges_of s)) (inner_places s) within).1 in
       map_among (instance words printed s) (λ vs. statement_at words s (setting_of names vs)) nest
       (λ vs m. statement_printed s names inner vs (inside_nest (ranges_of s) [] [] vs m))
-      ∙ sym (map_twice (statement_at words s) (setting_of names) nest)
+      ∙ sym (map_map (statement_at words s) (setting_of names) nest)
       ∙ ap (map (statement_at words s)) (sym (settings_are (ranges_of s) [] []))

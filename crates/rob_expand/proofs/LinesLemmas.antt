@@ -3,6 +3,7 @@ use Rattle.std.proofs.Common.{◌≡◌, ℕ, suc, ◌+◌, ◌==◌, Bool, true
 use Rattle.std.specs.Prelude.{ℤ, nat_abs, ◌&&◌}
 use Rattle.std.proofs.Math.Dec.{eqb-suc-zero}
 use Rattle.std.proofs.lemmas.List.{length-map}
+use Rattle.rob_algebra.proofs.ListLemmas.{map_map}
 use Rattle.rob_index.specs.Statements.{Name, Member, Statement, Ref, Range, Ranged, Share, Sides, Tree, Indexed}
 use Rattle.rob_index.specs.Statements as stated
 use Rattle.rob_index.specs.Expansion.{Setting, settings, ranges_of, expand_tree, expand_each, member_of, ref_name, optional_name, statement_at, expand}
@@ -184,10 +185,6 @@ module _ (limit : ℕ) (words : List Name) where
         ∙ left_after (line_tokens limit (statement_at words s (setting_of (names_in [] (ranges_of s)) vs)))
         (lines_tokens limit (map (λ vs. statement_at words s (setting_of (names_in [] (ranges_of s)) vs)) es)) room
         (all_left (line_left line) es) (lines_are es)
-
-    map_map : {A B C : Type 0} (f : B → C) (g : A → B) (xs : List A) → map f (map g xs) ≡ map (λ x. f (g x)) xs
-    map_map f g [] = refl
-    map_map f g (x ∷ xs) = ap (λ (l : List _). f (g x) ∷ l) (map_map f g xs)
 
     -- what is left behind all that the statement stands for
     pub expansion_left : (room : ℕ)

@@ -4,6 +4,7 @@ use Rattle.std.specs.Prelude.{ℤ, Result, Ok, Err, IfOk, OnOk, Option, Some, No
 use Rattle.std.specs.Option.{option_map}
 use Rattle.std.specs.List.{flat_map}
 use Rattle.std.proofs.lemmas.List.{length-append, take_all}
+use Rattle.rob_algebra.proofs.ListLemmas.{map_map}
 use Rattle.rob_index.specs.Statements.{Name, Plain, Member, Ref, Share, Tree, Indexed}
 use Rattle.rob_index.specs.Statements as stated
 use Rattle.rob_index.specs.Expansion.{added, summed, ranges_of}
@@ -49,7 +50,6 @@ use Rattle.rob_expand.specs.Making.{number_zero, summed_of, made_parts, made_fac
 use Rattle.rob_expand.specs.Statements.{IsLineOf, head_of, over_of, trees_of}
 use Rattle.rob_expand.proofs.StepLemmas.{part_is}
 use Rattle.rob_expand.proofs.WalkLemmas.{flat_mapped}
-use Rattle.rob_expand.proofs.PlaceLemmas.{map_twice}
 use Rattle.rob_expand.proofs.NameLemmas.{set_is, items_are}
 use Rattle.rob_index.proofs.FastLemmas.{map_flat, flat_same}
 
@@ -183,7 +183,7 @@ module _ (own words : List Name) (vs : List ℤ) where
       ∙ map_flat (numbered_member words) (λ (x : CodeRanged CodeShare). map (make (seen x)) (nest (seen x))) ms
       ∙ flat_same (λ (x : CodeRanged CodeShare). map (numbered_member words) (map (make (seen x)) (nest (seen x))))
       share_made
-      (λ (x : CodeRanged CodeShare). map_twice (numbered_member words) (make (seen x)) (nest (seen x))) ms
+      (λ (x : CodeRanged CodeShare). map_map (numbered_member words) (make (seen x)) (nest (seen x))) ms
 
   -- the numbers of an item's names
   abbrev pub item_made : Item → List ℕ

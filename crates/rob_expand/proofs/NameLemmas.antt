@@ -4,6 +4,7 @@ use Rattle.std.specs.Prelude.{ℤ, fold, ◌||◌, ◌&&◌, Option, Some, None,
 use Rattle.std.specs.Option.{option_map}
 use Rattle.std.specs.List.{flat_map, list_any}
 use Rattle.std.proofs.lemmas.List.Sums.{fold-append}
+use Rattle.rob_algebra.proofs.ListLemmas.{map_map}
 use Rattle.rob_index.specs.Statements.{Name, Plain, Parts, Factors, Member, Statement, Ref, Ranged, Share, Tree, Indexed}
 use Rattle.rob_index.specs.Statements as stated
 use Rattle.rob_index.specs.Expansion.{added, summed, ranges_of}
@@ -26,7 +27,6 @@ use Rattle.rob_expand.specs.Growing.{is_empty, printed, add_name, printed_at, pa
 use Rattle.rob_expand.specs.Instances.{ref_at, tree_at, set_at, each_at, member_at, instance_at, instance}
 use Rattle.rob_expand.proofs.StepLemmas.{part_is}
 use Rattle.rob_expand.proofs.WalkLemmas.{or_both, join_both, flat_mapped}
-use Rattle.rob_expand.proofs.PlaceLemmas.{map_twice}
 use Rattle.rob_index.proofs.FastLemmas.{map_flat, flat_same}
 
 -- ---- expressions
@@ -94,7 +94,7 @@ module _ (own : List Name) (vs : List ℤ) where
       map_flat (λ (m : Member). m.name) (λ (x : Ranged Share). map (make x) (nest x)) ms
       ∙ flat_same (λ (x : Ranged Share). map (λ (m : Member). m.name) (map (make x) (nest x)))
       (λ (x : Ranged Share). item_names own (member_item limit names x) vs)
-      (λ (x : Ranged Share). map_twice (λ (m : Member). m.name) (make x) (nest x)) ms
+      (λ (x : Ranged Share). map_map (λ (m : Member). m.name) (make x) (nest x)) ms
       ∙ sym (flat_mapped (λ (x : Item). item_names own x vs) (member_item limit names) ms)
 
   -- those of a line, from what the statement has

@@ -1,6 +1,7 @@
 -- Lists that are placed item by item.
 use Rattle.std.proofs.Common.{◌≡◌, ℕ, ◌+◌, ◌<◌, ◌≤◌, List, [], ◌∷◌, ◌++◌, length, map, drop, get_or, refl, sym, ap, ◌∙◌, append_assoc, append-nil}
 use Rattle.std.proofs.lemmas.List.{at_drop_more, at_drop_all, map-append}
+use Rattle.rob_algebra.proofs.ListLemmas.{map_map}
 use Rattle.rob_index.specs.Statements as stated
 use Rattle.rob_syntax.specs.declared.syntax.Part.{Part as Given, fold_out-Part as fold_out-Given}
 use Rattle.rob_syntax.specs.declared.syntax.Tree.{Tree as GivenTree}
@@ -28,10 +29,6 @@ pub mapped_all : {A B C : Type 0} (f : A → C) (g : B → C) (done : List A) (x
 mapped_all {A} {B} {C} f g done xs i all so_far =
     let end : map g (drop i xs) ≡ [] = at_drop_all (map g) xs i all in
     sym (append-nil (map f done)) ∙ ap (λ (l : List C). map f done ++ l) (sym end) ∙ so_far
-
-pub map_twice : {A B C : Type 0} (f : B → C) (g : A → B) (xs : List A) → map f (map g xs) ≡ map (λ x. f (g x)) xs
-map_twice f g [] = refl
-map_twice f g (x ∷ xs) = ap (λ (l : List _). f (g x) ∷ l) (map_twice f g xs)
 
 module _ (names : List ℕ) where
   -- a part of a sum
@@ -64,10 +61,10 @@ module _ (names : List ℕ) where
       → map part_of done ≡ map (λ p. placed_part (seen_part p)) xs
       → parts_of (map part_of done) ≡ placed_parts names (seen.parts_of (map seen_part xs))
   parts_all done xs same =
-      ap parts_of (same ∙ sym (map_twice placed_part seen_part xs)) ∙ sym (parts_listed (map seen_part xs))
+      ap parts_of (same ∙ sym (map_map placed_part seen_part xs)) ∙ sym (parts_listed (map seen_part xs))
 
   pub factors_all : (done : List Code) (xs : List GivenTree)
       → map placed_of done ≡ map (λ t. placed_tree names (seen_tree t)) xs
       → factors_of (map placed_of done) ≡ placed_factors names (seen.factors_of (map seen_tree xs))
   factors_all done xs same =
-      ap factors_of (same ∙ sym (map_twice (placed_tree names) seen_tree xs)) ∙ sym (factors_listed (map seen_tree xs))
+      ap factors_of (same ∙ sym (map_map (placed_tree names) seen_tree xs)) ∙ sym (factors_listed (map seen_tree xs))

@@ -7,6 +7,7 @@ use Rattle.std.proofs.lemmas.List.Sums.{fold-append}
 use Rattle.std.proofs.lemmas.List.{at_drop_more}
 use Rattle.std.proofs.lemmas.Bool.{eq-eqb, ne_eqb, leb-true, leb-false}
 use Rattle.std.proofs.lemmas.Option.{same_Some, none-some}
+use Rattle.rob_algebra.proofs.ListLemmas.{map_map, drop_past}
 use Rattle.rob_index.specs.Forms.{extensions}
 use Rattle.rob_index.specs.Rules.{is_long_name}
 use Rattle.rob_index.specs.Statements.{Name}
@@ -24,10 +25,8 @@ use Rattle.rob_ranges.specs.Spans.{Every}
 use Rattle.rob_expand.proofs.FindingLemmas.{worse_assoc, worst_append}
 use Rattle.rob_expand.proofs.JudgeLemmas.{quiet_item}
 use Rattle.rob_expand.proofs.LineLemmas.{entries_some}
-use Rattle.rob_expand.proofs.PlaceLemmas.{map_twice}
 use Rattle.rob_expand.proofs.RoomLemmas.{left_some, left_none, left_zero}
 use Rattle.rob_expand.proofs.WalkLemmas.{flat_mapped}
-use Rattle.rob_expand.proofs.WalkLemmas as walks
 
 -- ---- an idle item
 empty_is : {A : Type 0} (xs : List A) → is_empty xs ≡ true → xs ≡ []
@@ -305,7 +304,7 @@ spots_flat f spots vss is = sym (flat_mapped f (λ (s : Spot). s.values) spots) 
 
 pub spots_map : {B : Type 0} (f : List ℤ → B) (spots : List Spot) (vss : List (List ℤ)) → values_in spots ≡ vss
     → map (λ (s : Spot). f s.values) spots ≡ map f vss
-spots_map f spots vss is = sym (map_twice f (λ (s : Spot). s.values) spots) ∙ ap (map f) is
+spots_map f spots vss is = sym (map_map f (λ (s : Spot). s.values) spots) ∙ ap (map f) is
 
 pub thin_spots : (xs ys : List Item) (ss ts : List Spot) → xs ≡ ys → ts ≡ ss → Every (IsThin xs) ss
     → Every (IsThin ys) ts
@@ -383,4 +382,4 @@ place_apart xs ks i k one inside is one_is =
     picks_more xs ks i k inside is ∙ ap (λ (l : List Item). l ++ picks xs (drop (i + 1) ks)) (sym one_is)
 
 pub places_none : (xs : List Item) (ks : List ℕ) (i : ℕ) → length ks ≤ i → picks xs (drop i ks) ≡ []
-places_none xs ks i all = ap (picks xs) (walks.left_none ks i all)
+places_none xs ks i all = ap (picks xs) (drop_past ks i all)

@@ -1,8 +1,7 @@
 -- Walks over lists, item by item: words that grow by names, whether a name is too long, and lists that are made.
-use Rattle.std.proofs.Common.{◌≡◌, ℕ, ◌+◌, ◌<◌, ◌≤◌, Bool, List, [], ◌∷◌, ◌++◌, length, map, drop, get_or, Option, Some, None, refl, sym, ap, ◌∙◌, subst, append_assoc, append-nil}
+use Rattle.std.proofs.Common.{◌≡◌, Bool, List, [], ◌∷◌, ◌++◌, map, Option, Some, None, refl, sym, ap, ◌∙◌, subst, append_assoc, append-nil}
 use Rattle.std.specs.Prelude.{fold, ◌||◌, MatchOption}
 use Rattle.std.specs.List.{flat_map, list_any}
-use Rattle.std.proofs.lemmas.List.{at_drop_more, at_drop_all}
 use Rattle.std.proofs.lemmas.List.Sums.{fold-append}
 use Rattle.rob_index.specs.Statements.{Name}
 use Rattle.rob_index.specs.Rules.{is_long_name}
@@ -16,16 +15,7 @@ or_both e f = λ i. e i || f i
 pub join_both : {A : Type 0} {a b c d : List A} → a ≡ b → c ≡ d → a ++ c ≡ b ++ d
 join_both e f = λ i. e i ++ f i
 
--- ---- what is left of a list
-pub left_is : {A : Type 0} (xs : List A) (i : ℕ) (x : A) → i < length xs → x ≡ get_or xs i x
-    → drop i xs ≡ x ∷ drop (i + 1) xs
-left_is {A} xs i x inside is =
-    at_drop_more (λ (l : List A). l) xs i x inside ∙ ap (λ (y : A). y ∷ drop (i + 1) xs) (sym is)
-
-pub left_none : {A : Type 0} (xs : List A) (i : ℕ) → length xs ≤ i → drop i xs ≡ []
-left_none {A} xs i all = at_drop_all (λ (l : List A). l) xs i all
-
--- what a run of values says of its next one
+-- ---- what a run of values says of its next one
 pub next_some : {A : Type 0} (o : Option A) (x : A) (old new : List A) → o ≡ Some x
     → MatchOption o (old ≡ []) (λ y. old ≡ y ∷ new) → old ≡ x ∷ new
 next_some {A} o x old new is given =

@@ -1,6 +1,7 @@
 use Rattle.std.proofs.Common.{List, [], ◌++◌, sym, ap, ◌∙◌}
 use Rattle.std.specs.Prelude.{ℤ, fold}
 use Rattle.std.specs.List.{list_any}
+use Rattle.rob_algebra.proofs.ListLemmas.{map_map}
 use Rattle.rob_index.specs.Rules.{is_long_name}
 use Rattle.rob_syntax.specs.declared.syntax.Statement.{Statement}
 use Rattle.rob_syntax.specs.Numbered.{numbered}
@@ -10,7 +11,6 @@ use Rattle.rob_syntax.specs.Seen.{seen_statement}
 use Rattle.rob_expand.specs.Growing.{add_name, line_names, printed}
 use Rattle.rob_expand.specs.Instances.{instance}
 use Rattle.rob_expand.proofs.ExpandLemmas.{line_of_is, words_are, list_is, is_refused, are_statements, lacks_refused}
-use Rattle.rob_expand.proofs.PlaceLemmas.{map_twice}
 use Rattle.rob_expand.proofs.SpotLemmas.{spots_flat, spots_map, thin_spots, values_in}
 use Rattle.rob_expand.proofs.expansion.expand.Goals as goal
 
@@ -75,7 +75,7 @@ returns c =
           ∙ ap (λ (l : List Statement). c.args.list.now ++ l)
           (spots_map made c.items-5.result.now c.in_ok-settings.settings
           (ap values_in c.items-5.ensures.list ∙ values)
-          ∙ sym (map_twice (numbered new) (instance own printed s) c.in_ok-settings.settings)));
+          ∙ sym (map_map (numbered new) (instance own printed s) c.in_ok-settings.settings)));
       refused =
           are_statements own c.args.limit s _ _ is c.requires.within c.in_ok-settings.settings settings
           c.in_ok-long.long told

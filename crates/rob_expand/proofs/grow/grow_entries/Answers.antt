@@ -1,16 +1,17 @@
 use Rattle.std.proofs.Common.{List, ap, sym, ◌∙◌, [], ◌∷◌}
 use Rattle.std.specs.Prelude.{ℤ, fold}
 use Rattle.std.specs.List.{list_any}
+use Rattle.rob_algebra.proofs.ListLemmas.{drop_at, drop_past}
 use Rattle.rob_index.specs.Rules.{is_long_name}
 use Rattle.rob_syntax.specs.Known.{texts}
 use Rattle.rob_expand.specs.Growing.{add_name, named_at}
-use Rattle.rob_expand.proofs.WalkLemmas.{left_is, left_none, words_more, words_all, long_more, long_all, map_flat}
+use Rattle.rob_expand.proofs.WalkLemmas.{words_more, words_all, long_more, long_all, map_flat}
 use Rattle.rob_expand.proofs.grow.grow_entries.Goals as goal
 
 pub loop-setting-preserved : goal.loop-setting-preserved
 loop-setting-preserved c =
     let f = (λ (e : List ℤ). named_at (texts c.args.own.now.keys) c.args.name.now e ∷ []) in
-    let step = left_is c.args.settings.now c.loop-setting.setting-index c.setting-item.result c.loop-setting-test.true
+    let step = drop_at c.args.settings.now c.loop-setting.setting-index c.setting-item.result c.loop-setting-test.true
     c.setting-item.is in
     record {
       words = words_more f (texts c.loop-setting.words.keys) _ _ _ c.setting-item.result step
@@ -29,7 +30,7 @@ loop-setting-preserved c =
 pub returns : goal.returns
 returns c =
     let f = (λ (e : List ℤ). named_at (texts c.args.own.now.keys) c.args.name.now e ∷ []) in
-    let none = left_none c.args.settings.now c.loop-setting.setting-index c.loop-setting-test.false in
+    let none = drop_past c.args.settings.now c.loop-setting.setting-index c.loop-setting-test.false in
     let same = map_flat (named_at (texts c.args.own.now.keys) c.args.name.now) c.args.settings.now in
     record {
       words =

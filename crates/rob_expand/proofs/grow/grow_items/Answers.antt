@@ -1,12 +1,13 @@
 use Rattle.std.proofs.Common.{◌≡◌, List, ap, ◌∙◌, map}
 use Rattle.std.specs.Prelude.{ℤ, fold}
 use Rattle.std.specs.List.{list_any}
+use Rattle.rob_algebra.proofs.ListLemmas.{drop_at, drop_past}
 use Rattle.rob_index.specs.Rules.{is_long_name}
 use Rattle.rob_syntax.specs.Known.{texts}
 use Rattle.rob_index.specs.Forms.{extensions}
 use Rattle.rob_expand.specs.declared.line.Item.{Item}
 use Rattle.rob_expand.specs.Growing.{add_name, item_names, named_at}
-use Rattle.rob_expand.proofs.WalkLemmas.{left_is, left_none, words_more, words_all, long_more, long_all}
+use Rattle.rob_expand.proofs.WalkLemmas.{words_more, words_all, long_more, long_all}
 use Rattle.rob_expand.proofs.grow.grow_items.Goals as goal
 
 pub loop-item-preserved : goal.loop-item-preserved
@@ -14,7 +15,7 @@ loop-item-preserved c =
     let f = (λ (x : Item). item_names (texts c.args.own.now.keys) x c.args.values.now) in
     let settings : c.items.result.now ≡ extensions c.item-item.result.ranges c.args.values.now =
     c.items.ensures.list ∙ c.in_ok-settings.ensures.settings in
-    let step = left_is c.args.items.now c.loop-item.item-index c.item-item.result c.loop-item-test.true c.item-item.is
+    let step = drop_at c.args.items.now c.loop-item.item-index c.item-item.result c.loop-item-test.true c.item-item.is
     in
     record {
       words = words_more f (texts c.loop-item.words.keys) _ _ _ c.item-item.result step
@@ -33,7 +34,7 @@ loop-item-preserved c =
 pub returns : goal.returns
 returns c =
     let f = (λ (x : Item). item_names (texts c.args.own.now.keys) x c.args.values.now) in
-    let none = left_none c.args.items.now c.loop-item.item-index c.loop-item-test.false in
+    let none = drop_past c.args.items.now c.loop-item.item-index c.loop-item-test.false in
     record {
       words = words_all f _ _ none c.loop-item.invariant.words;
       long = long_all f c.loop-item.long _ none c.loop-item.invariant.long;

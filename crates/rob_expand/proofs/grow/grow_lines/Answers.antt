@@ -1,6 +1,7 @@
 use Rattle.std.proofs.Common.{List, ap, ◌∙◌}
 use Rattle.std.specs.Prelude.{ℤ, fold}
 use Rattle.std.specs.List.{list_any}
+use Rattle.rob_algebra.proofs.ListLemmas.{drop_at, drop_past}
 use Rattle.rob_index.specs.Rules.{is_long_name}
 use Rattle.rob_syntax.specs.Known.{texts}
 use Rattle.rob_index.specs.Statements.{Name}
@@ -8,7 +9,7 @@ use Rattle.rob_ranges.proofs.SpanLemmas.{every_at}
 use Rattle.rob_expand.specs.declared.spot.Spot.{Spot}
 use Rattle.rob_expand.specs.Spots.{IsThin}
 use Rattle.rob_expand.specs.Growing.{add_name, line_names}
-use Rattle.rob_expand.proofs.WalkLemmas.{left_is, left_none, words_more, words_all, long_more, long_all}
+use Rattle.rob_expand.proofs.WalkLemmas.{words_more, words_all, long_more, long_all}
 use Rattle.rob_expand.proofs.SpotLemmas.{thin_along}
 use Rattle.rob_expand.proofs.grow.grow_lines.Goals as goal
 
@@ -24,7 +25,7 @@ grow_line-requires c = record {
 pub loop-spot-preserved : goal.loop-spot-preserved
 loop-spot-preserved c =
     let f : Spot → List Name = λ (s : Spot). line_names (texts c.args.own.now.keys) c.args.line.now s.values in
-    let step = left_is c.args.spots.now c.loop-spot.spot-index c.spot-item.result c.loop-spot-test.true
+    let step = drop_at c.args.spots.now c.loop-spot.spot-index c.spot-item.result c.loop-spot-test.true
     c.spot-item.is in
     record {
       words = words_more f (texts c.loop-spot.words.keys) _ _ _ c.spot-item.result step
@@ -43,7 +44,7 @@ loop-spot-preserved c =
 pub returns : goal.returns
 returns c =
     let f : Spot → List Name = λ (s : Spot). line_names (texts c.args.own.now.keys) c.args.line.now s.values in
-    let none = left_none c.args.spots.now c.loop-spot.spot-index c.loop-spot-test.false in
+    let none = drop_past c.args.spots.now c.loop-spot.spot-index c.loop-spot-test.false in
     record {
       words = words_all f _ _ none c.loop-spot.invariant.words;
       long = long_all f c.loop-spot.long _ none c.loop-spot.invariant.long;

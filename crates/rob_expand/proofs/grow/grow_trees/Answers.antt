@@ -1,12 +1,13 @@
+use Rattle.rob_algebra.proofs.ListLemmas.{drop_at, drop_past}
 use Rattle.rob_syntax.specs.Known.{texts}
 use Rattle.rob_expand.proofs.NameLemmas.{factor_names_at}
-use Rattle.rob_expand.proofs.WalkLemmas.{left_is, left_none, words_more, words_all, long_more, long_all}
+use Rattle.rob_expand.proofs.WalkLemmas.{words_more, words_all, long_more, long_all}
 use Rattle.rob_expand.proofs.grow.grow_trees.Goals as goal
 
 pub loop-tree-preserved : goal.loop-tree-preserved
 loop-tree-preserved c =
     let f = factor_names_at (texts c.args.own.now.keys) c.args.values.now in
-    let step = left_is c.args.trees.now c.loop-tree.tree-index c.tree-item.result c.loop-tree-test.true c.tree-item.is
+    let step = drop_at c.args.trees.now c.loop-tree.tree-index c.tree-item.result c.loop-tree-test.true c.tree-item.is
     in
     record {
       words = words_more f (texts c.loop-tree.words.keys) _ _ _ c.tree-item.result step c.in_ok-here.ensures.words
@@ -19,7 +20,7 @@ loop-tree-preserved c =
 pub returns : goal.returns
 returns c =
     let f = factor_names_at (texts c.args.own.now.keys) c.args.values.now in
-    let none = left_none c.args.trees.now c.loop-tree.tree-index c.loop-tree-test.false in
+    let none = drop_past c.args.trees.now c.loop-tree.tree-index c.loop-tree-test.false in
     record {
       words = words_all f _ _ none c.loop-tree.invariant.words;
       long = long_all f c.loop-tree.long _ none c.loop-tree.invariant.long;

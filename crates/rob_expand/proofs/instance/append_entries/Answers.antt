@@ -1,16 +1,17 @@
 use Rattle.std.proofs.Common.{ℕ, List, [], ◌∷◌, ◌++◌, ap, sym, ◌∙◌}
 use Rattle.std.specs.Prelude.{ℤ}
+use Rattle.rob_algebra.proofs.ListLemmas.{drop_at, drop_past}
 use Rattle.rob_syntax.specs.declared.syntax.Member.{Member}
 use Rattle.rob_syntax.specs.Known.{texts}
 use Rattle.rob_expand.specs.Making.{entry_at}
-use Rattle.rob_expand.proofs.WalkLemmas.{left_is, left_none, made_more, made_all, map_flat}
+use Rattle.rob_expand.proofs.WalkLemmas.{made_more, made_all, map_flat}
 use Rattle.rob_expand.proofs.instance.append_entries.Goals as goal
 
 pub loop-setting-preserved : goal.loop-setting-preserved
 loop-setting-preserved c =
     let f : List ℤ → Member =
     entry_at (texts c.args.own.now.keys) (texts c.args.words.now.keys) c.args.name.now c.args.spread in
-    let step = left_is c.args.settings.now c.loop-setting.setting-index c.setting-item.result c.loop-setting-test.true
+    let step = drop_at c.args.settings.now c.loop-setting.setting-index c.setting-item.result c.loop-setting-test.true
     c.setting-item.is in
     made_more (λ (e : List ℤ). f e ∷ []) c.loop-setting.members _ _ _ c.setting-item.result step
     (c.in_ok-push.ensures.appended
@@ -25,6 +26,6 @@ returns c = record {
       let f : List ℤ → Member =
       entry_at (texts c.args.own.now.keys) (texts c.args.words.now.keys) c.args.name.now c.args.spread in
       made_all (λ (e : List ℤ). f e ∷ []) c.loop-setting.members _
-      (left_none c.args.settings.now c.loop-setting.setting-index c.loop-setting-test.false) c.loop-setting.invariant
+      (drop_past c.args.settings.now c.loop-setting.setting-index c.loop-setting-test.false) c.loop-setting.invariant
       ∙ ap (λ (l : List Member). c.args.members.now ++ l) (sym (map_flat f c.args.settings.now));
 }

@@ -1,5 +1,6 @@
 use Rattle.std.proofs.Common.{List, [], ◌∷◌, ◌++◌, ap, sym, ◌∙◌}
 use Rattle.std.specs.Prelude.{ℤ}
+use Rattle.rob_algebra.proofs.ListLemmas.{drop_at, drop_past}
 use Rattle.rob_syntax.specs.declared.syntax.Statement.{Statement}
 use Rattle.rob_syntax.specs.Known.{texts}
 use Rattle.rob_syntax.specs.Numbered.{numbered}
@@ -10,7 +11,7 @@ use Rattle.rob_expand.specs.Growing.{printed}
 use Rattle.rob_expand.specs.Instances.{instance}
 use Rattle.rob_expand.specs.Spots.{IsThin}
 use Rattle.rob_expand.proofs.SpotLemmas.{thin_along}
-use Rattle.rob_expand.proofs.WalkLemmas.{left_is, left_none, made_more, made_all, map_flat}
+use Rattle.rob_expand.proofs.WalkLemmas.{made_more, made_all, map_flat}
 use Rattle.rob_expand.proofs.instance.append_instances.Goals as goal
 
 pub make_statement-requires : goal.make_statement-requires
@@ -28,7 +29,7 @@ loop-spot-preserved c =
     let g : List ℤ → Statement = λ (e : List ℤ). numbered (texts c.args.words.now.keys)
     (instance (texts c.args.own.now.keys) printed (seen_statement c.args.statement.now) e) in
     let f : Spot → Statement = λ (s : Spot). g s.values in
-    let step = left_is c.args.spots.now c.loop-spot.spot-index c.spot-item.result c.loop-spot-test.true c.spot-item.is
+    let step = drop_at c.args.spots.now c.loop-spot.spot-index c.spot-item.result c.loop-spot-test.true c.spot-item.is
     in
     made_more (λ (s : Spot). f s ∷ []) c.loop-spot.list _ _ _ c.spot-item.result step
     (c.in_ok-push.ensures.appended
@@ -43,6 +44,6 @@ returns c =
     record {
       appended =
           made_all (λ (s : Spot). f s ∷ []) c.loop-spot.list _
-          (left_none c.args.spots.now c.loop-spot.spot-index c.loop-spot-test.false) c.loop-spot.invariant
+          (drop_past c.args.spots.now c.loop-spot.spot-index c.loop-spot-test.false) c.loop-spot.invariant
           ∙ ap (λ (l : List Statement). c.args.list.now ++ l) (sym (map_flat f c.args.spots.now));
     }

@@ -1,18 +1,19 @@
 use Rattle.std.proofs.Common.{◌≡◌, ℕ, List, ◌++◌, map, ap, sym, ◌∙◌}
 use Rattle.std.specs.Prelude.{ℤ}
+use Rattle.rob_algebra.proofs.ListLemmas.{drop_at, drop_past}
 use Rattle.rob_index.specs.Forms.{extensions}
 use Rattle.rob_syntax.specs.Known.{texts}
 use Rattle.rob_syntax.specs.Symbols.{number_of}
 use Rattle.rob_expand.specs.Growing.{named_at}
 use Rattle.rob_expand.proofs.MakeLemmas.{item_made, numbers_made}
-use Rattle.rob_expand.proofs.WalkLemmas.{left_is, left_none, made_more, made_all}
+use Rattle.rob_expand.proofs.WalkLemmas.{made_more, made_all}
 use Rattle.rob_expand.proofs.instance.append_items.Goals as goal
 
 pub loop-item-preserved : goal.loop-item-preserved
 loop-item-preserved c =
     let settings : c.items.result.now ≡ extensions c.item-item.result.ranges c.args.values.now =
     c.items.ensures.list ∙ c.in_ok-settings.ensures.settings in
-    let step = left_is c.args.items.now c.loop-item.item-index c.item-item.result c.loop-item-test.true c.item-item.is
+    let step = drop_at c.args.items.now c.loop-item.item-index c.item-item.result c.loop-item-test.true c.item-item.is
     in
     made_more (item_made (texts c.args.own.now.keys) (texts c.args.words.now.keys) c.args.values.now)
     c.loop-item.numbers _ _ _ c.item-item.result step
@@ -27,7 +28,7 @@ returns c = record {
   numbers =
       made_all (item_made (texts c.args.own.now.keys) (texts c.args.words.now.keys) c.args.values.now)
       c.loop-item.numbers _
-      (left_none c.args.items.now c.loop-item.item-index c.loop-item-test.false) c.loop-item.invariant
+      (drop_past c.args.items.now c.loop-item.item-index c.loop-item-test.false) c.loop-item.invariant
       ∙ ap (λ (l : List ℕ). c.args.numbers.now ++ l)
       (sym (numbers_made (texts c.args.own.now.keys) (texts c.args.words.now.keys) c.args.values.now c.args.items.now));
 }

@@ -1,5 +1,6 @@
 use Rattle.std.proofs.Common.{◌≡◌, ℕ, List, [], ◌++◌, map, ap, sym, ◌∙◌}
 use Rattle.std.specs.Prelude.{ℤ}
+use Rattle.rob_algebra.proofs.ListLemmas.{drop_at, drop_past}
 use Rattle.rob_index.specs.Forms.{Ends, extensions}
 use Rattle.rob_index.specs.Fast.{names_in, nest_of}
 use Rattle.rob_syntax.specs.declared.syntax.Member.{Member}
@@ -11,7 +12,7 @@ use Rattle.rob_expand.specs.declared.placed.Named.{Named}
 use Rattle.rob_expand.specs.Making.{entry_at}
 use Rattle.rob_expand.specs.Placing.{placed_name}
 use Rattle.rob_expand.proofs.MakeLemmas.{share_made, members_made}
-use Rattle.rob_expand.proofs.WalkLemmas.{left_is, left_none, made_more, made_all}
+use Rattle.rob_expand.proofs.WalkLemmas.{made_more, made_all}
 use Rattle.rob_expand.proofs.instance.append_members.Goals as goal
 
 pub loop-share-preserved : goal.loop-share-preserved
@@ -29,7 +30,7 @@ loop-share-preserved c =
     ∙ ap (λ (rs : List Range). nest_of [] (seen_ranges rs)) ranges in
     let settings = c.items-in-loop-share-3.ensures.list ∙ c.in_ok-settings.ensures.settings
     ∙ ap (λ (rs : List Ends). extensions rs vs) ends in
-    let step = left_is c.args.shares.now c.loop-share.share-index share c.loop-share-test.true c.share-item.is in
+    let step = drop_at c.args.shares.now c.loop-share.share-index share c.loop-share-test.true c.share-item.is in
     made_more (share_made own words vs) c.loop-share.members _ _ _ share step
     (c.in_ok-append_entries.ensures.appended
     ∙ ap (λ (n : Named). c.loop-share.members ++ map (entry_at own words n spread) c.items-in-loop-share-3.result.now)
@@ -45,7 +46,7 @@ returns c = record {
       let own = (texts c.args.own.now.keys) in
       let words = (texts c.args.words.now.keys) in
       made_all (share_made own words c.args.values.now) c.loop-share.members _
-      (left_none c.args.shares.now c.loop-share.share-index c.loop-share-test.false) c.loop-share.invariant
+      (drop_past c.args.shares.now c.loop-share.share-index c.loop-share-test.false) c.loop-share.invariant
       ∙ ap (λ (l : List Member). c.args.members.now ++ l)
       (sym (members_made own words c.args.values.now c.args.shares.now));
 }

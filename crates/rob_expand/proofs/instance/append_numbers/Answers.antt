@@ -1,17 +1,17 @@
 use Rattle.std.proofs.Common.{ℕ, List, [], ◌∷◌, ◌++◌, ap, sym, ◌∙◌}
 use Rattle.std.specs.Prelude.{ℤ}
+use Rattle.rob_algebra.proofs.ListLemmas.{map_map, drop_at, drop_past}
 use Rattle.rob_syntax.specs.Known.{texts}
 use Rattle.rob_syntax.specs.Symbols.{number_of}
 use Rattle.rob_expand.specs.Growing.{named_at}
-use Rattle.rob_expand.proofs.PlaceLemmas.{map_twice}
-use Rattle.rob_expand.proofs.WalkLemmas.{left_is, left_none, made_more, made_all, map_flat}
+use Rattle.rob_expand.proofs.WalkLemmas.{made_more, made_all, map_flat}
 use Rattle.rob_expand.proofs.instance.append_numbers.Goals as goal
 
 pub loop-setting-preserved : goal.loop-setting-preserved
 loop-setting-preserved c =
     let f : List ℤ → ℕ =
     λ (e : List ℤ). number_of (texts c.args.words.now.keys) (named_at (texts c.args.own.now.keys) c.args.name.now e) in
-    let step = left_is c.args.settings.now c.loop-setting.setting-index c.setting-item.result c.loop-setting-test.true
+    let step = drop_at c.args.settings.now c.loop-setting.setting-index c.setting-item.result c.loop-setting-test.true
     c.setting-item.is in
     made_more (λ (e : List ℤ). f e ∷ []) c.loop-setting.numbers _ _ _ c.setting-item.result step
     (c.in_ok-push.ensures.appended
@@ -25,8 +25,8 @@ returns c = record {
       λ (e : List ℤ). number_of (texts c.args.words.now.keys) (named_at (texts c.args.own.now.keys) c.args.name.now e)
       in
       made_all (λ (e : List ℤ). f e ∷ []) c.loop-setting.numbers _
-      (left_none c.args.settings.now c.loop-setting.setting-index c.loop-setting-test.false) c.loop-setting.invariant
+      (drop_past c.args.settings.now c.loop-setting.setting-index c.loop-setting-test.false) c.loop-setting.invariant
       ∙ ap (λ (l : List ℕ). c.args.numbers.now ++ l)
-      (sym (map_twice (number_of (texts c.args.words.now.keys)) (named_at (texts c.args.own.now.keys) c.args.name.now)
+      (sym (map_map (number_of (texts c.args.words.now.keys)) (named_at (texts c.args.own.now.keys) c.args.name.now)
       c.args.settings.now ∙ map_flat f c.args.settings.now));
 }

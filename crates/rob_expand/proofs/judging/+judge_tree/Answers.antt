@@ -1,10 +1,11 @@
 use Rattle.std.proofs.Common.{◌≡◌, List, ◌∷◌, ap, sym, ◌∙◌}
 use Rattle.std.specs.Prelude.{ℤ}
+use Rattle.rob_algebra.proofs.ListLemmas.{drop_at, drop_past}
 use Rattle.rob_index.specs.Forms.{values_of}
 use Rattle.rob_expand.specs.Placed.{Placed, over, placed_of}
 use Rattle.rob_expand.specs.Judging.{worst, length_found, range_found, tree_found}
 use Rattle.rob_expand.proofs.StepLemmas.{over_placed}
-use Rattle.rob_expand.proofs.WalkLemmas.{left_is, left_none, next_some, next_none}
+use Rattle.rob_expand.proofs.WalkLemmas.{next_some, next_none}
 use Rattle.rob_expand.proofs.MakeLemmas.{moved_if}
 use Rattle.rob_expand.proofs.FindingLemmas.{worst_more, worst_all}
 use Rattle.rob_expand.proofs.JudgeLemmas.{part_found, factor_found, parts_gathered, factors_gathered, long_first}
@@ -12,14 +13,14 @@ use Rattle.rob_expand.proofs.judging.+judge_tree.Goals as goal
 
 pub judge_parts-loop-part-preserved : goal.judge_parts-loop-part-preserved
 judge_parts-loop-part-preserved t c =
-    let step = left_is c.args.parts.now c.loop-part.part-index c.part-item.result c.loop-part-test.true c.part-item.is
+    let step = drop_at c.args.parts.now c.loop-part.part-index c.part-item.result c.loop-part-test.true c.part-item.is
     in
     worst_more (part_found c.args.values.now) c.loop-part.found c.in_ok-here.here _ _ _ c.part-item.result step
     c.in_ok-here.ensures.found c.worse-found.ensures.worse c.loop-part.invariant
 
 pub judge_parts-returns : goal.judge_parts-returns
 judge_parts-returns t c =
-    let none = left_none c.args.parts.now c.loop-part.part-index c.loop-part-test.false in
+    let none = drop_past c.args.parts.now c.loop-part.part-index c.loop-part-test.false in
     record {
       found =
           worst_all (part_found c.args.values.now) c.loop-part.found _ none c.loop-part.invariant
@@ -28,14 +29,14 @@ judge_parts-returns t c =
 
 pub judge_factors-loop-factor-preserved : goal.judge_factors-loop-factor-preserved
 judge_factors-loop-factor-preserved t c =
-    let step = left_is c.args.factors.now c.loop-factor.factor-index c.factor-item.result c.loop-factor-test.true
+    let step = drop_at c.args.factors.now c.loop-factor.factor-index c.factor-item.result c.loop-factor-test.true
     c.factor-item.is in
     worst_more (factor_found c.args.values.now) c.loop-factor.found c.in_ok-here.here _ _ _ c.factor-item.result step
     c.in_ok-here.ensures.found c.worse-found.ensures.worse c.loop-factor.invariant
 
 pub judge_factors-returns : goal.judge_factors-returns
 judge_factors-returns t c =
-    let none = left_none c.args.factors.now c.loop-factor.factor-index c.loop-factor-test.false in
+    let none = drop_past c.args.factors.now c.loop-factor.factor-index c.loop-factor-test.false in
     record {
       found =
           worst_all (factor_found c.args.values.now) c.loop-factor.found _ none c.loop-factor.invariant

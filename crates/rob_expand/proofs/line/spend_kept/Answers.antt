@@ -1,10 +1,10 @@
 use Rattle.std.proofs.Common.{◌+◌, Bool, drop, get_or, refl, true, ap, sym, ◌∙◌}
 use Rattle.std.proofs.lemmas.Result.{err_from_is_err_and}
+use Rattle.rob_algebra.proofs.ListLemmas.{drop_past}
 use Rattle.rob_expand.specs.Lines.{items_left}
 use Rattle.rob_expand.specs.Spots.{picks}
 use Rattle.rob_expand.proofs.StepLemmas.{refused}
 use Rattle.rob_expand.proofs.SpotLemmas.{place_more, place_stop, place_end}
-use Rattle.rob_expand.proofs.WalkLemmas.{left_none}
 use Rattle.rob_expand.proofs.line.spend_kept.Goals as goal
 
 pub loop-k-preserved : goal.loop-k-preserved
@@ -36,5 +36,5 @@ returns c = record {
   left =
       sym c.loop-k.invariant
       ∙ place_end c.args.items.now c.args.kept.now c.loop-k.k-index c.args.values.now c.loop-k.first c.loop-k.left
-      (left_none c.args.kept.now c.loop-k.k-index c.loop-k-test.false);
+      (drop_past c.args.kept.now c.loop-k.k-index c.loop-k-test.false);
 }

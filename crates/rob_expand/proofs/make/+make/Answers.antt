@@ -1,5 +1,6 @@
 use Rattle.std.proofs.Common.{◌≡◌, List, [], ◌∷◌, ◌++◌, map, false, ap, sym, ◌∙◌}
 use Rattle.std.specs.Prelude.{ℤ}
+use Rattle.rob_algebra.proofs.ListLemmas.{drop_at, drop_past}
 use Rattle.rob_index.specs.Forms.{values_of}
 use Rattle.rob_syntax.specs.declared.syntax.Syntax.{Syntax}
 use Rattle.rob_syntax.specs.Known.{texts}
@@ -10,7 +11,7 @@ use Rattle.rob_expand.specs.Growing.{printed_at}
 use Rattle.rob_expand.specs.Making.{summed_of, made_each}
 use Rattle.rob_expand.specs.Placed.{Placed, over, placed_of}
 use Rattle.rob_expand.proofs.StepLemmas.{over_placed}
-use Rattle.rob_expand.proofs.WalkLemmas.{left_is, left_none, next_some, next_none, made_more, made_all}
+use Rattle.rob_expand.proofs.WalkLemmas.{next_some, next_none, made_more, made_all}
 use Rattle.rob_expand.proofs.MakeLemmas.{moved_if, part_made, parts_made, factor_made, factors_made, value_made, each_made, summed_made}
 use Rattle.rob_expand.proofs.make.+make.Goals as goal
 
@@ -18,7 +19,7 @@ pub make_parts-loop-part-preserved : goal.make_parts-loop-part-preserved
 make_parts-loop-part-preserved t c =
     let own = texts c.args.own.now.keys in
     let words = texts c.args.words.now.keys in
-    let step = left_is c.args.parts.now c.loop-part.part-index c.part-item.result c.loop-part-test.true c.part-item.is
+    let step = drop_at c.args.parts.now c.loop-part.part-index c.part-item.result c.loop-part-test.true c.part-item.is
     in
     made_more (λ (x : CodePart). part_made own words c.args.values.now x ∷ []) c.loop-part.made _ _ _ c.part-item.result
     step
@@ -33,7 +34,7 @@ make_parts-returns t c = record {
       let own = texts c.args.own.now.keys in
       let words = texts c.args.words.now.keys in
       made_all (λ (x : CodePart). part_made own words c.args.values.now x ∷ []) c.loop-part.made _
-      (left_none c.args.parts.now c.loop-part.part-index c.loop-part-test.false) c.loop-part.invariant
+      (drop_past c.args.parts.now c.loop-part.part-index c.loop-part-test.false) c.loop-part.invariant
       ∙ sym (parts_made own words c.args.values.now c.args.parts.now);
 }
 
@@ -41,7 +42,7 @@ pub make_factors-loop-factor-preserved : goal.make_factors-loop-factor-preserved
 make_factors-loop-factor-preserved t c =
     let own = texts c.args.own.now.keys in
     let words = texts c.args.words.now.keys in
-    let step = left_is c.args.factors.now c.loop-factor.factor-index c.factor-item.result c.loop-factor-test.true
+    let step = drop_at c.args.factors.now c.loop-factor.factor-index c.factor-item.result c.loop-factor-test.true
     c.factor-item.is in
     made_more (λ (x : Code). factor_made own words c.args.values.now x ∷ []) c.loop-factor.made _ _ _
     c.factor-item.result step
@@ -55,7 +56,7 @@ make_factors-returns t c = record {
       let own = texts c.args.own.now.keys in
       let words = texts c.args.words.now.keys in
       made_all (λ (x : Code). factor_made own words c.args.values.now x ∷ []) c.loop-factor.made _
-      (left_none c.args.factors.now c.loop-factor.factor-index c.loop-factor-test.false) c.loop-factor.invariant
+      (drop_past c.args.factors.now c.loop-factor.factor-index c.loop-factor-test.false) c.loop-factor.invariant
       ∙ sym (factors_made own words c.args.values.now c.args.factors.now);
 }
 

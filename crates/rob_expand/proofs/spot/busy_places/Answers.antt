@@ -1,8 +1,8 @@
 use Rattle.std.proofs.Common.{get_or, refl, List, sym, ap, ◌∙◌}
+use Rattle.rob_algebra.proofs.ListLemmas.{drop_past}
 use Rattle.rob_expand.specs.declared.line.Item.{Item}
 use Rattle.rob_expand.specs.Spots.{busy}
 use Rattle.rob_expand.proofs.SpotLemmas.{kept_more, kept_all}
-use Rattle.rob_expand.proofs.WalkLemmas.{left_none}
 use Rattle.rob_expand.proofs.spot.busy_places.Goals as goal
 
 pub loop-k-preserved : goal.loop-k-preserved
@@ -21,5 +21,5 @@ returns c =
     record {
       busy = λ vs within.
           kept_all c.args.short c.args.items.now here.places c.args.kept.now here.k-index vs
-          (left_none c.args.kept.now here.k-index c.loop-k-test.false) (here.invariant vs within);
+          (drop_past c.args.kept.now here.k-index c.loop-k-test.false) (here.invariant vs within);
     }
