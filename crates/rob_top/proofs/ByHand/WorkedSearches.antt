@@ -8,6 +8,7 @@ use Rattle.rob_algebra.specs.Fraction.{Fraction, neg_ℚ, ratio, ◌+ℚ◌, ◌
 use Rattle.rob_algebra.specs.FractionLaws as Q
 use Rattle.rob_algebra.specs.Ring.{lit, minus, ◌:*◌, ◌:+◌, v0}
 use Rattle.rob_algebra.specs.Width.{Fits, IsWide}
+use Rattle.rob_linear.specs.Vectors.{columns_of}
 use Rattle.rob_bounds.proofs.NarrowPaths.{narrow_path}
 use Rattle.rob_bounds.specs.Bounds.{IsNarrow}
 use Rattle.rob_dualize.proofs.NarrowModels.{one_demand_admitted, one_demand_model, one_demand_narrow, one_demand_not_wide}
@@ -25,7 +26,7 @@ use Rattle.rob_model.specs.declared.place.Spot.TheVariants as spot
 use Rattle.rob_model.specs.declared.place.Where.TheVariants as where_at
 use Rattle.rob_runs.proofs.FoundLemmas.{found_value}
 use Rattle.rob_runs.specs.Readings.{cleared_by}
-use Rattle.rob_runs.specs.Searches.{basic_columns, search_at}
+use Rattle.rob_runs.specs.Searches.{search_at}
 use Rattle.rob_runs.specs.Spots.{IsWideCleared, IsWideCost, IsWideSlack, slack_of}
 use Rattle.rob_runs.specs.Told.{cleared_plan}
 use Rattle.rob_top.proofs.ByHand.WorkedSlacks.{objective_spelled, zero_dot}
@@ -119,7 +120,7 @@ none_in_cost (suc (suc k)) (l, h) = omega (arith, l)
 
 none_in_search : (place : Spot) → IsWideAt greatest one_demand false 0 at_plan place → ⊥
 none_in_search (spot.Dictionary (program.SearchPlan f) basis p) h =
-    narrow_path greatest (search_at one_demand 0 at_plan) search_narrow (basic_columns basis) p h.0.2.row
+    narrow_path greatest (search_at one_demand 0 at_plan) search_narrow (columns_of basis) p h.0.2.row
 none_in_search (spot.Dictionary (program.SearchMove f) basis p) h = (let e : true ≡ false = h.0.0 in cc)
 none_in_search (spot.Clearing where_at.Plan) h = none_cleared h.1
 none_in_search (spot.Clearing where_at.Move) h = (let e : true ≡ false = h.0 in cc)
