@@ -44,21 +44,22 @@ combination-first (a ∷ top) (b ∷ low) e =
     ap (λ t. t ∷ combination (pos 1) top (pos 0) low) first ∙ ap (λ t. a ∷ t) (combination-first top low (omega arith))
 
 -- ---- primitive parts of combinations whose factors have a common divisor
-combination-lowest : (p : ℤ) (top : List ℤ) (q : ℤ) (low : List ℤ) (factors : Factors) (m : IsMultiple p q factors)
+combination-lowest : (p : ℤ) (top : List ℤ) (q : ℤ) (low : List ℤ) (factors : Factors)
+    (m : IsMultiple p q factors.p factors.q)
     → combination p top q low ≡ scaled m.times (combination factors.p top factors.q low)
 combination-lowest p top q low factors m =
     ap (λ t. combination t top q low) m.first ∙ ap (λ t. combination (pos m.times *ℤ factors.p) top t low) m.second
     ∙ combination-scale m.times factors.p top factors.q low
 
 pub part-lowest : (row : List ℤ) (p : ℤ) (top : List ℤ) (q : ℤ) (low : List ℤ) (factors : Factors)
-    → IsMultiple p q factors
+    → IsMultiple p q factors.p factors.q
     → IsPrimitivePart row (combination factors.p top factors.q low) → IsPrimitivePart row (combination p top q low)
 part-lowest row p top q low factors m h =
     subst (IsPrimitivePart row) (sym (combination-lowest p top q low factors m))
     (part-multiple row (combination factors.p top factors.q low) m.times m.positive h)
 
 pub wide_part-lowest : (limit : ℕ) (p : ℤ) (top : List ℤ) (q : ℤ) (low : List ℤ) (factors : Factors)
-    → IsMultiple p q factors
+    → IsMultiple p q factors.p factors.q
     → HasWidePart limit (combination factors.p top factors.q low) → HasWidePart limit (combination p top q low)
 wide_part-lowest limit p top q low factors m h =
     subst (HasWidePart limit) (sym (combination-lowest p top q low factors m))
@@ -66,7 +67,8 @@ wide_part-lowest limit p top q low factors m h =
 
 -- the factors that the code reads are those that it was given
 pub multiple_read : (p q : ℤ) (factors : Factors) → SFits w64 p → SFits w64 q
-    → IsMultiple (to_z w64 (of_z w64 p)) (to_z w64 (of_z w64 q)) factors → IsMultiple p q factors
+    → IsMultiple (to_z w64 (of_z w64 p)) (to_z w64 (of_z w64 q)) factors.p factors.q
+    → IsMultiple p q factors.p factors.q
 multiple_read p q factors f g m =
     record {
       times = m.times;

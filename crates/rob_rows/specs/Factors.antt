@@ -2,12 +2,12 @@
 use Rattle.std.specs.Prelude.{◌≡◌, ℕ, ◌+◌, ◌*◌, ◌^◌, ◌<◌, ℤ, pos, ◌*ℤ◌, nat_abs, List, slice_index_or, length}
 use Rattle.rob_rows.specs.declared.factors.Factors.{Factors}
 
--- both factors are the same positive number times the two given
-pub record IsMultiple (p q : ℤ) (factors : Factors) : Type 0 where
+-- p and q are the same positive number times a and b
+pub record IsMultiple (p q a b : ℤ) : Type 0 where
   pub times : ℕ
   pub positive : 0 < times
-  pub first : p ≡ pos times *ℤ factors.p
-  pub second : q ≡ pos times *ℤ factors.q
+  pub first : p ≡ pos times *ℤ a
+  pub second : q ≡ pos times *ℤ b
 
 -- the sizes of the two products that make an entry sum to less than 2^63
 abbrev pub IsNarrow : Factors → List ℤ → List ℤ → Type 0

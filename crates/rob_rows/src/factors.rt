@@ -17,7 +17,7 @@ pub struct Factors {
 pub fn lowest(p: i64, q: i64) -> Factors
     requires p_size { nat_abs p < 2 ^ 62 }
     requires q_size { nat_abs q < 2 ^ 62 }
-    ensures multiple { IsMultiple p q result }
+    ensures multiple { IsMultiple p q result.p result.q }
     ensures p_size { nat_abs result.p < 2 ^ 62 }
     ensures q_size { nat_abs result.q < 2 ^ 62 }
     ensures lowest { gcd (nat_abs result.p) (nat_abs result.q) ≤ 1 }
