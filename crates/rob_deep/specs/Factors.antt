@@ -1,16 +1,9 @@
 -- The factors of a combination, and what is asked of them and of both rows.
-use Rattle.std.specs.Prelude.{◌≡◌, ◌≢◌, ℕ, ◌^◌, ◌<◌, ◌≤◌, ℤ, pos, ◌*ℤ◌, nat_abs, List, length}
+use Rattle.std.specs.Prelude.{◌≡◌, ◌≢◌, ℕ, ◌^◌, ◌<◌, ◌≤◌, ℤ, pos, nat_abs, List, length}
 use Rattle.rob_algebra.specs.Gcd.{gcd}
 use Rattle.rob_rows.specs.PrimitiveParts.{IsWithin, content}
 use Rattle.rob_deep.specs.Rows.{IsOwn}
 use Rattle.rob_deep.specs.declared.factors.Factors.{Factors}
-
--- both factors are the same positive number times the two given
-pub record IsMultiple (p q : ℤ) (factors : Factors) : Type 0 where
-  pub times : ℕ
-  pub positive : 0 < times
-  pub first : p ≡ pos times *ℤ factors.p
-  pub second : q ≡ pos times *ℤ factors.q
 
 -- nothing but 1 divides both, where not both are 0, and neither has more than 126 bits
 pub record AreLowest (factors : Factors) : Type 0 where

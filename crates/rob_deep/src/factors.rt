@@ -1,7 +1,8 @@
 //! The two factors of a combination, over their greatest common divisor.
 
 ghost use Rattle.std.specs.Prelude.{◌^◌, ◌<◌, nat_abs};
-ghost use Rattle.rob_deep.specs.Factors.{IsMultiple, AreLowest};
+ghost use Rattle.rob_rows.specs.Factors.{IsMultiple};
+ghost use Rattle.rob_deep.specs.Factors.{AreLowest};
 
 use rob_number::gcd128;
 
@@ -16,7 +17,7 @@ pub struct Factors {
 pub fn lowest(p: i128, q: i128) -> Factors
     requires p_size { nat_abs p < 2 ^ 126 }
     requires q_size { nat_abs q < 2 ^ 126 }
-    ensures multiple { IsMultiple p q result }
+    ensures multiple { IsMultiple p q result.p result.q }
     ensures lowest { AreLowest result }
 {
     let common = gcd128(p.unsigned_abs(), q.unsigned_abs());
