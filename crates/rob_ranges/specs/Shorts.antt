@@ -1,12 +1,9 @@
 -- Forms over two values at most, by factors of few bits.
 use Rattle.std.specs.Prelude.{ℤ, pos, ◌+ℤ◌, ◌*ℤ◌, List, [], ◌∷◌}
+-- the innermost value, or 0: it is read as the factor of the innermost value is
+pub use Rattle.rob_index.specs.Forms.{first_factor as first_of}
 use Rattle.rob_ranges.specs.declared.short.Short.{Short}
 use Rattle.rob_ranges.specs.DigitLists.{wide_of}
-
--- the innermost value, or 0
-abbrev pub first_of : List ℤ → ℤ
-first_of [] = pos 0
-first_of (x ∷ xs) = x
 
 -- the value around the innermost, or 0
 abbrev pub second_of : List ℤ → ℤ
