@@ -13,11 +13,12 @@ use Rattle.rob_syntax.specs.declared.syntax.Indexed.TheVariants as parsed
 use Rattle.rob_syntax.specs.declared.syntax.Shares.{Shares}
 use Rattle.rob_syntax.specs.Numbered.{numbered}
 use Rattle.rob_syntax.specs.Seen.{seen_numeral, seen_over, seen_ranged, seen_share, seen_statement}
+use Rattle.rob_syntax.specs.Plain.{is_nothing}
 use Rattle.rob_expand.specs.declared.line.Item.{Item}
 use Rattle.rob_expand.specs.declared.line.Line.{Line}
 use Rattle.rob_expand.specs.Statements.{IsLine, IsLineOf}
 use Rattle.rob_expand.specs.Names.{names_of, grown}
-use Rattle.rob_expand.specs.Growing.{is_empty, printed, add_name, line_names, lacks_members, is_bare}
+use Rattle.rob_expand.specs.Growing.{printed, add_name, line_names, lacks_members, is_bare}
 use Rattle.rob_expand.specs.Instances.{instance}
 use Rattle.rob_expand.proofs.WalkLemmas.{or_both, flat_mapped}
 use Rattle.rob_expand.proofs.InstanceLemmas.{instances_are}
@@ -116,34 +117,34 @@ list_along own s words old new xs ys same is =
     is ∙ ap (λ (es : List (List ℤ)). old ++ map (numbered words) (map (instance own printed s) es)) same
 
 -- ---- items without a setting
-pub empty_told : {A : Type 0} (xs : List A) → is_empty xs ≡ (length xs == 0)
+pub empty_told : {A : Type 0} (xs : List A) → is_nothing xs ≡ (length xs == 0)
 empty_told [] = refl
 empty_told (x ∷ xs) = sym (eqb-suc-zero (length xs))
 
 module _ (vs : List ℤ) where
   bare_step : (xs : List Item) (i : ℕ) (x : Item) → i < length xs → x ≡ get_or xs i x
-      → is_bare (drop i xs) vs ≡ (is_empty (extensions x.ranges vs) && is_bare (drop (i + 1) xs) vs)
+      → is_bare (drop i xs) vs ≡ (is_nothing (extensions x.ranges vs) && is_bare (drop (i + 1) xs) vs)
   bare_step xs i x inside here =
       at_drop_more (λ (l : List Item). is_bare l vs) xs i x inside
-      ∙ ap (λ (y : Item). is_empty (extensions y.ranges vs) && is_bare (drop (i + 1) xs) vs) (sym here)
+      ∙ ap (λ (y : Item). is_nothing (extensions y.ranges vs) && is_bare (drop (i + 1) xs) vs) (sym here)
 
   -- no setting of an item more
   pub bare_more : (xs : List Item) (i : ℕ) (x : Item) (es : List (List ℤ)) {result : Bool} → i < length xs
       → x ≡ get_or xs i x
-      → es ≡ extensions x.ranges vs → is_empty es ≡ true → is_bare (drop i xs) vs ≡ result
+      → es ≡ extensions x.ranges vs → is_nothing es ≡ true → is_bare (drop i xs) vs ≡ result
       → is_bare (drop (i + 1) xs) vs ≡ result
   bare_more xs i x es inside here es_are none so_far =
       sym (bare_step xs i x inside here
-      ∙ ap (λ (b : Bool). b && is_bare (drop (i + 1) xs) vs) (ap is_empty (sym es_are) ∙ none))
+      ∙ ap (λ (b : Bool). b && is_bare (drop (i + 1) xs) vs) (ap is_nothing (sym es_are) ∙ none))
       ∙ so_far
 
   -- a setting of an item
   pub bare_stop : (xs : List Item) (i : ℕ) (x : Item) (es : List (List ℤ)) {result : Bool} → i < length xs
       → x ≡ get_or xs i x
-      → es ≡ extensions x.ranges vs → is_empty es ≡ false → is_bare (drop i xs) vs ≡ result → false ≡ result
+      → es ≡ extensions x.ranges vs → is_nothing es ≡ false → is_bare (drop i xs) vs ≡ result → false ≡ result
   bare_stop xs i x es inside here es_are some so_far =
       sym (bare_step xs i x inside here
-      ∙ ap (λ (b : Bool). b && is_bare (drop (i + 1) xs) vs) (ap is_empty (sym es_are) ∙ some))
+      ∙ ap (λ (b : Bool). b && is_bare (drop (i + 1) xs) vs) (ap is_nothing (sym es_are) ∙ some))
       ∙ so_far
 
   pub bare_all : (xs : List Item) (i : ℕ) {result : Bool} → length xs ≤ i → is_bare (drop i xs) vs ≡ result

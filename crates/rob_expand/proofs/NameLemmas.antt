@@ -13,6 +13,7 @@ use Rattle.rob_index.specs.Fast.{names_in, nest_of}
 use Rattle.rob_index.specs.Rules.{is_long_name, plain_has_long, parts_have_long, factors_have_long, optional_has_long, has_no_member, is_no_statement}
 use Rattle.rob_index.proofs.ListLemmas.{or_false, any_append, any_map}
 use Rattle.rob_syntax.specs.Symbols.{add_word}
+use Rattle.rob_syntax.specs.Plain.{is_nothing}
 use Rattle.rob_expand.specs.declared.line.Item.{Item}
 use Rattle.rob_expand.specs.declared.line.Line.{Line}
 use Rattle.rob_expand.specs.declared.placed.Named.{Named}
@@ -23,7 +24,7 @@ use Rattle.rob_expand.specs.Placing.{placed_name, placed_tree}
 use Rattle.rob_expand.specs.Standing.{plain_at}
 use Rattle.rob_expand.specs.Statements.{IsLineOf, head_of, over_of, trees_of, items_of, name_item, member_item}
 use Rattle.rob_expand.specs.Names.{tree_names, part_names, factor_names, side_names, names_of, grown}
-use Rattle.rob_expand.specs.Growing.{is_empty, printed, add_name, printed_at, parts_names, factors_names, each_names, over_at, item_names, line_names, lacks_members, is_bare}
+use Rattle.rob_expand.specs.Growing.{printed, add_name, printed_at, parts_names, factors_names, each_names, over_at, item_names, line_names, lacks_members, is_bare}
 use Rattle.rob_expand.specs.Instances.{ref_at, tree_at, set_at, each_at, member_at, instance_at, instance}
 use Rattle.rob_expand.proofs.StepLemmas.{part_is}
 use Rattle.rob_expand.proofs.WalkLemmas.{or_both, join_both, flat_mapped}
@@ -246,7 +247,7 @@ no_member_joined : (xs ys : List Member) → has_no_member (xs ++ ys) ≡ (has_n
 no_member_joined [] ys = refl
 no_member_joined (x ∷ xs) ys = refl
 
-no_member_mapped : {A : Type 0} (f : A → Member) (xs : List A) → has_no_member (map f xs) ≡ is_empty xs
+no_member_mapped : {A : Type 0} (f : A → Member) (xs : List A) → has_no_member (map f xs) ≡ is_nothing xs
 no_member_mapped f [] = refl
 no_member_mapped f (x ∷ xs) = refl
 

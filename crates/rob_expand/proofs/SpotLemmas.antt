@@ -8,6 +8,7 @@ use Rattle.std.proofs.lemmas.List.{at_drop_more}
 use Rattle.std.proofs.lemmas.Bool.{eq-eqb, ne_eqb, leb-true, leb-false}
 use Rattle.std.proofs.lemmas.Option.{same_Some, none-some}
 use Rattle.rob_algebra.proofs.ListLemmas.{map_map, drop_past}
+use Rattle.rob_syntax.specs.Plain.{is_nothing}
 use Rattle.rob_index.specs.Forms.{extensions}
 use Rattle.rob_index.specs.Rules.{is_long_name}
 use Rattle.rob_index.specs.Statements.{Name}
@@ -15,7 +16,7 @@ use Rattle.rob_index.proofs.ListLemmas.{both_true, or_assoc, any_append}
 use Rattle.rob_expand.specs.declared.judging.Finding.{Finding}
 use Rattle.rob_expand.specs.declared.line.Item.{Item}
 use Rattle.rob_expand.specs.declared.spot.Spot.{Spot}
-use Rattle.rob_expand.specs.Growing.{add_name, is_empty, item_names, named_at}
+use Rattle.rob_expand.specs.Growing.{add_name, item_names, named_at}
 use Rattle.rob_expand.specs.Inner.{is_long_in}
 use Rattle.rob_expand.specs.Judging.{worse, worst, item_found}
 use Rattle.rob_expand.specs.Lines.{entries_tokens, entry_count, items_left}
@@ -29,7 +30,7 @@ use Rattle.rob_expand.proofs.RoomLemmas.{left_some, left_none, left_zero}
 use Rattle.rob_expand.proofs.WalkLemmas.{flat_mapped}
 
 -- ---- an idle item
-empty_is : {A : Type 0} (xs : List A) → is_empty xs ≡ true → xs ≡ []
+empty_is : {A : Type 0} (xs : List A) → is_nothing xs ≡ true → xs ≡ []
 empty_is [] h = refl
 empty_is (x ∷ xs) h = cc
 
@@ -40,19 +41,19 @@ not_is false h = refl
 idle_none : (short : Bool) (x : Item) (vs : List ℤ) → is_idle short x vs ≡ true → extensions x.ranges vs ≡ []
 idle_none short x vs h =
     empty_is (extensions x.ranges vs)
-    (both_true (is_empty (extensions x.ranges vs)) (not (short && is_long_in x.ranges vs)) h).0
+    (both_true (is_nothing (extensions x.ranges vs)) (not (short && is_long_in x.ranges vs)) h).0
 
 idle_short : (x : Item) (vs : List ℤ) → is_idle true x vs ≡ true → is_long_in x.ranges vs ≡ false
 idle_short x vs h =
     not_is (is_long_in x.ranges vs)
-    (both_true (is_empty (extensions x.ranges vs)) (not (is_long_in x.ranges vs)) h).1
+    (both_true (is_nothing (extensions x.ranges vs)) (not (is_long_in x.ranges vs)) h).1
 
 pub idle_if_short : (x : Item) (vs : List ℤ) → extensions x.ranges vs ≡ [] → is_long_in x.ranges vs ≡ false
     → is_idle true x vs ≡ true
-idle_if_short x vs none short = λ i. is_empty (none i) && not (short i)
+idle_if_short x vs none short = λ i. is_nothing (none i) && not (short i)
 
 pub idle_if_none : (x : Item) (vs : List ℤ) → extensions x.ranges vs ≡ [] → is_idle false x vs ≡ true
-idle_if_none x vs none = λ i. is_empty (none i) && true
+idle_if_none x vs none = λ i. is_nothing (none i) && true
 
 -- ---- it adds nothing
 module _ (vs : List ℤ) where

@@ -8,6 +8,7 @@ use Rattle.rob_index.specs.Statements as stated
 use Rattle.rob_index.specs.Forms.{Form, value_of, extensions}
 use Rattle.rob_index.specs.Rules.{greatest_index, has_no_member, is_long_name}
 use Rattle.rob_syntax.specs.Symbols.{add_word}
+use Rattle.rob_syntax.specs.Plain.{is_nothing}
 use Rattle.rob_expand.specs.declared.line.Item.{Item}
 use Rattle.rob_expand.specs.declared.line.Line.{Line}
 use Rattle.rob_expand.specs.declared.name.Refusal.{Refusal}
@@ -23,11 +24,6 @@ use Rattle.rob_expand.specs.Standing.{name_at, plain_at, parts_at, factors_at}
 abbrev pub HasRefusal : Bool → Refusal → Type 0
 HasRefusal none NoStatement = none ≡ true
 HasRefusal none Memory = Unit {0}
-
--- a list without items
-abbrev pub is_empty : {A : Type 0} → List A → Bool
-is_empty [] = true
-is_empty (x ∷ xs) = false
 
 -- what is printed for an index: its value, where it is within bounds
 abbrev pub printed : ℤ → ℕ
@@ -85,4 +81,4 @@ lacks_members _ = false
 -- none of the items has a setting
 abbrev pub is_bare : List Item → List ℤ → Bool
 is_bare [] vs = true
-is_bare (x ∷ xs) vs = is_empty (extensions x.ranges vs) && is_bare xs vs
+is_bare (x ∷ xs) vs = is_nothing (extensions x.ranges vs) && is_bare xs vs

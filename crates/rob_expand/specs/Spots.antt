@@ -2,16 +2,16 @@
 -- count too, these alone have one there.
 use Rattle.std.specs.Prelude.{◌≡◌, ℕ, ℤ, ◌&&◌, not, Bool, false, List, [], ◌∷◌, take, drop, if◌then◌else◌}
 use Rattle.std.specs.List.{flat_map}
+use Rattle.rob_syntax.specs.Plain.{is_nothing}
 use Rattle.rob_index.specs.Forms.{extensions}
 use Rattle.rob_expand.specs.declared.line.Item.{Item}
 use Rattle.rob_expand.specs.declared.spot.Spot.{Spot}
-use Rattle.rob_expand.specs.Growing.{is_empty}
 use Rattle.rob_expand.specs.Inner.{is_long_in}
 
 -- the ranges of an item have no setting at these values; and, where it has to be short, none of them has more than 100
 -- values
 abbrev pub is_idle : Bool → Item → List ℤ → Bool
-is_idle short x vs = is_empty (extensions x.ranges vs) && not (short && is_long_in x.ranges vs)
+is_idle short x vs = is_nothing (extensions x.ranges vs) && not (short && is_long_in x.ranges vs)
 
 -- the items that aren't idle
 abbrev pub busy : Bool → List Item → List ℤ → List Item
