@@ -1,13 +1,11 @@
 -- The classes of bytes of a model text, which is ASCII outside its comments.
 use Rattle.std.specs.Prelude.{ℕ, Bool, ◌||◌, ◌&&◌, ◌==◌, nat_le, not}
+-- a digit, 48 to 57
+pub use Rattle.std.specs.Char.{is_ascii_digit as is_digit}
 
 -- a letter (97 to 122, 65 to 90) or `_` (95)
 abbrev pub begins_word : ℕ → Bool
 begins_word b = (nat_le 97 b && nat_le b 122) || (nat_le 65 b && nat_le b 90) || b == 95
-
--- a digit, 48 to 57
-abbrev pub is_digit : ℕ → Bool
-is_digit b = nat_le 48 b && nat_le b 57
 
 -- a letter, a digit or `_`
 abbrev pub goes_on_word : ℕ → Bool
