@@ -1,6 +1,8 @@
 -- The number that a field is: an optional `-`, digits, and behind a `/` further digits, with spaces and tabs round it.
 -- Leading zeros are allowed.
 use Rattle.std.specs.Prelude.{ℕ, ◌+◌, ◌*◌, ◌-◌, nat_le, List, [], ◌∷◌, Bool, true, ◌&&◌, ◌||◌, ◌==◌, Option, Some, None, if◌then◌else◌, pos, map}
+-- `0` to `9`
+pub use Rattle.std.specs.Char.{is_ascii_digit as is_digit}
 use Rattle.rob_algebra.specs.Fraction.{Fraction, of_pair, neg_ℚ}
 use Rattle.rob_model.specs.Within.{◌>>=◌}
 use Rattle.rob_replay.specs.Gathering.{all_of}
@@ -23,10 +25,6 @@ all_blank (b ∷ bytes) = is_blank b && all_blank bytes
 abbrev pub before_blanks : List ℕ → List ℕ
 before_blanks [] = []
 before_blanks (b ∷ bytes) = if is_blank b && all_blank bytes then [] else b ∷ before_blanks bytes
-
--- `0` to `9`
-abbrev pub is_digit : ℕ → Bool
-is_digit b = nat_le 48 b && nat_le b 57
 
 -- the bytes are digits
 abbrev pub all_digits : List ℕ → Bool
