@@ -5,11 +5,11 @@ use Rattle.std.specs.Prelude.{ℤ, pos, nat_abs, int_lt, ◌||◌, Option, Some,
 use Rattle.std.specs.Fmt.{decimal}
 use Rattle.std.specs.List.{flat_map, list_any}
 use Rattle.rob_algebra.proofs.ListLemmas.{map_map}
+use Rattle.rob_algebra.specs.Items.{Each}
 use Rattle.rob_index.specs.Statements.{Name, Parts, Factors, Index, Ref, Range, Tree, TreeParts, TreeFactors, Ranged, Share, Indexed}
 use Rattle.rob_index.specs.Statements as stated
 use Rattle.rob_index.specs.Expansion.{Setting, settings, with_value, index_value, index_text, ref_name, optional_name, summed, expand_each, expand_tree, expand_parts, expand_factors, member_of, ranges_of, statement_at, expand}
 use Rattle.rob_index.specs.Membership.{Among, here, there}
-use Rattle.rob_index.specs.Refs.{EachItem}
 use Rattle.rob_index.specs.Rules.{greatest_index, ref_places, optional_places, range_places, under, tree_places, part_places, factor_places, each_places, sides_places, inner_places, places, is_out_at, is_out}
 use Rattle.rob_index.specs.Forms.{Form, value_of, values_of, extensions}
 use Rattle.rob_index.specs.Fast.{setting_of, index_form, ends_of, nest_of, names_in}
@@ -52,7 +52,7 @@ module _ (words : List Name) where
       (ap printed (sym (index_is names vs x)) ∙ printed_in (index_value (setting_of names vs) x) within)
 
   indices_printed : (names : List ℕ) (vs : List ℤ) (xs : List Index)
-      → EachItem (λ (x : Index). is_out_at x (setting_of names vs) ≡ false) xs
+      → Each (λ (x : Index). is_out_at x (setting_of names vs) ≡ false) xs
       → flat_map (λ (f : Form). 95 ∷ decimal (printed (value_of f vs))) (map (index_form names) xs)
       ≡ flat_map (index_text words (setting_of names vs)) xs
   indices_printed names vs [] within = refl

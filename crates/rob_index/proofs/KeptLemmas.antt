@@ -3,6 +3,7 @@
 use Rattle.std.proofs.Common.{◌≡◌, ℕ, ◌+◌, ◌≤◌, Bool, true, false, List, [], ◌∷◌, ◌++◌, Option, Some, None, refl, sym, ap, ◌∙◌, subst, arith, cond}
 use Rattle.std.specs.List.{find}
 use Rattle.std.proofs.lemmas.Bool.{leb-true}
+use Rattle.rob_algebra.specs.Items.{Each}
 use Rattle.rob_index.specs.Symbols.{Symbol}
 use Rattle.rob_index.specs.Statements.{Name, Statement, Tree, Indexed}
 use Rattle.rob_index.specs.Counting.{lines_tokens}
@@ -10,7 +11,6 @@ use Rattle.rob_index.specs.Expansion.{expand}
 use Rattle.rob_index.specs.Kept.{IsOfLine}
 use Rattle.rob_index.specs.Membership.{Among, here, there}
 use Rattle.rob_index.specs.Reading.{State, later_first, either_first, line_has, first_fault, behind, Follows}
-use Rattle.rob_index.specs.Refs.{EachItem}
 use Rattle.rob_index.specs.Rules.{IndexFault, index_unknown, range_too_long, index_out, too_much, no_statement, has_fault, in_order, most_tokens}
 use Rattle.rob_index.specs.Search.{has_room, named}
 use Rattle.rob_index.proofs.SearchLemmas.{named_first, named_some}
@@ -112,8 +112,8 @@ module _ (limit : ℕ) (words : List Name) (Known Later : Type 0) (order : List 
   OfLine lines p = IsOfLine limit words Known is_declared Is lines p
 
   -- one line more in front
-  of_more : (line : List Symbol) (lines : List (List Symbol)) (list : List Statement) → EachItem (OfLine lines) list
-      → EachItem (OfLine (line ∷ lines)) list
+  of_more : (line : List Symbol) (lines : List (List Symbol)) (list : List Statement) → Each (OfLine lines) list
+      → Each (OfLine (line ∷ lines)) list
   of_more line lines [] h = tt
   of_more line lines (p ∷ list) h = (
     record {
@@ -133,7 +133,7 @@ module _ (limit : ℕ) (words : List Name) (Known Later : Type 0) (order : List 
   of_one : (line : List Symbol) (lines : List (List Symbol)) (e : St) (s : Indexed Tree) → Is line s
       → named limit words (is_declared e.known) e.total s ≡ None
       → (ps : List Statement) → ((p : Statement) → Among p ps → Among p (expand words s))
-      → EachItem (OfLine (line ∷ lines)) ps
+      → Each (OfLine (line ∷ lines)) ps
   of_one line lines e s is none [] within = tt
   of_one line lines e s is none (p ∷ ps) within = (
     record {
@@ -150,11 +150,11 @@ module _ (limit : ℕ) (words : List Name) (Known Later : Type 0) (order : List 
   )
 
   pub all_of_lines : (lines : List (List Symbol)) (e : St) (list : List Statement) (f : St) → Reading e lines list f
-      → EachItem (OfLine lines) list
-  all_of_lines [] e list f h = subst (EachItem (OfLine [])) (sym h.0) tt
+      → Each (OfLine lines) list
+  all_of_lines [] e list f h = subst (Each (OfLine [])) (sym h.0) tt
   all_of_lines ([] ∷ lines) e list f h = of_more [] lines list (all_of_lines lines e list f h)
   all_of_lines ((x ∷ xs) ∷ lines) e list f h =
-      subst (EachItem (OfLine ((x ∷ xs) ∷ lines))) (sym h.4)
+      subst (Each (OfLine ((x ∷ xs) ∷ lines))) (sym h.4)
       (each_join (OfLine ((x ∷ xs) ∷ lines)) (expand words h.0) h.1
       (of_one (x ∷ xs) lines e h.0 h.2 (none_named e h.0 h.3) (expand words h.0) (λ p m. m))
       (of_more (x ∷ xs) lines h.1 (all_of_lines lines (after e h.0) h.1 f h.5)))

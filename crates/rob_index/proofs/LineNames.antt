@@ -1,18 +1,19 @@
 -- What holds of the names of a line holds of the refs of its statement.
 use Rattle.std.proofs.Common.{ℕ, true, false, List, [], ◌∷◌, ◌++◌, subst}
 use Rattle.std.specs.Prelude.{Option, Some, None}
+use Rattle.rob_algebra.specs.Items.{Each}
 use Rattle.rob_index.specs.Symbols.{Symbol, sign, word}
 use Rattle.rob_index.specs.Symbols as is
 use Rattle.rob_index.specs.Statements.{Ref, Ranged, Share, Sides, Indexed, uncertain, over, set, budget, variable, adaptive, goal, row, Tree}
 use Rattle.rob_index.specs.Grammar.{Factor, Factors, Term, Terms, Expr, number, ref, parens, sum, no_factors, times, term, no_terms, signed, expr, spell_bounds, spell_expr, spell_factor, spell_factors, spell_list, spell_more, spell_number, spell_over, spell_range, spell_ranges, spell_ref, spell_signed, spell_term, spell_terms, tree_expr, tree_factor, tree_factors, tree_term, tree_terms}
 use Rattle.rob_index.specs.Lines.{IsStatement, spell_line, spell_ranged, spell_rel, spell_share, spell_sides, statement_of, trees_of}
 use Rattle.rob_index.specs.Reading.{Version, one, two, IsOf}
-use Rattle.rob_index.specs.Refs.{EachFactorRef, EachItem, EachPartRef, EachRef, EachRefOf, EachSideRef, IfName, IfThere}
+use Rattle.rob_index.specs.Refs.{EachFactorRef, EachPartRef, EachRef, EachRefOf, EachSideRef, IfName, IfThere}
 
 module _ (P : ℕ → Type 0) where
   -- it holds of each name among the symbols
   abbrev Fine : List Symbol → Type 0
-  Fine xs = EachItem (IfName P) xs
+  Fine xs = Each (IfName P) xs
 
   abbrev Named : Ref → Type 0
   Named r = P r.name
@@ -77,7 +78,7 @@ module _ (P : ℕ → Type 0) where
 
   -- items with commas between them, each with its ranges
   more_refs : {A : Type 0} (spell : A → List Symbol) (name : A → Ref) → ((x : A) → Fine (spell x) → Named (name x))
-      → (xs : List (Ranged A)) → Fine (spell_more (spell_ranged spell) xs) → EachItem (λ x. Named (name x.item)) xs
+      → (xs : List (Ranged A)) → Fine (spell_more (spell_ranged spell) xs) → Each (λ x. Named (name x.item)) xs
   more_refs spell name to [] h = tt
   more_refs spell name to (x ∷ xs) h =
       let first = front (spell_ranged spell x) (spell_more (spell_ranged spell) xs) h.1 in (
@@ -86,7 +87,7 @@ module _ (P : ℕ → Type 0) where
       )
 
   list_refs : {A : Type 0} (spell : A → List Symbol) (name : A → Ref) → ((x : A) → Fine (spell x) → Named (name x))
-      → (xs : List (Ranged A)) → Fine (spell_list (spell_ranged spell) xs) → EachItem (λ x. Named (name x.item)) xs
+      → (xs : List (Ranged A)) → Fine (spell_list (spell_ranged spell) xs) → Each (λ x. Named (name x.item)) xs
   list_refs spell name to [] h = tt
   list_refs spell name to (x ∷ xs) h =
       let first = front (spell_ranged spell x) (spell_more (spell_ranged spell) xs) h in (

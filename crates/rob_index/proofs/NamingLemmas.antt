@@ -3,11 +3,12 @@ use Rattle.std.proofs.Common.{◌≡◌, ◌≤◌, Bool, true, false, ◌||◌,
 use Rattle.std.specs.Prelude.{ℤ, Option, Some, None}
 use Rattle.std.specs.List.{list_any}
 use Rattle.std.proofs.lemmas.Bool.Decides.{nat_tests}
+use Rattle.rob_algebra.specs.Items.{Each}
 use Rattle.rob_index.specs.Statements.{Name, Plain, Parts, Factors, Member, Statement, Index, Ref, Range, Tree, TreeParts, TreeFactors, Ranged, Sides, Indexed}
 use Rattle.rob_index.specs.Statements as stated
 use Rattle.rob_index.specs.Expansion.{Setting, settings, with_value, values, ref_name, optional_name, added, summed, expand_each, expand_tree, expand_parts, expand_factors, member_of, ranges_of, statement_at, expand}
 use Rattle.rob_index.specs.Membership.{Among, here, there}
-use Rattle.rob_index.specs.Refs.{EachItem, IfThere, EachName, EachPartName, EachFactorName, EachSideName, EachNameOf, EachRef, EachPartRef, EachFactorRef, EachSideRef, EachRefOf, IsNameOf}
+use Rattle.rob_index.specs.Refs.{IfThere, EachName, EachPartName, EachFactorName, EachSideName, EachNameOf, EachRef, EachPartRef, EachFactorRef, EachSideRef, EachRefOf, IsNameOf}
 use Rattle.rob_index.specs.Rules.{of_index, ref_places, optional_places, range_places, under, tree_places, part_places, factor_places, each_places, sides_places, inner_places, places, is_out_at, is_out, longest_name, is_long_name, plain_has_long, parts_have_long, factors_have_long, optional_has_long, has_no_member, is_no_statement}
 use Rattle.rob_index.proofs.ExpansionLemmas.{settings-append}
 use Rattle.rob_index.proofs.ListLemmas.{not_true, any_from, any_append, flat_among}
@@ -25,12 +26,12 @@ pub none_among : {A : Type 0} (p : A → Bool) (xs : List A) (x : A) → list_an
 none_among p xs x h m = not_true (p x) (λ (yes : p x ≡ true). let all = any_from p xs x m yes in cc)
 
 -- ---- items
-pub each_join : {A : Type 0} (P : A → Type 0) (xs ys : List A) → EachItem P xs → EachItem P ys → EachItem P (xs ++ ys)
+pub each_join : {A : Type 0} (P : A → Type 0) (xs ys : List A) → Each P xs → Each P ys → Each P (xs ++ ys)
 each_join P [] ys h k = k
 each_join P (x ∷ xs) ys h k = (h.0, each_join P xs ys h.1 k)
 
 each_mapped : {A B : Type 0} (P : B → Type 0) (f : A → B) (xs : List A) → ((x : A) → Among x xs → P (f x))
-    → EachItem P (map f xs)
+    → Each P (map f xs)
 each_mapped P f [] h = tt
 each_mapped P f (x ∷ xs) h = (h x here, each_mapped P f xs (λ y m. h y (there m)))
 
@@ -55,7 +56,7 @@ inside_one above r setting v m n =
 
 -- ---- indices within bounds
 pub indices_within : (above : List Range) (xs : List Index) → list_any is_out (map (of_index above) xs) ≡ false
-    → (setting : Setting) → Among setting (settings above []) → EachItem (λ (x : Index). is_out_at x setting ≡ false) xs
+    → (setting : Setting) → Among setting (settings above []) → Each (λ (x : Index). is_out_at x setting ≡ false) xs
 indices_within above [] h setting m = tt
 indices_within above (x ∷ xs) h setting m =
     let parts =
@@ -127,9 +128,9 @@ module _ (words : List Name) (Q : Ref → Type 0) where
   -- items, each inside its own ranges
   items_named : {A B : Type 0} (make : Setting → A → B) (ref : A → Ref) (P : B → Type 0)
       → ((setting : Setting) (x : A) → Named (ref_name words setting (ref x)) → P (make setting x))
-      → (above : List Range) (xs : List (Ranged A)) → EachItem (λ x. Q (ref x.item)) xs
+      → (above : List Range) (xs : List (Ranged A)) → Each (λ x. Q (ref x.item)) xs
       → list_any is_out (each_places ref above xs) ≡ false
-      → (setting : Setting) → Among setting (settings above []) → EachItem P (expand_each make setting xs)
+      → (setting : Setting) → Among setting (settings above []) → Each P (expand_each make setting xs)
   items_named make ref P to above [] q h setting m = tt
   items_named make ref P to above (x ∷ xs) q h setting m =
       let own = range_places above x.ranges in
@@ -216,13 +217,13 @@ optional_short None h = tt
 optional_short (Some n) h = short n h
 
 members_short : (ms : List Member) → list_any (λ (m : Member). is_long_name m.name) ms ≡ false
-    → EachItem (λ (m : Member). IsShort m.name) ms
+    → Each (λ (m : Member). IsShort m.name) ms
 members_short [] h = tt
 members_short (m ∷ ms) h =
     let none = neither (is_long_name m.name) (list_any (λ (x : Member). is_long_name x.name) ms) h in
     (short m.name none.0, members_short ms none.1)
 
-names_short : (ns : List Name) → list_any is_long_name ns ≡ false → EachItem IsShort ns
+names_short : (ns : List Name) → list_any is_long_name ns ≡ false → Each IsShort ns
 names_short [] h = tt
 names_short (n ∷ ns) h =
     let none = neither (is_long_name n) (list_any is_long_name ns) h in (short n none.0, names_short ns none.1)

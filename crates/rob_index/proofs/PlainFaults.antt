@@ -3,12 +3,13 @@ use Rattle.std.proofs.Common.{◌≡◌, ℕ, ◌+◌, ◌≤◌, ◌||◌, Bool
 use Rattle.std.specs.Prelude.{length}
 use Rattle.std.specs.List.{find, list_any}
 use Rattle.std.proofs.lemmas.Bool.{le-leb, le-ltb}
+use Rattle.rob_algebra.specs.Items.{Each}
 use Rattle.rob_index.specs.Statements.{Name, Plain, Parts, Factors, Member, Statement, Tree, Indexed}
 use Rattle.rob_index.specs.Statements as stated
 use Rattle.rob_index.specs.Counting.{line_tokens, lines_tokens}
 use Rattle.rob_index.specs.Expansion.{expand}
 use Rattle.rob_index.specs.PlainLines.{IsPlainLine, itself_line}
-use Rattle.rob_index.specs.Refs.{EachFactorName, EachItem, EachName, EachNameOf, EachPartName, EachSideName, HasMember, IfThere}
+use Rattle.rob_index.specs.Refs.{EachFactorName, EachName, EachNameOf, EachPartName, EachSideName, HasMember, IfThere}
 use Rattle.rob_index.specs.Rules.{Inside, index_unknown, range_too_long, index_out, too_much, no_statement, most_tokens, longest_name, is_long, is_out, is_unknown, has_great_digits, is_long_name, plain_has_long, parts_have_long, factors_have_long, optional_has_long, has_no_member, is_no_statement, has_fault, places}
 use Rattle.rob_index.specs.Search.{has_room, named}
 use Rattle.rob_index.proofs.ListLemmas.{or_false}
@@ -46,14 +47,14 @@ optional_not_long : (o : Option Name) → IfThere IsShort o → optional_has_lon
 optional_not_long None h = refl
 optional_not_long (Some n) h = not_long n h
 
-members_not_long : (ms : List Member) → EachItem (λ (m : Member). IsShort m.name) ms
+members_not_long : (ms : List Member) → Each (λ (m : Member). IsShort m.name) ms
     → list_any (λ (m : Member). is_long_name m.name) ms ≡ false
 members_not_long [] h = refl
 members_not_long (m ∷ ms) h =
     both_false (is_long_name m.name) (list_any (λ (x : Member). is_long_name x.name) ms) (not_long m.name h.0)
     (members_not_long ms h.1)
 
-names_not_long : (ns : List Name) → EachItem IsShort ns → list_any is_long_name ns ≡ false
+names_not_long : (ns : List Name) → Each IsShort ns → list_any is_long_name ns ≡ false
 names_not_long [] h = refl
 names_not_long (n ∷ ns) h =
     both_false (is_long_name n) (list_any is_long_name ns) (not_long n h.0) (names_not_long ns h.1)

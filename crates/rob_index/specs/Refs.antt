@@ -1,16 +1,12 @@
 -- What holds of each name of a plain statement, and of each ref of a statement with indices.
-use Rattle.std.specs.Prelude.{◌≡◌, ℕ, false, List, [], ◌∷◌, Option, Some, None}
+use Rattle.std.specs.Prelude.{◌≡◌, ℕ, false, List, [], Option, Some, None}
+use Rattle.rob_algebra.specs.Items.{Each}
 use Rattle.rob_index.specs.Statements.{Name, Plain, Parts, Factors, Member, Statement, Index, Ref, Tree, TreeParts, TreeFactors, Sides, Indexed}
 use Rattle.rob_index.specs.Statements as stated
 use Rattle.rob_index.specs.Symbols.{Symbol}
 use Rattle.rob_index.specs.Symbols as is
 use Rattle.rob_index.specs.Expansion.{Setting, ref_name}
 use Rattle.rob_index.specs.Rules.{is_out_at}
-
--- it holds of each item
-abbrev pub EachItem : {A : Type 0} → (A → Type 0) → List A → Type 0
-EachItem P [] = Unit {0}
-EachItem P (x ∷ xs) = P x × EachItem P xs
 
 -- it holds of the item, where there is one
 abbrev pub IfThere : {A : Type 0} → (A → Type 0) → Option A → Type 0
@@ -43,9 +39,9 @@ module _ (P : Name → Type 0) where
   EachNameOf (stated.uncertain n b) = P n
   EachNameOf (stated.over n) = P n
   EachNameOf (stated.set l r p o) = EachSideName l p o
-  EachNameOf (stated.budget n ms o) = EachItem (λ (m : Member). P m.name) ms × IfThere P o
+  EachNameOf (stated.budget n ms o) = Each (λ (m : Member). P m.name) ms × IfThere P o
   EachNameOf (stated.variable n b) = P n
-  EachNameOf (stated.adaptive n on b) = P n × EachItem P on
+  EachNameOf (stated.adaptive n on b) = P n × Each P on
   EachNameOf (stated.goal s e o) = EachName e × IfThere P o
   EachNameOf (stated.row n l r p o) = P n × EachSideName l p o
 
@@ -81,9 +77,9 @@ module _ (Q : Ref → Type 0) where
   EachRefOf (stated.uncertain r b rs) = Q r
   EachRefOf (stated.over r rs) = Q r
   EachRefOf (stated.set s rs) = EachSideRef s
-  EachRefOf (stated.budget n ms o) = EachItem (λ m. Q m.item.name) ms × IfThere Q o
+  EachRefOf (stated.budget n ms o) = Each (λ m. Q m.item.name) ms × IfThere Q o
   EachRefOf (stated.variable r b rs) = Q r
-  EachRefOf (stated.adaptive r on b rs) = Q r × EachItem (λ x. Q x.item) on
+  EachRefOf (stated.adaptive r on b rs) = Q r × Each (λ x. Q x.item) on
   EachRefOf (stated.goal s e o rs) = EachRef e × IfThere Q o
   EachRefOf (stated.row r s rs) = Q r × EachSideRef s
 
@@ -98,4 +94,4 @@ pub record IsNameOf (words : List Name) (Q : Ref → Type 0) (n : Name) : Type 0
   pub setting : Setting
   pub holds : Q named
   pub name_is : n ≡ ref_name words setting named
-  pub within : EachItem (λ (x : Index). is_out_at x setting ≡ false) named.indices
+  pub within : Each (λ (x : Index). is_out_at x setting ≡ false) named.indices

@@ -2,12 +2,13 @@
 
 ghost use Rattle.std.specs.Prelude.{◌≡◌, ℕ, ◌≤◌, Bool, true, false, List, length};
 ghost use Rattle.std.specs.List.{list_any};
+ghost use Rattle.rob_algebra.specs.Items.{Each};
 ghost use Rattle.rob_index.specs.Statements.{Name, Statement, Ref, Tree, Indexed};
 ghost use Rattle.rob_index.specs.Counting.{line_tokens};
 ghost use Rattle.rob_index.specs.Depths.{line_depth};
 ghost use Rattle.rob_index.specs.Expansion.{expand};
 ghost use Rattle.rob_index.specs.Membership.{Among};
-ghost use Rattle.rob_index.specs.Refs.{EachItem, EachNameOf, EachRefOf, IfName, IsNameOf};
+ghost use Rattle.rob_index.specs.Refs.{EachNameOf, EachRefOf, IfName, IsNameOf};
 ghost use Rattle.rob_index.specs.Reading.{Version, IsOf};
 ghost use Rattle.rob_index.specs.Symbols.{Symbol};
 ghost use Rattle.rob_index.specs.Renaming.{renamed};
@@ -23,7 +24,7 @@ pub fn names()
         → (p : Statement) → Among p (expand words s) → EachNameOf (IsNameOf words (λ r. test r ≡ true)) p }
     ensures of_line { (test : ℕ → Bool) (v : Version) (symbols : List Symbol) (s : Indexed Tree)
         → IsOf v symbols s
-        → EachItem (IfName (λ k. test k ≡ true)) symbols → EachRefOf (λ r. test r.name ≡ true) s }
+        → Each (IfName (λ k. test k ≡ true)) symbols → EachRefOf (λ r. test r.name ≡ true) s }
     ensures short { (p : Statement) → is_no_statement p ≡ false
         → EachNameOf (λ n. length n ≤ longest_name) p }
 {}

@@ -1,9 +1,9 @@
 //! Which lines read as which plain statements.
 
 ghost use Rattle.std.specs.Prelude.{◌≡◌, ℕ, ◌+◌, ◌≤◌, ◌⊎◌, Bool, List};
+ghost use Rattle.rob_algebra.specs.Items.{Each};
 ghost use Rattle.rob_index.specs.Counting.{lines_tokens};
 ghost use Rattle.rob_index.specs.Kept.{IsOfLine};
-ghost use Rattle.rob_index.specs.Refs.{EachItem};
 ghost use Rattle.rob_index.specs.Rules.{most_tokens};
 ghost use Rattle.rob_index.specs.Symbols.{Symbol};
 ghost use Rattle.rob_index.specs.Statements.{Name, Statement};
@@ -70,5 +70,5 @@ pub fn kept<Known, Later>()
         (e : State limit words Known Later order has_later step is_declared (IsOf v)) (list : List Statement)
         (f : State limit words Known Later order has_later step is_declared (IsOf v))
         → Follows limit words Known Later order has_later step is_declared (IsOf v) e lines list f
-        → EachItem (IsOfLine limit words Known is_declared (IsOf v) lines) list }
+        → Each (IsOfLine limit words Known is_declared (IsOf v) lines) list }
 {}

@@ -8,7 +8,6 @@ ghost use Rattle.rob_meaning.specs.RobustModel.{RobustModel};
 ghost use Rattle.rob_model.specs.Limits.{IsWithinLimits};
 ghost use Rattle.rob_parse.specs.Modelled.{ReadsModel};
 ghost use Rattle.rob_index.specs.Expansion.{Setting, ref_name, word_at};
-ghost use Rattle.rob_index.specs.Refs.{EachItem};
 ghost use Rattle.rob_index.specs.Rules.{is_out_at};
 ghost use Rattle.rob_index.specs.Statements.{Index, Ref};
 ghost use Rattle.rob_syntax.specs.Names.{IsSpelled, IsWord};
@@ -64,7 +63,7 @@ pub fn well_named()
 pub fn expanded_names()
     ensures spelled { (words : List (List ℕ)) (setting : Setting) (r : Ref)
         → IsWord (word_at words r.name) → keyword_among keywords (word_at words r.name) ≡ None
-        → EachItem (λ (x : Index). is_out_at x setting ≡ false) r.indices
+        → Each (λ (x : Index). is_out_at x setting ≡ false) r.indices
         → length (ref_name words setting r) ≤ longest_name → IsSpelled (ref_name words setting r) }
 {}
 

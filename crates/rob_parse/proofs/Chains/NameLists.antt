@@ -1,19 +1,15 @@
 -- The names of a plain statement, each and in a list.
 use Rattle.std.proofs.Common.{List, [], ◌∷◌, ◌++◌, map}
 use Rattle.std.specs.Prelude.{Option, Some, None, option_to_list}
-use Rattle.rob_index.specs.Refs.{EachFactorName, EachItem, EachName, EachNameOf, EachPartName, EachSideName, IfThere}
+use Rattle.rob_index.specs.Refs.{EachFactorName, EachName, EachNameOf, EachPartName, EachSideName, IfThere}
 use Rattle.rob_index.specs.Statements as stated
 use Rattle.rob_index.specs.Statements.{Factors, Member, Name, Parts, Plain, Statement}
-use Rattle.rob_meaning.proofs.EachLemmas.{each_append, each_left, each_right}
+use Rattle.rob_meaning.proofs.EachLemmas.{each_append, each_left, each_right, each_map}
 use Rattle.rob_meaning.specs.Places.{Each}
 use Rattle.rob_rules.specs.Names.{factor_names, names_of, part_names, side_names, tree_names}
 
 -- ---- what holds of all holds of each
 module _ (P : Name → Type 0) where
-  from_items : (ns : List Name) → Each P ns → EachItem P ns
-  from_items [] h = tt
-  from_items (n ∷ ns) h = (h.0, from_items ns h.1)
-
   mutual
     from_tree : (p : Plain) → Each P (tree_names p) → EachName P p
     from_tree (stated.number n) h = tt
@@ -40,7 +36,7 @@ module _ (P : Name → Type 0) where
   from_over None h = tt
   from_over (Some n) h = h.0
 
-  from_members : (ms : List Member) → Each P (map (λ (m : Member). m.name) ms) → EachItem (λ (m : Member). P m.name) ms
+  from_members : (ms : List Member) → Each P (map (λ (m : Member). m.name) ms) → Each (λ (m : Member). P m.name) ms
   from_members [] h = tt
   from_members (m ∷ ms) h = (h.0, from_members ms h.1)
 
@@ -61,7 +57,7 @@ module _ (P : Name → Type 0) where
     from_over o (each_right P (map (λ (m : Member). m.name) ms) (option_to_list o) h),
   )
   from_names (stated.variable n b) h = h.0
-  from_names (stated.adaptive n on b) h = (h.0, from_items on h.1)
+  from_names (stated.adaptive n on b) h = h
   from_names (stated.goal s e o) h = (
     from_tree e (each_left P (tree_names e) (option_to_list o) h),
     from_over o (each_right P (tree_names e) (option_to_list o) h),
@@ -70,10 +66,6 @@ module _ (P : Name → Type 0) where
 
 -- ---- what holds of each holds of all
 module _ (P : Name → Type 0) where
-  of_items : (ns : List Name) → EachItem P ns → Each P ns
-  of_items [] h = tt
-  of_items (n ∷ ns) h = (h.0, of_items ns h.1)
-
   mutual
     of_tree : (p : Plain) → EachName P p → Each P (tree_names p)
     of_tree (stated.number n) h = tt
@@ -94,7 +86,7 @@ module _ (P : Name → Type 0) where
   of_over None h = tt
   of_over (Some n) h = (h, tt)
 
-  of_members : (ms : List Member) → EachItem (λ (m : Member). P m.name) ms → Each P (map (λ (m : Member). m.name) ms)
+  of_members : (ms : List Member) → Each (λ (m : Member). P m.name) ms → Each P (map (λ (m : Member). m.name) ms)
   of_members [] h = tt
   of_members (m ∷ ms) h = (h.0, of_members ms h.1)
 
@@ -110,16 +102,12 @@ module _ (P : Name → Type 0) where
   of_names (stated.budget n ms o) h =
       each_append P (map (λ (m : Member). m.name) ms) (option_to_list o) (of_members ms h.0) (of_over o h.1)
   of_names (stated.variable n b) h = (h, tt)
-  of_names (stated.adaptive n on b) h = (h.0, of_items on h.1)
+  of_names (stated.adaptive n on b) h = h
   of_names (stated.goal s e o) h = each_append P (tree_names e) (option_to_list o) (of_tree e h.0) (of_over o h.1)
   of_names (stated.row n l r p o) h = (h.0, of_sides l p o h.1)
 
 -- ---- what holds of each name, and gives something else of it, gives that of each
 module _ (P Q : Name → Type 0) (to : (n : Name) → P n → Q n) where
-  map_items : (ns : List Name) → EachItem P ns → EachItem Q ns
-  map_items [] h = tt
-  map_items (n ∷ ns) h = (to n h.0, map_items ns h.1)
-
   mutual
     map_tree : (p : Plain) → EachName P p → EachName Q p
     map_tree (stated.number n) h = tt
@@ -139,10 +127,6 @@ module _ (P Q : Name → Type 0) (to : (n : Name) → P n → Q n) where
   map_over None h = tt
   map_over (Some n) h = to n h
 
-  map_members : (ms : List Member) → EachItem (λ (m : Member). P m.name) ms → EachItem (λ (m : Member). Q m.name) ms
-  map_members [] h = tt
-  map_members (m ∷ ms) h = (to m.name h.0, map_members ms h.1)
-
   map_sides : (l p : Plain) (o : Option Name) → EachSideName P l p o → EachSideName Q l p o
   map_sides l p o h = (map_tree l h.0, map_tree p h.1, map_over o h.2)
 
@@ -150,8 +134,11 @@ module _ (P Q : Name → Type 0) (to : (n : Name) → P n → Q n) where
   name_map (stated.uncertain n b) h = to n h
   name_map (stated.over n) h = to n h
   name_map (stated.set l r p o) h = map_sides l p o h
-  name_map (stated.budget n ms o) h = (map_members ms h.0, map_over o h.1)
+  name_map (stated.budget n ms o) h = (
+    each_map (λ (m : Member). P m.name) (λ (m : Member). Q m.name) (λ m. to m.name) ms h.0,
+    map_over o h.1,
+  )
   name_map (stated.variable n b) h = to n h
-  name_map (stated.adaptive n on b) h = (to n h.0, map_items on h.1)
+  name_map (stated.adaptive n on b) h = (to n h.0, each_map P Q to on h.1)
   name_map (stated.goal s e o) h = (map_tree e h.0, map_over o h.1)
   name_map (stated.row n l r p o) h = (to n h.0, map_sides l p o h.1)

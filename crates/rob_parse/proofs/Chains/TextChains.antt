@@ -10,7 +10,7 @@ use Rattle.rob_index.specs.Lines.{IsStatement}
 use Rattle.rob_index.specs.Membership.{Among, here, there}
 use Rattle.rob_index.specs.Reading as lines
 use Rattle.rob_index.specs.Reading.{Version, one, two, IsOf, State}
-use Rattle.rob_index.specs.Refs.{EachItem, EachNameOf, IfName, IsNameOf}
+use Rattle.rob_index.specs.Refs.{EachNameOf, IfName, IsNameOf}
 use Rattle.rob_index.specs.Rules.{has_great_digits, index_out, is_no_statement, is_out, no_statement, places}
 use Rattle.rob_index.specs.Statements as stated
 use Rattle.rob_index.specs.Statements.{Indexed, Name, Ref, Statement, Tree}
@@ -165,7 +165,7 @@ module _ (limit : ℕ) (own : List Name) (v : Version) where
         real_of two symbols s q stands m = of_line symbols s q stands m
 
         seen_names : (xs : List Symbol) → Each (HasFreeName own) xs
-            → EachItem (IfName (IsFreeNumber own)) (seen_line xs)
+            → Each (IfName (IsFreeNumber own)) (seen_line xs)
         seen_names [] h = tt
         seen_names (symbol.Name k ∷ xs) h = (h.0, seen_names xs h.1)
         seen_names (symbol.Digits n ∷ xs) h = (tt, seen_names xs h.1)
@@ -173,7 +173,7 @@ module _ (limit : ℕ) (own : List Name) (v : Version) where
         seen_names (symbol.Reserved w ∷ xs) h = (tt, seen_names xs h.1)
 
         seen_free : (ls : List (List Symbol)) → Each (Each (HasFreeName own)) ls → (l : List is.Symbol)
-            → Among l (map seen_line ls) → EachItem (IfName (IsFreeNumber own)) l
+            → Among l (map seen_line ls) → Each (IfName (IsFreeNumber own)) l
         seen_free [] h l m = elim m [ ]
         seen_free (x ∷ ls) h l here = seen_names x h.0
         seen_free (x ∷ ls) h l (there m) = seen_free ls h.1 l m
@@ -184,7 +184,7 @@ module _ (limit : ℕ) (own : List Name) (v : Version) where
             (indexed_word own h.setting h.named.indices (word_at own h.named.name) h.within h.holds)
 
     all_good : (ls : List (List Symbol)) → Each (Each (HasFreeName own)) ls → (list : List Statement)
-        → EachItem (IsOfLine limit own Named is_declared (IsOf v) (map seen_line ls)) list → Each (IsGood all) list
+        → Each (IsOfLine limit own Named is_declared (IsOf v) (map seen_line ls)) list → Each (IsGood all) list
     all_good ls free [] h = tt
     all_good ls free (p ∷ list) h = (good_of ls free p h.0, all_good ls free list h.1)
 

@@ -10,7 +10,6 @@ use Rattle.std.proofs.lemmas.Bool.Decides.{nat_tests}
 use Rattle.std.proofs.lemmas.Fmt.{decimal_by_steps}
 use Rattle.std.proofs.lemmas.Slice.Eq.{bytes_eq-Decides}
 use Rattle.rob_index.specs.Expansion.{Setting, index_text, index_value, ref_name, word_at}
-use Rattle.rob_index.specs.Refs.{EachItem}
 use Rattle.rob_index.specs.Rules.{is_out_at}
 use Rattle.rob_index.specs.Statements.{Index, Ref}
 use Rattle.rob_lex.specs.Bytes.{goes_on_word}
@@ -118,7 +117,7 @@ within_small (pos n) h = let few = under n h in omega (arith, few)
 within_small (negsuc n) h = cc
 
 module _ (words : List (List ℕ)) (setting : Setting) where
-  pub indexed_word : (xs : List Index) (name : List ℕ) → EachItem (λ (x : Index). is_out_at x setting ≡ false) xs
+  pub indexed_word : (xs : List Index) (name : List ℕ) → Each (λ (x : Index). is_out_at x setting ≡ false) xs
       → IsFreeWord name
       → IsFreeWord (name ++ flat_map (index_text words setting) xs)
   indexed_word [] name within free = subst IsFreeWord (sym (append-nil name)) free
@@ -130,7 +129,7 @@ module _ (words : List (List ℕ)) (setting : Setting) where
 
   -- the law
   pub ref_spelled : (r : Ref) → IsWord (word_at words r.name) → keyword_among keywords (word_at words r.name) ≡ None
-      → EachItem (λ (x : Index). is_out_at x setting ≡ false) r.indices
+      → Each (λ (x : Index). is_out_at x setting ≡ false) r.indices
       → length (ref_name words setting r) ≤ longest_name → IsSpelled (ref_name words setting r)
   ref_spelled r word free within few =
       let is = indexed_word r.indices (word_at words r.name) within (word, free) in

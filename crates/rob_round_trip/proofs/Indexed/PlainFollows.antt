@@ -11,7 +11,7 @@ use Rattle.rob_index.specs.Expansion.{expand, word_at}
 use Rattle.rob_index.specs.PlainLines.{itself_line}
 use Rattle.rob_index.specs.Reading as lines
 use Rattle.rob_index.specs.Reading.{one, IsOf, State}
-use Rattle.rob_index.specs.Refs.{EachItem, IfName}
+use Rattle.rob_index.specs.Refs.{IfName}
 use Rattle.rob_index.specs.Rules.{IndexFault, longest_name, most_tokens}
 use Rattle.rob_index.specs.Statements as stated
 use Rattle.rob_index.specs.Statements.{Indexed, Tree}
@@ -48,7 +48,7 @@ module _ (words : List (List ℕ)) where
 
   -- what holds of the numbers of such words holds of the line's names
   seen_names : (P : ℕ → Type 0) → ((k : ℕ) → IsNumber words k → P k) → (xs : List Symbol) → AreSound xs
-      → EachItem (IfName P) (seen_line xs)
+      → Each (IfName P) (seen_line xs)
   seen_names P to [] h = tt
   seen_names P to (Name k ∷ xs) h = (to k h.0, seen_names P to xs h.1)
   seen_names P to (Digits n ∷ xs) h = (tt, seen_names P to xs h.1)
@@ -56,7 +56,7 @@ module _ (words : List (List ℕ)) where
   seen_names P to (Reserved w ∷ xs) h = (tt, seen_names P to xs h.1)
 
   -- names that are words bring no words
-  nothing_grown : (ns : List stated.Name) → EachItem (In words) ns → fold add_word words ns ≡ words
+  nothing_grown : (ns : List stated.Name) → Each (In words) ns → fold add_word words ns ≡ words
   nothing_grown [] h = refl
   nothing_grown (n ∷ ns) h =
       ap (λ (b : Bool). fold add_word (if b then words else words ++ n ∷ []) ns) h.0 ∙ nothing_grown ns h.1

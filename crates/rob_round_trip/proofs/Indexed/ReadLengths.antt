@@ -8,7 +8,6 @@ use Rattle.rob_index.specs.Depths.{deepest, line_depth}
 use Rattle.rob_index.specs.Kept.{IsOfLine}
 use Rattle.rob_index.specs.Membership.{Among, here, there}
 use Rattle.rob_index.specs.Reading.{Version, IsOf, State}
-use Rattle.rob_index.specs.Refs.{EachItem}
 use Rattle.rob_index.specs.Rules.{most_tokens}
 use Rattle.rob_index.specs.Statements as stated
 use Rattle.rob_index.specs.Symbols as is
@@ -71,7 +70,7 @@ module _ (limit : ℕ) (text : List ℕ) (words : List (List ℕ)) (list : List 
 
   -- none is deep
   low : (ps : List stated.Statement)
-      → EachItem (IsOfLine limit own Named is_declared (IsOf version) lines) ps
+      → Each (IsOfLine limit own Named is_declared (IsOf version) lines) ps
       → Each (λ p. line_depth p ≤ most_open) ps
   low [] h = tt
   low (p ∷ ps) h =

@@ -9,7 +9,6 @@ use Rattle.rob_index.specs.Kept.{IsOfLine}
 use Rattle.rob_index.specs.Lines.{IsStatement, spell_line, spell_ranged, spell_rel, spell_share, spell_sides, statement_of}
 use Rattle.rob_index.specs.Membership.{Among}
 use Rattle.rob_index.specs.Reading.{Version, one, two, IsOf, State}
-use Rattle.rob_index.specs.Refs.{EachItem}
 use Rattle.rob_index.specs.Statements as stated
 use Rattle.rob_index.specs.Statements.{Indexed, Name, Ref, Sides, Tree}
 use Rattle.rob_index.specs.Symbols as is
@@ -140,7 +139,7 @@ module _ (own words : List Name) where
 
   of_lines : (limit : ℕ) (v : Version) (ls : List (List Symbol)) → Each (Each IsQuietHere) ls
       → (ps : List stated.Statement)
-      → EachItem (IsOfLine limit own Named is_declared (IsOf v) (map seen_line ls)) ps
+      → Each (IsOfLine limit own Named is_declared (IsOf v) (map seen_line ls)) ps
       → Each NamesNoSet (map (numbered words) ps)
   of_lines limit v ls quiet [] h = tt
   of_lines limit v ls quiet (p ∷ ps) h =
