@@ -1,9 +1,10 @@
 -- Texts that grow piece by piece: what is written so far, with the text of the rest, is the whole.
 use Rattle.std.proofs.Common.{◌≡◌, ℕ, zero, suc, ◌+◌, ◌<◌, ◌≤◌, List, [], ◌∷◌, ◌++◌, map, length, get_or, drop, arith, refl, ap, sym, ◌∙◌, add-one, append_assoc, add-zero, Bool, true, false, subst, append-nil}
 use Rattle.std.proofs.lemmas.List.{length-map}
-use Rattle.std.specs.Prelude.{if◌then◌else◌, Result, Ok, Err, OnOk}
+use Rattle.std.specs.Prelude.{if◌then◌else◌}
 use Rattle.rob_algebra.specs.Fraction.{Fraction}
 use Rattle.rob_algebra.specs.FractionOrder.{eq_ℚ}
+pub use Rattle.rob_number.proofs.AnswerLaws.{on_ok}
 use Rattle.rob_meaning.specs.Certificates.{Cover, Item}
 use Rattle.rob_meaning.specs.Places.{0ℚ, Each}
 use Rattle.rob_model.proofs.PartLemmas.{drop_at, drop_past}
@@ -41,11 +42,6 @@ module _ {X : Type 0} (text : ℕ → List X → List ℕ)
 -- a piece, and a piece behind it
 pub behind : (old mid new a b : List ℕ) → mid ≡ old ++ a → new ≡ mid ++ b → new ≡ old ++ (a ++ b)
 behind old mid new a b p q = q ∙ ap (λ t. t ++ b) p ∙ append_assoc old a b
-
--- what follows where a call answers Ok
-pub on_ok : {T E P Q : Type 0} (r : Result T E) → (P → Q) → OnOk r P → OnOk r Q
-on_ok (Ok x) f p = f p
-on_ok (Err e) f p = tt
 
 -- ---- the text of lines
 pub lines_text-append : (names : Naming) (xs ys : List (Line Fraction))

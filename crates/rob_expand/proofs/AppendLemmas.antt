@@ -1,6 +1,6 @@
 -- Settings that are appended, each with the places of its items.
 use Rattle.std.proofs.Common.{◌≡◌, ℕ, ◌<◌, List, [], ◌∷◌, ◌++◌, length, get_or, sym, ap, ◌∙◌, subst, append_assoc, append-nil, arith}
-use Rattle.std.specs.Prelude.{ℤ, Bool, false, Result, Ok, Err, OnOk}
+use Rattle.std.specs.Prelude.{ℤ, Bool, false}
 use Rattle.std.proofs.lemmas.List.{map-append}
 use Rattle.rob_ranges.specs.Spans.{Every}
 use Rattle.rob_ranges.proofs.SpanLemmas.{every_both}
@@ -26,10 +26,6 @@ pub spots_none : (spots : List Spot) (vss : List (List ℤ)) → length vss < 1
     → values_in spots ≡ values_in spots ++ vss
 spots_none spots [] h = sym (append-nil (values_in spots))
 spots_none spots (vs ∷ vss) h = absurd (omega (arith, h))
-
-pub on_ok : {A E P Q : Type 0} (r : Result A E) → (P → Q) → OnOk r P → OnOk r Q
-on_ok (Ok a) f h = f h
-on_ok (Err e) f h = tt
 
 only_one : (vss : List (List ℤ)) (vs : List ℤ) → length vss ≡ 1 → vs ≡ get_or vss 0 vs → vs ∷ [] ≡ vss
 only_one [] vs one is = absurd (omega (arith, one))

@@ -1,8 +1,9 @@
 use Rattle.std.proofs.Common.{◌≡◌, List, length, sym, subst, arith}
 use Rattle.std.specs.Prelude.{ℤ, false}
+use Rattle.rob_number.proofs.AnswerLaws.{on_ok}
 use Rattle.rob_ranges.proofs.SpanLemmas.{behind_of, every_at, front_of}
 use Rattle.rob_expand.specs.Spots.{IsThinAt}
-use Rattle.rob_expand.proofs.AppendLemmas.{both_values, on_ok, one_thin, one_value, spots_none, thin_items}
+use Rattle.rob_expand.proofs.AppendLemmas.{both_values, one_thin, one_value, spots_none, thin_items}
 use Rattle.rob_expand.proofs.spot.+append_spots.Goals as goal
 
 pub thin_in-requires : goal.thin_in-requires
