@@ -1,12 +1,13 @@
 -- A row of the cells that another row clears.
 use Rattle.std.proofs.Common.{◌≡◌, ◌≢◌, ℕ, ◌+◌, ◌-◌, ◌<◌, ◌≤◌, sym, ap, ◌∙◌, subst, arith, List, length, map}
 use Rattle.std.proofs.lemmas.List.{length-map}
+use Rattle.rob_algebra.specs.Fraction.{pos_lt}
 use lib.IntN.{ℤ, pos, nat_abs, ◌*ℤ◌}
 use Rattle.rob_linear.specs.Vectors.{Vector, at}
 use Rattle.rob_linear.specs.Multiples.{IsClearedBy}
 use Rattle.rob_rows.specs.PrimitiveParts.{IsPrimitivePart}
 use Rattle.rob_entries.specs.Updates.{AreOwn, IsBounded, IsMultipleOf, IsWideCleared}
-use Rattle.rob_entries.proofs.ClearingLemmas.{cleared_ext, wide_ext, part_multiple, divisor_positive}
+use Rattle.rob_entries.proofs.ClearingLemmas.{cleared_ext, wide_ext, part_multiple}
 use Rattle.rob_entries.proofs.WrittenRows.{part, row_length, row_at, numbers_length, stored, stored_here}
 
 module _ {X : Type 0} (f : X → ℤ) (cells : List ℤ) (items now : List X) (len : ℕ) (is : map f items ≡ cells)
@@ -27,7 +28,7 @@ module _ {X : Type 0} (f : X → ℤ) (cells : List ℤ) (items now : List X) (l
       ∙ numbers_length f cells items now len is lent sized a w inside in
       record {
         times = pos lowest.divisor;
-        positive = divisor_positive lowest.divisor lowest.positive;
+        positive = pos_lt lowest.divisor lowest.positive;
         entries = λ k l. part_multiple row (map f (part now a w)) lowest k (omega arith) ∙ entry_at k l;
       }
 

@@ -47,9 +47,6 @@ part_multiple row whole part k l =
     sym (get_or-map (λ entry. pos part.divisor *ℤ entry) row k (pos 0) (pos 0) l)
     ∙ ap (λ t. get_or t k (pos 0)) part.same_direction
 
-pub divisor_positive : (d : ℕ) → 0 < d → pos 0 <ℤ pos d
-divisor_positive d h = omega (arith, ints)
-
 -- ---- the factors
 module _ (t e p q : ℤ) (m : ArePartsOf t e p q) where
   times_positive : pos 0 <ℤ pos m.times

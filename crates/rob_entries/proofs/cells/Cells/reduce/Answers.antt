@@ -1,9 +1,10 @@
 use Rattle.std.proofs.Common.{◌≡◌, ◌≤◌, ◌∙◌, ap, refl, subst, sym, arith, List, length, map, pos, nat_abs, ◌*ℤ◌}
 use Rattle.std.proofs.lemmas.List.{length-map}
+use Rattle.rob_algebra.specs.Fraction.{pos_lt}
 use lib.IntN.{ℤ}
 use Rattle.rob_entries.specs.Maps.{IsMapped}
 use Rattle.rob_entries.proofs.MapLemmas.{mapped_back, part_zero}
-use Rattle.rob_entries.proofs.ClearingLemmas.{part_multiple, divisor_positive}
+use Rattle.rob_entries.proofs.ClearingLemmas.{part_multiple}
 use Rattle.rob_entries.proofs.WrittenRows.{part, row_within, row_length, row_at, stored_here, stored_other, stored_reached}
 use Rattle.rob_entries.proofs.cells.Cells.reduce.Goals as goal
 
@@ -26,7 +27,7 @@ returns-clause-row g c =
     let lowest = c.reduce.ensures.part in
     record {
       times = pos lowest.divisor;
-      positive = divisor_positive lowest.divisor lowest.positive;
+      positive = pos_lt lowest.divisor lowest.positive;
       entries = λ k l. ap (λ t. pos lowest.divisor *ℤ t)
           (stored_here value c.args.self.now c.self.inside.items.items c.as_mut_slice.result.now c.self.inside.items.len
           c.self.view_is c.as_mut_slice.ensures.value c.self.inside.items.ok.0 c.args.start
@@ -82,7 +83,7 @@ invariant_of-self g c =
     c.self.view_is c.as_mut_slice.ensures.value c.self.inside.items.ok.0 c.args.start c.args.width c.requires.inside
     c.reduce.new.row c.reduce.auto.row c.self.inside.marks.items c.self.inside.marks.items
     (subst (λ (t : List ℤ). IsMapped t c.self.inside.marks.items) c.self.view_is c.self.invariant)
-    refl (λ k l z. part_zero (pos lowest.divisor) _ _ (divisor_positive lowest.divisor lowest.positive)
+    refl (λ k l z. part_zero (pos lowest.divisor) _ _ (pos_lt lowest.divisor lowest.positive)
     (part_multiple (map value c.reduce.new.row)
     (map value (part c.as_mut_slice.result.now c.args.start c.args.width)) lowest k (omega arith))
     (row_at value c.args.self.now c.self.inside.items.items c.as_mut_slice.result.now c.self.inside.items.len
