@@ -5,7 +5,7 @@ use Rattle.rob_index.specs.Statements.{Name, Plain}
 use Rattle.rob_index.specs.Statements as stated
 use Rattle.rob_index.specs.Expansion.{added, summed}
 use Rattle.rob_index.specs.Forms.{values_of}
-use Rattle.rob_index.specs.Counting.{number_tokens, lead, star, parens, plain_tokens, parts_tokens, factors_tokens}
+use Rattle.rob_index.specs.Counting.{lead, star, parens, plain_tokens, parts_tokens, factors_tokens}
 use Rattle.rob_index.specs.Counting as counting
 use Rattle.rob_expand.specs.declared.count.Shape.{Shape}
 use Rattle.rob_expand.specs.declared.count.Shape.TheVariants.{Single, Sum, Product}

@@ -1,6 +1,6 @@
 -- What is found in one walk through the settings of a line is what the rules 26 and 27 find, place by place.
-use Rattle.std.proofs.Common.{◌≡◌, ℕ, Bool, true, false, List, [], ◌∷◌, ◌++◌, map, Option, Some, None, refl, sym, ap, ◌∙◌, arith}
-use Rattle.std.specs.Prelude.{ℤ, pos, negsuc, ◌+ℤ◌, ◌-ℤ◌, ◌||◌, nat_lt, int_lt}
+use Rattle.std.proofs.Common.{◌≡◌, ℕ, Bool, false, List, [], ◌∷◌, ◌++◌, map, Option, Some, None, refl, sym, ap, ◌∙◌, arith}
+use Rattle.std.specs.Prelude.{ℤ, pos, negsuc, ◌+ℤ◌, ◌-ℤ◌, nat_lt, int_lt}
 use Rattle.std.specs.Option.{option_map}
 use Rattle.std.specs.List.{flat_map, list_any}
 use Rattle.std.proofs.lemmas.Int.{ints}
@@ -8,7 +8,7 @@ use Rattle.rob_index.specs.Statements.{Index, Ref, Range, Tree, TreeParts, TreeF
 use Rattle.rob_index.specs.Statements as stated
 use Rattle.rob_index.specs.Expansion.{Setting, natural, count, settings, index_value, ranges_of}
 use Rattle.rob_index.specs.Rules.{Inside, of_index, ref_places, optional_places, range_place, under, range_places, tree_places, part_places, factor_places, each_places, sides_places, inner_places, places, is_long_at, is_out_at, is_long, is_out}
-use Rattle.rob_index.specs.Forms.{Form, Ends, value_of, minus, length_form, values_of, extensions}
+use Rattle.rob_index.specs.Forms.{Ends, value_of, minus, length_form, values_of, extensions}
 use Rattle.rob_index.specs.Fast.{setting_of, index_form, ends_of, nest_of, names_in}
 use Rattle.rob_index.proofs.ListLemmas.{any_same, any_map}
 use Rattle.rob_index.proofs.FormLemmas.{minus_is}
@@ -19,7 +19,7 @@ use Rattle.rob_expand.specs.declared.judging.Finding.TheVariants.{Nothing}
 use Rattle.rob_expand.specs.declared.line.Item.{Item}
 use Rattle.rob_expand.specs.declared.line.Line.{Line}
 use Rattle.rob_expand.specs.declared.placed.Named.{Named}
-use Rattle.rob_expand.specs.Placed.{Placed, placed_of}
+use Rattle.rob_expand.specs.Placed.{placed_of}
 use Rattle.rob_expand.specs.Placing.{placed_name, placed_tree, placed_parts, placed_factors}
 use Rattle.rob_expand.specs.Statements.{head_of, over_of, trees_of, items_of, name_item, member_item, IsLine}
 use Rattle.rob_expand.specs.Judging.{finding, worse, worst, is_outside, index_found, indices_found, length_found, range_found, ranges_found, tree_found, parts_found, factors_found, optional_found, item_found, line_found, lines_found}

@@ -3,7 +3,7 @@ use Rattle.std.proofs.Common.{◌≡◌, ℕ, List, [], ◌∷◌, ◌++◌, map
 use Rattle.std.specs.Prelude.{ℤ, nat_abs}
 use Rattle.std.specs.Fmt.{decimal}
 use Rattle.std.specs.List.{flat_map}
-use Rattle.rob_index.specs.Statements.{Name, Plain, Index, Ref, Tree, TreeParts, TreeFactors}
+use Rattle.rob_index.specs.Statements.{Name, Index, Ref, Tree, TreeParts, TreeFactors}
 use Rattle.rob_index.specs.Statements as stated
 use Rattle.rob_index.specs.Expansion.{with_value, ref_name, index_text, summed, expand_tree, expand_parts, expand_factors}
 use Rattle.rob_index.specs.Forms.{Form, value_of, values_of}

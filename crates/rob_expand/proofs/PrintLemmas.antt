@@ -1,13 +1,11 @@
 -- What is printed for an index, and which names are too long.
-use Rattle.std.proofs.Common.{◌≡◌, ℕ, ◌+◌, ◌*◌, ◌^◌, ◌<◌, ◌≤◌, Bool, true, false, List, [], ◌∷◌, length, get_or, refl, sym, ap, ◌∙◌, to_z, of_z, w64, arith}
+use Rattle.std.proofs.Common.{◌≡◌, ℕ, ◌+◌, ◌^◌, ◌<◌, ◌≤◌, Bool, true, false, List, [], ◌∷◌, length, get_or, refl, sym, ap, ◌∙◌, to_z, of_z, w64, arith}
 use Rattle.std.specs.Prelude.{ℤ, pos, negsuc, nat_abs, int_lt, ◌≤ℤ◌, ◌<ℤ◌, ◌||◌, fold, if◌then◌else◌}
 use Rattle.std.specs.List.{flat_map, list_any}
 use Rattle.std.proofs.lemmas.Bool.{le-ltb, lt-ltb}
-use Rattle.std.proofs.lemmas.Fmt.{decimal_nonempty}
 use Rattle.std.proofs.lemmas.Int.{ints}
 use Rattle.std.proofs.lemmas.List.{length-append}
 use Rattle.rob_index.specs.Statements.{Name}
-use Rattle.rob_index.specs.Forms.{Form, value_of}
 use Rattle.rob_index.specs.Rules.{greatest_index, longest_name, is_long_name}
 use Rattle.rob_index.proofs.NestLemmas.{lt_not}
 use Rattle.rob_number.proofs.CastLemmas.{seen}

@@ -1,5 +1,5 @@
 -- Forms with whole values: how great they are at least, wherever they aren't below 0.
-use Rattle.std.proofs.Common.{◌≡◌, ℕ, suc, ◌+◌, ◌-◌, ◌*◌, ◌/◌, ◌%◌, ◌<◌, ◌⊎◌, inl, inr, List, [], refl, sym, ap, ◌∙◌, subst, mod-lt, div-add-mod', arith}
+use Rattle.std.proofs.Common.{◌≡◌, ℕ, ◌+◌, ◌-◌, ◌*◌, ◌/◌, ◌%◌, ◌<◌, ◌⊎◌, inl, inr, List, [], refl, sym, ap, ◌∙◌, subst, mod-lt, div-add-mod', arith}
 use Rattle.std.specs.Prelude.{ℤ, nat_abs, pos, negsuc, ◌+ℤ◌, ◌*ℤ◌, ◌≤ℤ◌, true}
 use Rattle.std.specs.Int.{int_rem_euclid, IsNonNegative}
 use Rattle.std.proofs.lemmas.Int.{ints}

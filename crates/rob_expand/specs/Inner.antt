@@ -1,5 +1,5 @@
 -- What the lengths of the ranges of an item tell, before any value is put in for one of them.
-use Rattle.std.specs.Prelude.{◌≡◌, ◌≤ℤ◌, ℤ, pos, Bool, false, ◌||◌, int_lt, List, [], ◌∷◌, Option, IfSome}
+use Rattle.std.specs.Prelude.{◌≡◌, ◌≤ℤ◌, ℤ, pos, Bool, false, ◌||◌, int_lt, List, [], ◌∷◌}
 use Rattle.std.specs.List.{list_any}
 use Rattle.rob_index.specs.Forms.{Form, Ends, value_of, values_of, length_form, without, only}
 use Rattle.rob_ranges.specs.Shorts.{short_value}

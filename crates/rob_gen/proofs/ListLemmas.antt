@@ -1,5 +1,5 @@
 -- Loops that make the items of the first places, one after another.
-use Rattle.std.proofs.Common.{◌≡◌, ℕ, ◌+◌, List, [], ◌∷◌, ◌++◌, map, refl, ap, sym, ◌∙◌, add-one, append_assoc}
+use Rattle.std.proofs.Common.{◌≡◌, ℕ, ◌+◌, List, [], ◌∷◌, ◌++◌, map, ap, sym, ◌∙◌, add-one, append_assoc}
 use Rattle.std.proofs.lemmas.List.{map-append}
 use Rattle.rob_meaning.specs.Places.{tabulate}
 use Rattle.rob_meaning.proofs.TabulateLemmas.{tabulate-more}

@@ -10,7 +10,6 @@ use Rattle.rob_meaning.specs.Named.{AreDistinct}
 use Rattle.rob_meaning.specs.Names.{Name}
 use Rattle.rob_meaning.specs.Places.{Each}
 use Rattle.rob_model.specs.Within.{◌>>=◌}
-use Rattle.rob_replay.specs.Gathering.{all_of}
 use Rattle.rob_replay.specs.Headers.{header_places, place_from, places_in}
 
 -- the name is one of the fields

@@ -1,7 +1,5 @@
 -- The statements behind the first ones, which are judged and taken into account.
 use Rattle.std.proofs.Common.{◌≡◌, ℕ, ◌-◌, Bool, List, length, take, drop, Option, Some, None, refl, sym, ap, ◌∙◌, subst, arith}
-use Rattle.std.specs.Prelude.{Vec}
-use Rattle.std.specs.declared.alloc.Global.{Global}
 use Rattle.std.specs.Vec.{with_items}
 use Rattle.std.proofs.lemmas.List.{take_rest, with_items_is}
 use Rattle.rob_syntax.specs.declared.syntax.Statement.{Statement}

@@ -1,6 +1,6 @@
 -- The item that a loop over `items()` of a list has come to, and those that are left of the list itself.
 use Rattle.std.specs.Prelude.{◌≡◌, ℕ, ◌+◌, ◌≤◌, ◌<◌, List, [], ◌∷◌, length, drop}
-use Rattle.std.proofs.Common.{arith, subst, sym, get_or}
+use Rattle.std.proofs.Common.{subst, get_or}
 use Rattle.rob_model.proofs.PartLemmas.{drop_at, drop_past}
 
 module _ {A : Type 0} (i : ℕ) {items xs : List A} (same : items ≡ xs) where

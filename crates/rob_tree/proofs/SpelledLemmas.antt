@@ -13,7 +13,7 @@ use Rattle.rob_reach.proofs.NameLemmas.{column_names-behind}
 use Rattle.rob_reach.proofs.RangeLemmas.{all_inside, bounded_in, changes_bounded}
 use Rattle.rob_reach.specs.Boxes.{Branch, behind, box_below, box_above, at_most_branch, at_least_branch}
 use Rattle.rob_reach.specs.Ranges.{are_bounded, is_bounded}
-use Rattle.rob_reach.specs.Trees.{Node, leaf, split, left_open, Leaf, leaves, BranchesOn, IsIn}
+use Rattle.rob_reach.specs.Trees.{Node, leaf, split, left_open, leaves, BranchesOn, IsIn}
 use Rattle.rob_tree.proofs.MovedShapes.{flipped, same_behind, shape_moves}
 use Rattle.rob_tree.specs.Shape.{BranchesFit, IsShaped, IsTreeOf}
 use Rattle.rob_tree.specs.TreeText.{IsSpelledWith}

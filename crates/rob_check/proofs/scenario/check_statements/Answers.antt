@@ -1,5 +1,4 @@
 use Rattle.std.proofs.Common.{map, arith, ◌∙◌, get_or, ap, length, refl}
-use Rattle.std.specs.Prelude.{List}
 use Rattle.std.specs.Result.{result_ok}
 use Rattle.rob_check.specs.Scenario.{taken_place}
 use Rattle.rob_check.specs.declared.verdict.Verdict.TheVariants.{Accepted}

@@ -1,7 +1,6 @@
 use Rattle.std.proofs.Common.{arith, subst, sym}
 use Rattle.std.proofs.lemmas.List.{length-map}
 use Rattle.std.specs.Prelude.{◌<◌, zero, length, refl}
-use Rattle.rob_meaning.specs.Forms.{adaptive_forms}
 use Rattle.rob_meaning.specs.WellFormed.{IsExpression}
 use Rattle.rob_model.specs.View.{adaptive_of, robust}
 use Rattle.rob_model.specs.declared.expr.Expr.TheVariants as Is

@@ -1,4 +1,4 @@
-use Rattle.std.proofs.Common.{◌≤◌, ◌-◌, length, arith}
+use Rattle.std.proofs.Common.{arith}
 use Rattle.rob_ranges.proofs.NestLemmas.{as_well, put_in_more, put_in_all}
 use Rattle.rob_ranges.proofs.reach.greatest.Goals as goal
 

@@ -1,5 +1,5 @@
 use Rattle.std.proofs.Common.{arith, ap, sym, subst}
-use Rattle.std.specs.Prelude.{◌≡◌, suc, length, ◌∷◌, [], map, refl}
+use Rattle.std.specs.Prelude.{◌≡◌, suc, length, ◌∷◌, [], map}
 use Rattle.rob_meaning.specs.Forms.{difference, sides}
 use Rattle.rob_meaning.specs.RobustModel.{Relation}
 use Rattle.rob_meaning.specs.SetRows.{expression_row}

@@ -1,4 +1,4 @@
-use Rattle.std.proofs.Common.{◌≡◌, ℕ, ◌+◌, ◌≤◌, ◌<◌, ◌∙◌, sym, ap, inl, inr, arith, subst, Bool, List, ◌++◌, take, drop, length, map, nat_abs, pos}
+use Rattle.std.proofs.Common.{◌≡◌, ℕ, ◌+◌, ◌≤◌, ◌<◌, ◌∙◌, sym, ap, inl, inr, arith, subst, Bool, List, ◌++◌, take, drop, length, map, nat_abs}
 use lib.IntN.{ℤ}
 use Rattle.std.proofs.lemmas.Result.{on_err_weaker}
 use Rattle.rob_linear.specs.Vectors.{at}

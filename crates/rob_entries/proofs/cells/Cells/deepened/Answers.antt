@@ -1,6 +1,5 @@
-use Rattle.std.proofs.Common.{◌≡◌, ◌<◌, ◌+◌, ◌∙◌, ap, arith, length, pos}
+use Rattle.std.proofs.Common.{◌∙◌, ap, arith, length, pos}
 use Rattle.std.proofs.lemmas.List.{ext_get_or, length-set}
-use Rattle.rob_linear.specs.Vectors.{at}
 use Rattle.rob_entries.proofs.WrittenRows.{one_more}
 use Rattle.rob_entries.proofs.cells.Cells.deepened.Goals as goal
 

@@ -1,4 +1,4 @@
-use Rattle.std.proofs.Common.{◌∙◌, subst, arith, rules}
+use Rattle.std.proofs.Common.{arith, rules}
 use Rattle.std.specs.Int.{w128}
 use mir.Val.{SFits}
 use Rattle.std.specs.Prelude.{ℤ, pos, ◌≤ℤ◌}

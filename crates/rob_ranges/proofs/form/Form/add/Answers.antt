@@ -1,5 +1,4 @@
-use Rattle.std.proofs.Common.{◌≡◌, ◌∙◌, ap, drop}
-use Rattle.std.specs.Prelude.{ℤ}
+use Rattle.std.proofs.Common.{ap}
 use Rattle.std.proofs.lemmas.Result.{on_ok_weaker}
 use Rattle.rob_index.specs.Forms.{Form}
 use Rattle.rob_ranges.proofs.JoinLemmas.{sum_is}
