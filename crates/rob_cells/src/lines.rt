@@ -1,6 +1,6 @@
 //! The set statements over a cell.
 
-ghost use Rattle.std.specs.Prelude.{◌≡◌, ◌<◌, ◌≤◌, ◌++◌, IfOk, OnOk, length, map, pred};
+ghost use Rattle.std.specs.Prelude.{◌≡◌, ◌<◌, ◌≤◌, ◌++◌, IfOk, OnOk, length, map};
 ghost use Rattle.rob_cells.specs.View.{cut_of};
 ghost use Rattle.rob_meaning.specs.Places.{Each};
 ghost use Rattle.rob_meaning.specs.WellFormed.{IsMember, IsSetLine};

@@ -1,6 +1,6 @@
 //! The verdict on a certificate.
 
-ghost use Rattle.std.specs.Prelude.{◌≡◌, Option};
+ghost use Rattle.std.specs.Prelude.{◌≡◌};
 ghost use Rattle.std.specs.Result.{result_ok};
 ghost use Rattle.rob_check.specs.Verdicts.{decided};
 ghost use Rattle.rob_check.specs.declared.verdict.Verdict.TheVariants as Is;

@@ -1,6 +1,6 @@
 //! Why the route stops.
 
-ghost use Rattle.std.specs.Prelude.{◌≡◌, IsOk, IsErr, MatchResult, Ok};
+ghost use Rattle.std.specs.Prelude.{◌≡◌, MatchResult, Ok};
 ghost use Rattle.rob_cert.specs.declared.ending.Stop.TheVariants.{Memory as OutOfMemory};
 ghost use Rattle.rob_simplex.specs.Solvers.{positions};
 ghost use Rattle.rob_dualize.specs.Ending.{IsWideStop, StopsAt, position_of};

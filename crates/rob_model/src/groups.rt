@@ -1,7 +1,6 @@
 //! The groups of names of each kind, by their numbers.
 
-ghost use Rattle.std.specs.Prelude.{◌≡◌, ◌<◌, ◌++◌, length, map, slice_get};
-ghost use Rattle.rob_meaning.specs.RobustModel.{Row, Parameter};
+ghost use Rattle.std.specs.Prelude.{◌≡◌, ◌<◌, ◌++◌, length, slice_get};
 ghost use Rattle.rob_model.specs.NameGroups.{names_in, groups, row_groups, variable_bound_groups, adaptive_bound_groups, parameter_groups, lift_groups, condition_groups};
 ghost use Rattle.rob_model.specs.Valid.{IsValid};
 ghost use Rattle.rob_model.specs.declared.group.Kind.TheVariants.{Form, Column, SetRow, SetPlace, Parameters};

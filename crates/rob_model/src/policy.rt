@@ -1,6 +1,6 @@
 //! The values of adaptive variables.
 
-ghost use Rattle.std.specs.Prelude.{◌≡◌, ◌≤◌, ◌<◌, ◌+◌, ◌^◌, length, map, drop, IfOk, List};
+ghost use Rattle.std.specs.Prelude.{◌≡◌, ◌≤◌, ◌<◌, ◌+◌, ◌^◌, length, map, drop, IfOk};
 ghost use Rattle.rob_number.specs.Answer.{answer};
 ghost use Rattle.rob_number.specs.Counts.{Told};
 ghost use Rattle.rob_meaning.specs.Places.{at};

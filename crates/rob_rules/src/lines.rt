@@ -1,8 +1,7 @@
 //! The statements of a text of either version, in one pass over its lines.
 
-ghost use Rattle.std.specs.Prelude.{◌≡◌, ◌≤◌, ◌<◌, ◌+◌, ◌^◌, [], ◌∷◌, List as Items, false, length, map, drop, IfOk, IfErr, MatchResult, OnOk};
+ghost use Rattle.std.specs.Prelude.{◌≡◌, ◌≤◌, ◌<◌, ◌+◌, ◌^◌, [], ◌∷◌, false, length, map, drop, IfOk, IfErr, MatchResult, OnOk};
 ghost use Rattle.rob_index.specs.Reading.{IsOf};
-ghost use Rattle.rob_index.specs.Statements.{Name};
 ghost use Rattle.rob_rules.specs.declared.lines.Stop.TheVariants.{Memory};
 ghost use Rattle.rob_rules.specs.Scopes.{earlier_of};
 ghost use Rattle.rob_rules.specs.Stages.{IsBetween, StartsAt, ReadsOn, IsAppended, IsTaken, HasFaultStop, HasIndexStop, HasLineStop, HasNoStatement, HaveStop, IsExpanded, IsWidened, LeaveRoom, lower_of, lowest_fault, behind_all, declare_all, mark_declared, padded, stage_of};

@@ -1,6 +1,6 @@
 //! The rules on named variables: each has both bounds, and the product of their ranges is at most 1,000.
 
-ghost use Rattle.std.specs.Prelude.{◌≡◌, ◌*◌, ◌≤◌, ◌<◌, leb, length, Option, Some, None, MatchOption};
+ghost use Rattle.std.specs.Prelude.{◌≡◌, ◌*◌, ◌≤◌, ◌<◌, leb, Option, Some, None, MatchOption};
 ghost use Rattle.rob_model.specs.View.{robust};
 ghost use Rattle.rob_reach.specs.Ranges as ranges;
 
