@@ -1,6 +1,8 @@
 -- When a text has tokens, and which offence at which line decides where it has none.
 use Rattle.std.specs.Prelude.{◌≡◌, ℕ, ◌+◌, ◌<◌, ◌≤◌, true, ◌⊎◌, List, [], ◌∷◌, length}
 use Rattle.rob_index.specs.Depths.{weight}
+-- the tokens that a text may have, line ends among them
+pub use Rattle.rob_index.specs.Rules.{most_tokens}
 use Rattle.rob_lex.specs.declared.token.Token.{Token}
 use Rattle.rob_lex.specs.declared.error.LexErr.{LexErr}
 use Rattle.rob_lex.specs.declared.error.LexErr.TheVariants.{Rule, Memory}
@@ -9,10 +11,6 @@ use Rattle.rob_lex.specs.declared.offence.Offence.TheVariants.{NotAscii, BadByte
 use Rattle.rob_lex.specs.declared.place.Place.{Place}
 use Rattle.rob_lex.specs.Pieces.{Piece, IsPlace, BeginsNoPiece, BeginsToken}
 use Rattle.rob_lex.specs.Places.{start, depth_at, behind_all, tokens_of}
-
--- the tokens that a text may have, line ends among them
-abbrev pub most_tokens : ℕ
-most_tokens = 20000
 
 -- the parentheses that may be open at once on a line, where one directly behind the word `sum` counts as two
 abbrev pub most_open : ℕ

@@ -11,6 +11,6 @@ mod token;
 mod weights;
 
 pub use error::LexErr;
-pub use offence::Offence;
+pub use offence::{MOST_TOKENS, Offence};
 pub use reader::tokens;
 pub use token::{Kind, Token};

@@ -9,7 +9,7 @@ use crate::place::Place;
 use crate::weights::weight;
 
 /// The tokens that a text may have, line ends among them.
-const MOST_TOKENS: u32 = 20_000;
+pub const MOST_TOKENS: u32 = 20_000;
 
 /// The parentheses that may be open at once on a line, where one directly behind `sum` counts as two.
 const MOST_OPEN: u32 = 50;
