@@ -15,13 +15,11 @@ ghost use Rattle.rob_rules.specs.Indices.{seen_fault, late_fault};
 ghost use Rattle.rob_rules.specs.Indices as rules;
 
 use rob_expand::{has_room, judge};
+use rob_lex::MOST_TOKENS;
 use rob_number::Memory;
 use rob_places::fault::{search_long, some_great_digits, some_out, some_unknown};
 use rob_syntax::syntax::Indexed;
 use std::alloc::Global;
-
-/// The canonical tokens that the lines of a text may have together.
-const MOST_TOKENS: u32 = 20_000;
 
 /// What may be spent on a line that is too much.
 const EFFORT: u32 = 500_000;
