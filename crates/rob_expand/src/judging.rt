@@ -19,6 +19,7 @@ use crate::inner::Inner;
 use crate::line::{Item, Line};
 use crate::lines::line_of;
 use crate::live::first_live;
+use crate::name::GREATEST_INDEX;
 use crate::placed::{Named, Part, Placed};
 use crate::setting::{next, with_value};
 use crate::settings::{Setting, all_settings};
@@ -28,6 +29,9 @@ use rob_ranges::run::Run;
 use rob_ranges::{Ends, Form, Whole};
 use rob_syntax::syntax::Indexed;
 use std::alloc::Global;
+
+/// How far the last value of a range is from its first at most where it has no more than 100 values.
+const LONGEST: i64 = 99;
 
 /// What is found of the ranges and the indices of a statement.
 #[derive(Clone, Copy)]
@@ -189,7 +193,7 @@ fn judge_length(alloc: Global, range: &Ends, values: &[Whole]) -> Result<Finding
     ensures found { IfOk result (λ found. found ≡ length_found range.now values.now) }
 {
     let length = length_at(alloc, range, values)?;
-    let most = Whole::small(alloc, 99);
+    let most = Whole::small(alloc, LONGEST);
     let long = most.is_less(alloc, &length)?;
     Ok(found_where(long, false))
 }
@@ -289,7 +293,7 @@ fn judge_index(alloc: Global, index: &Form, values: &[Whole]) -> Result<Finding,
 fn is_outside(alloc: Global, value: &Whole) -> Result<bool, Memory>
     ensures outside { IfOk result (λ outside. outside ≡ spec.is_outside value.now) }
 {
-    let most = Whole::small(alloc, 999);
+    let most = Whole::small(alloc, GREATEST_INDEX);
     let over = most.is_less(alloc, value)?;
     let below = value.is_negative();
     Ok(below || over)

@@ -20,7 +20,7 @@ use std::alloc::Global;
 const LONGEST_NAME: usize = 32;
 
 /// The greatest value of an index.
-const GREATEST_INDEX: i64 = 999;
+pub const GREATEST_INDEX: i64 = 999;
 
 /// Why a statement isn't expanded.
 #[derive(Drop)]
