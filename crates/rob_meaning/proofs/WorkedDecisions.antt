@@ -62,7 +62,7 @@ below_differs a b e same = apart a b (ltb-true a b e) same
     apart : (a b : ℕ) → a < b → a ≡ b → ⊥
     apart a b h e = omega arith
 
-abbrev either : {A : Type 0} → Option A → Option A → Option A
+abbrev pub either : {A : Type 0} → Option A → Option A → Option A
 either None o = o
 either (Some x) o = Some x
 

@@ -16,7 +16,7 @@ use Rattle.rob_meaning.specs.Expressions.{Expression, number, parameter, variabl
 use Rattle.rob_meaning.specs.Forms.{matrices, plan_vector, constant_part, parameter_part}
 use Rattle.rob_meaning.specs.Multipliers.{set_matrix, set_limits, Covers, ShowsEmpty}
 use Rattle.rob_meaning.specs.Places.{0ℚ, 1ℚ, at, Each, EachFrom}
-use Rattle.rob_meaning.specs.Proves.{amounts_of, EachCovered, IsItem, combination, target, Improves, ProvesOptimal, ProvesInfeasible, ProvesUnbounded, ProvesAs, HasStatus}
+use Rattle.rob_meaning.specs.Proves.{amounts_of, EachCovered, IsItem, combination, target, Improves, ProvesOptimal, ProvesInfeasible, ProvesUnbounded, ProvesAs, HasStatus, Proves}
 use Rattle.rob_meaning.specs.RobustModel.{Relation, at_most, at_least, equal, Sense, minimise, maximise, Parameter, Member, AdaptiveVariable, SetLine, line, budget, Row, RobustModel, joint_parameters, set_count, written_count, written_parameters, joint_number, line_set, row_set, column_count}
 use Rattle.rob_meaning.specs.SetConditions.{SetCondition, lower_bound, upper_bound, stated, set_conditions, taken, total_taken, Holds, Meets}
 use Rattle.rob_meaning.specs.SetRows.{set_rows, set_column_count, lift_count}
@@ -284,6 +284,14 @@ module _ (m : RobustModel) where
     test_as optimal c = test_optimal c
     test_as infeasible c = test_infeasible c
     test_as unbounded c = test_unbounded c
+
+  abbrev proves_with : (c : Certificate) → Option (IsModel m) → Option (Proves m c)
+  proves_with c None = None
+  proves_with c (Some model) = test_as model c.status c
+
+  -- the certificate proves, where the model is well formed
+  abbrev pub test_proves : (c : Certificate) → Option (Proves m c)
+  test_proves c = proves_with c test_model
 
   abbrev with_model : (c : Certificate) → Option (IsModel m) → Option (HasStatus m c.status c.value)
   with_model c None = None

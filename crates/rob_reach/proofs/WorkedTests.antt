@@ -1,157 +1,27 @@
--- Tests for worked examples: each gives the fact itself, where it holds of data without variables. What is here up to
--- trees is that of rob_meaning's WorkedTests, which keeps it to itself.
-use Rattle.std.proofs.Common.{ap₂, sym, subst, inl, inr, refl, arith}
-use Rattle.std.specs.Prelude.{◌≡◌, ◌<◌, ℕ, zero, suc, Bool, true, false, eqb, List, [], ◌∷◌, ◌++◌, length, Option, Some, None, IfSome, ◌⊎◌, T}
-use Rattle.std.proofs.lemmas.Bool.{eqb-true}
-use Rattle.rob_algebra.specs.Fraction.{Fraction, ◌<ℚ◌, ◌+ℚ◌, ◌*ℚ◌}
-use Rattle.rob_algebra.specs.FractionLists.{AllNonneg}
-use Rattle.rob_meaning.proofs.ConeLemmas.{meets_taken}
+-- Tests for worked examples: each gives the fact itself, where it holds of data without variables.
+use Rattle.std.proofs.Common.{sym, subst, inl, inr, refl}
+use Rattle.std.specs.Prelude.{◌≡◌, ℕ, zero, suc, Bool, true, false, List, [], ◌∷◌, Option, Some, None, IfSome, ◌⊎◌, T}
+use Rattle.rob_algebra.specs.Fraction.{Fraction}
 use Rattle.rob_meaning.proofs.EmptyLemmas.{shows_empty}
-use Rattle.rob_meaning.proofs.WorkedTests.{test_model, test_meets, test_admits, test_le, test_lt, test_same, test_empty}
-use Rattle.rob_meaning.specs.Certificates.{Status, optimal, infeasible, unbounded, Cover, Item, Certificate}
-use Rattle.rob_meaning.specs.Forms.{matrices, plan_vector, constant_part, parameter_part}
+use Rattle.rob_meaning.proofs.WorkedTests.{test_model, test_admits, test_le, test_same, test_empty, both, so, test_count, test_each, test_proves}
+use Rattle.rob_meaning.specs.Certificates.{Status, optimal, infeasible, unbounded, Certificate}
 use Rattle.rob_meaning.specs.Guarantee.{IsNoWorse}
-use Rattle.rob_meaning.specs.Multipliers.{set_matrix, set_limits, Covers}
-use Rattle.rob_meaning.specs.Places.{0ℚ, 1ℚ, at, Each}
-use Rattle.rob_meaning.specs.Proves.{amounts_of, EachCovered, IsItem, combination, target, Improves, Proves, ProvesAs}
-use Rattle.rob_meaning.specs.RobustModel.{Sense, minimise, maximise, RobustModel, column_count}
-use Rattle.rob_meaning.specs.SetRows.{set_rows, set_column_count, lift_count}
+use Rattle.rob_meaning.specs.Places.{at}
+use Rattle.rob_meaning.specs.Proves.{Proves}
+use Rattle.rob_meaning.specs.RobustModel.{Sense, minimise, maximise, RobustModel}
 use Rattle.rob_meaning.specs.UncertaintySet.{Admits, IsEmptySet}
-use Rattle.rob_meaning.specs.Vectors.{dot, scale, zeros, vec_mat}
 use Rattle.rob_meaning.specs.WellFormed.{IsModel}
 use Rattle.rob_reach.proofs.TreeLemmas.{tree_true}
 use Rattle.rob_reach.specs.Ranges.{are_bounded}
 use Rattle.rob_reach.specs.Trees.{Leaf, leaves, Node, leaf, split, left_open, Tree, IsIn, BranchesOn, HasLeaf, IsProved, IsInfeasibleLeaf, IsNoBetterLeaf, IsBestLeaf, IsEndlessLeaf, ShowsStatus, ProvesTree}
 use Rattle.rob_reach.specs.WholeStatus.{IsWholeOn, HasWholeStatus}
 
-abbrev both : {A B : Type 0} → Option A → Option B → Option (A × B)
-both None b = None
-both (Some x) None = None
-both (Some x) (Some y) = Some (x, y)
-
-abbrev so : {A B : Type 0} → (A → B) → Option A → Option B
-so f None = None
-so f (Some x) = Some (f x)
-
-abbrev decided : {A : Type 0} (b : Bool) → (b ≡ true → A) → Option A
-decided true f = Some (f refl)
-decided false f = None
-
-abbrev pub test_count : (a b : ℕ) → Option (a ≡ b)
-test_count a b = decided (eqb a b) (eqb-true a b)
-
 abbrev either : {A B : Type 0} → Option A → Option B → Option (A ⊎ B)
 either None None = None
 either None (Some y) = Some (inr y)
 either (Some x) o = Some (inl x)
 
--- ---- lists
-abbrev test_each : {A : Type 0} (P : A → Type 0) → ((x : A) → Option (P x)) → (xs : List A) → Option (Each P xs)
-test_each P test [] = Some tt
-test_each P test (x ∷ xs) = both (test x) (test_each P test xs)
-
-abbrev test_nonnegative : (xs : List Fraction) → Option (AllNonneg xs)
-test_nonnegative [] = Some tt
-test_nonnegative (x ∷ xs) = both (test_le 0ℚ x) (test_nonnegative xs)
-
-abbrev test_list : (xs ys : List Fraction) → Option (xs ≡ ys)
-test_list [] [] = Some refl
-test_list [] (y ∷ ys) = None
-test_list (x ∷ xs) [] = None
-test_list (x ∷ xs) (y ∷ ys) =
-    so (λ h. ap₂ (λ (z : Fraction) (zs : List Fraction). z ∷ zs) h.0 h.1) (both (test_same x y) (test_list xs ys))
-
-abbrev test_numbers : (n : ℕ) (P : ℕ → Type 0) → ((i : ℕ) → Option (P i)) → Option ((i : ℕ) → i < n → P i)
-test_numbers zero P test = Some (λ i h. absurd (omega arith))
-test_numbers (suc n) P test =
-    so (λ h. first_and_rest n P h.0 h.1) (both (test zero) (test_numbers n (λ i. P (suc i)) (λ i. test (suc i))))
-  where
-    first_and_rest : (n : ℕ) (P : ℕ → Type 0) → P zero → ((i : ℕ) → i < n → P (suc i)) → (i : ℕ) → i < suc n → P i
-    first_and_rest n P p h zero k = p
-    first_and_rest n P p h (suc i) k = h i (omega arith)
-
 module _ (m : RobustModel) where
-  -- ---- certificates
-  abbrev test_covers : (i : ℕ) (s : Fraction) (z amounts : List Fraction) → Option (Covers m i s z amounts)
-  test_covers i s z amounts =
-      so (λ h. record { count = h.0.0; nonnegative = h.0.1; columns = h.1.0; constant = h.1.1 })
-      (both
-      (both (test_count (length amounts) (length (set_rows m))) (test_nonnegative amounts))
-      (both
-      (test_list (vec_mat (set_column_count m) amounts (set_matrix m))
-      (scale s (parameter_part m i z) ++ zeros (lift_count m.set_lines)))
-      (test_le (dot amounts (set_limits m) +ℚ s *ℚ constant_part m i z) 0ℚ)))
-
-  abbrev test_each_covered : (covers : List Cover) (s : Fraction) (z : List Fraction)
-      → Option (EachCovered m covers s z)
-  test_each_covered covers s z =
-      test_numbers (length (matrices m)) (λ i. Covers m i s z (amounts_of m covers i))
-      (λ i. test_covers i s z (amounts_of m covers i))
-
-  module _ (model : IsModel m) where
-    abbrev test_item : (item : Item) → Option (IsItem m item)
-    test_item item =
-        so (λ h. record { weight = h.0; taken = meets_taken m model item.base item.vector h.1.0 h.1.1 })
-        (both (test_lt 0ℚ item.weight) (both (test_le 0ℚ item.base) (test_meets m item.base item.vector)))
-
-    abbrev test_improves : (sense : Sense) (d : Fraction) → Option (Improves sense d)
-    test_improves minimise d = test_lt d 0ℚ
-    test_improves maximise d = test_lt 0ℚ d
-
-    abbrev test_inside_and_items : (c : Certificate) → Option (Admits m c.inside × Each (IsItem m) c.items)
-    test_inside_and_items c = both (test_admits m model c.inside) (test_each (IsItem m) test_item c.items)
-
-    abbrev test_plan : (c : Certificate) → Option ((0ℚ <ℚ c.scale) ×
-        ((length c.plan ≡ column_count m) × EachCovered m c.covers c.scale (plan_vector 1ℚ c.plan c.value)))
-    test_plan c =
-        both (test_lt 0ℚ c.scale)
-        (both (test_count (length c.plan) (column_count m))
-        (test_each_covered c.covers c.scale (plan_vector 1ℚ c.plan c.value)))
-
-    abbrev test_as : (status : Status) (c : Certificate) → Option (ProvesAs status m c)
-    test_as optimal c =
-        so (λ h. record {
-          inside = h.0.0;
-          items = h.0.1;
-          scale = h.1.0.0;
-          columns = h.1.0.1.0;
-          covered = h.1.0.1.1;
-          sums = h.1.1;
-        })
-        (both (test_inside_and_items c)
-        (both (test_plan c) (test_list (combination m c.items) (target m.sense (column_count m) c.value))))
-    test_as infeasible c =
-        let constant = at (combination m c.items) 0 in
-        so (λ h. record { inside = h.0.0; items = h.0.1; constant = constant; positive = h.1.0; sums = h.1.1 })
-        (both (test_inside_and_items c)
-        (both (test_lt 0ℚ constant)
-        (test_list (combination m c.items) (plan_vector constant (zeros (column_count m)) 0ℚ))))
-    test_as unbounded c =
-        so
-        (λ h. record {
-          inside = h.0.0;
-          items = h.0.1;
-          scale = h.1.0.0;
-          columns = h.1.0.1.0;
-          covered = h.1.0.1.1;
-          step_columns = h.1.1.0;
-          held = h.1.1.1.0;
-          improves = h.1.1.1.1;
-        })
-        (both (test_inside_and_items c)
-        (both (test_plan c)
-        (both (test_count (length c.step) (column_count m))
-        (both (test_each_covered c.holds 1ℚ (plan_vector 0ℚ c.step c.step_bound))
-        (test_improves m.sense c.step_bound)))))
-
-  abbrev with_model : (c : Certificate) → Option (IsModel m) → Option (Proves m c)
-  with_model c None = None
-  with_model c (Some model) = test_as model c.status c
-
-  -- the certificate proves, where the model is well formed
-  abbrev pub test_proves : (c : Certificate) → Option (Proves m c)
-  test_proves c = with_model c (test_model m)
-
   -- the scenario is admitted, where the model is well formed
   abbrev with_model_admitted : (u : List Fraction) → Option (IsModel m) → Option (Admits m u)
   with_model_admitted u None = None

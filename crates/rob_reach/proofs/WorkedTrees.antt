@@ -4,14 +4,14 @@ use Rattle.std.proofs.lemmas.Int.{ints}
 use Rattle.std.specs.Prelude.{◌≡◌, pos, [], ◌∷◌, Some, None, codes}
 use Rattle.rob_algebra.specs.Fraction.{Fraction, ratio}
 use Rattle.rob_meaning.proofs.WorkedNotation.{int, over, times, uncertain, var, row, cover, item, best, none, without_end}
-use Rattle.rob_meaning.proofs.WorkedTests.{found, test_certificate, test_le}
+use Rattle.rob_meaning.proofs.WorkedTests.{found, test_certificate, test_le, test_proves}
 use Rattle.rob_meaning.specs.Certificates.{Certificate, optimal, infeasible, unbounded}
 use Rattle.rob_meaning.specs.Expressions.{number, parameter, variable}
 use Rattle.rob_meaning.specs.Places.{0ℚ, 1ℚ}
 use Rattle.rob_meaning.specs.RobustModel.{RobustModel, at_least, equal, minimise, maximise}
 use Rattle.rob_meaning.specs.Status.{IsOptimal}
 use Rattle.rob_reach.proofs.StatusLemmas.{one_optimum}
-use Rattle.rob_reach.proofs.WorkedTests.{test_proved, test_proves, test_tree_status}
+use Rattle.rob_reach.proofs.WorkedTests.{test_proved, test_tree_status}
 use Rattle.rob_reach.specs.Boxes.{box_below, box_above}
 use Rattle.rob_reach.specs.Growing.{IsGrown}
 use Rattle.rob_reach.specs.Ranges.{whole_rule, product_of_ranges}
