@@ -3,7 +3,7 @@
 -- tested for 2, 3, 4 and 5 periods, since the centres count nothing for it.
 use Rattle.std.proofs.Common.{◌≡◌, ℕ, suc, ◌+◌, ◌%◌, ◌^◌, ◌<◌, List, [], ◌∷◌, map, length, ap, sym, ◌∙◌, subst, arith}
 use Rattle.std.specs.Fmt.{digits}
-use Rattle.std.specs.Prelude.{◌≢◌, Option, Some, None, codes}
+use Rattle.std.specs.Prelude.{◌≢◌, Option, Some, codes}
 use Rattle.rob_algebra.specs.Fraction.{Fraction, ratio}
 use Rattle.rob_meaning.proofs.WorkedTests.{found, both, so, test_admits, test_below, test_at_most, test_differ, test_each, test_numbers, test_model}
 use Rattle.rob_meaning.specs.Named.{AreDistinct, HasDistinctMembers, IsFree, IsNamed, IsPlain, declared_names}
@@ -13,6 +13,7 @@ use Rattle.rob_meaning.specs.SetRows.{lift_count}
 use Rattle.rob_meaning.specs.Places.{tabulate}
 use Rattle.rob_meaning.specs.UncertaintySet.{Admits}
 use Rattle.rob_meaning.specs.WellFormed.{IsModel}
+use Rattle.rob_meaning.proofs.WorkedDecisions.{either}
 use Rattle.rob_model.specs.Limits.{IsWithinLimits, model_size}
 use Rattle.rob_gen.specs.Generated.{generated, model_over, periods, centre, whole}
 use Rattle.rob_gen.proofs.NumberLemmas.{periods_again, centre_again}
@@ -70,10 +71,6 @@ within_limits = by_periods IsWithinLimits four_limited
 -- ---- well named
 pub apart : (a b : ℕ) → a < b → a ≢ b
 apart a b h e = let l : a < b = h in absurd (omega arith)
-
-abbrev either : {A : Type 0} → Option A → Option A → Option A
-either None o = o
-either (Some x) o = Some x
 
 -- two numbers differ
 abbrev pub test_apart : (a b : ℕ) → Option (a ≢ b)
