@@ -10,16 +10,13 @@ use Rattle.rob_model.specs.Within.{declared_within, holds_within}
 use Rattle.rob_model.specs.declared.model.Param.{Param}
 use Rattle.rob_model.specs.declared.model.SetLine.{SetLine}
 use Rattle.rob_model.specs.declared.place.Place.{Place}
+use Rattle.rob_model.proofs.ConditionLemmas.{count_of}
 use Rattle.rob_check.specs.Conditions.{set_tests}
 use Rattle.rob_check.specs.Scenario.{bound_tests}
 use Rattle.rob_check.specs.Verdicts.{Condition, decided, verdict}
 use Rattle.rob_check.specs.declared.verdict.Verdict.{Verdict}
 use Rattle.rob_check.specs.declared.verdict.Verdict.TheVariants.{Accepted}
 use Rattle.rob_check.proofs.VerdictLemmas.{goes, stops, judged_is}
-
--- how many bounds an `Option` declares
-abbrev count_of : {A : Type 0} → Option A → ℕ
-count_of o = length (option_to_list o)
 
 length-declared : {A : Type 0} (value : A → Fraction) (f : Fraction → SetCondition) (o : Option A)
     → length (if_declared f (option_map value o)) ≡ count_of o
