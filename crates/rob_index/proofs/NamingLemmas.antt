@@ -188,7 +188,7 @@ module _ (words : List Name) (Q : Ref → Type 0) where
       (statement_named s q (none_both is_out (range_places [] (ranges_of s)) (inner_places s) h).1 from.0 from.1)
 
 -- ---- none is too long
-abbrev IsShort : Name → Type 0
+abbrev pub IsShort : Name → Type 0
 IsShort n = length n ≤ longest_name
 
 short : (n : Name) → is_long_name n ≡ false → IsShort n

@@ -15,13 +15,11 @@ use Rattle.rob_index.specs.Search.{has_room, named}
 use Rattle.rob_index.proofs.ListLemmas.{or_false}
 use Rattle.rob_index.proofs.PlainLemmas.{line_itself, no_places}
 use Rattle.rob_index.proofs.SearchLemmas.{named_first}
+use Rattle.rob_index.proofs.NamingLemmas.{IsShort}
 
 -- ---- a statement whose names are short is one
 both_false : (a b : Bool) → a ≡ false → b ≡ false → (a || b) ≡ false
 both_false a b h k = cc
-
-abbrev IsShort : Name → Type 0
-IsShort n = length n ≤ longest_name
 
 not_long : (n : Name) → IsShort n → is_long_name n ≡ false
 not_long n h = le-ltb longest_name (length n) h
