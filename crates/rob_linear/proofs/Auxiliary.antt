@@ -116,12 +116,6 @@ auxiliary_positive P own rows e b lex n el oe =
           absurd (omega (arith, ints))
     ]
 
-pub auxiliary_shows_empty : (P : Program) (own : ℕ → ℕ) (rows : ℕ → ℕ → ℤ) (e : ℕ) → IsBasis (auxiliary_of P) own rows
-    → IsLexFeasible (auxiliary_of P) rows → IsNonnegative (suc (P.n + P.m)) (rows P.m) → e < P.m → own e ≡ P.n + P.m
-    → ShowsEmpty P (λ i. rows P.m (P.n + i))
-auxiliary_shows_empty P own rows e b lex n el oe =
-    infeasible P own rows b n (auxiliary_positive P own rows e b lex n el oe)
-
 -- ---- the weights have no common divisor
 
 -- where the auxiliary column is basic the objective's entry is the sum of the
