@@ -50,9 +50,6 @@ each_divides d (q ∷ qs) h = (
       (dvd_trans (denominator qs) (dvd_lcm_right q.den (denominator qs)) h),
 )
 
-pub multiplier : ℕ → Fraction
-multiplier d = of_int (pos d)
-
 pub multiplier_pos : (d : ℕ) → 0 < d → 0ℚ <ℚ of_int (pos d)
 multiplier_pos d h = Q.is_pos_in (is_int (pos d)) (pos_lt d h)
 

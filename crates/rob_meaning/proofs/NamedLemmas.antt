@@ -32,9 +32,6 @@ lower_is_not_upper = word_differs 108 117 (codes "ower") (codes "pper") (λ e. o
 pub up_is_not_down : codes "up" ≢ codes "down"
 up_is_not_down = word_differs 117 100 (codes "p") (codes "own") (λ e. omega arith)
 
-longer : (ps qs : Parts) (n : ℕ) → length qs ≡ n → (length ps ≡ n → ⊥) → ps ≢ qs
-longer ps qs n e ne same = ne (ap length same ∙ e)
-
 -- ---- bounds and sides
 pub bounds_distinct : (name : Name) (lo hi : Option Fraction) → AreDistinct (bound_parts name lo hi)
 bounds_distinct name None None = tt
