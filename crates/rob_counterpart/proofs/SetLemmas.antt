@@ -122,28 +122,6 @@ rows_bounded d w base p wp lies =
     let e : w r *ℤ (base *ℤ d.right r) ≡ base *ℤ (w r *ℤ d.right r) = simp ring in
     rw (a, ← e) b)
 
--- no point lies in a set that is shown to be empty
-pub no_point : (d : RobustProgram) (w : ℕ → ℤ) → ShowsSetEmpty d w → (base : ℤ) (p : ℕ → ℤ)
-    → pos 0 <ℤ base → LiesInSet d base p
-    → ⊥
-no_point d w em base p bp lies =
-    let low : dot d.set_columns (λ c. sum_to d.set_rows (λ r. w r *ℤ d.left r c)) p ≡ pos 0 =
-    sum_zero d.set_columns (λ c. sum_to d.set_rows (λ r. w r *ℤ d.left r c) *ℤ p c)
-    (λ c cl. ap (λ v. v *ℤ p c) (em.columns c cl) ∙ zero-mul (p c)) in
-    let high : sum_to d.set_rows (λ r. w r *ℤ dot d.set_columns (d.left r) p)
-    ≤ℤ sum_to d.set_rows (λ r. base *ℤ (w r *ℤ d.right r)) = rows_bounded d w base p em.nonnegative lies in
-    let s : sum_to d.set_rows (λ r. base *ℤ (w r *ℤ d.right r)) ≡ base *ℤ dot d.set_rows w d.right =
-    sum_scale d.set_rows base (λ r. w r *ℤ d.right r) in
-    let q : dot d.set_columns (λ c. sum_to d.set_rows (λ r. w r *ℤ d.left r c)) p
-    ≡ sum_to d.set_rows (λ r. w r *ℤ dot d.set_columns (d.left r) p) =
-    dot_rows d.set_rows d.set_columns w d.left p in
-    let neg : dot d.set_rows w d.right <ℤ pos 0 = em.below in
-    let f : pos 0 <ℤ (base *ℤ neg_ℤ (dot d.set_rows w d.right)) =
-    mul-pos_z base (neg_ℤ (dot d.set_rows w d.right)) bp (omega (arith, ints)) in
-    let g : base *ℤ neg_ℤ (dot d.set_rows w d.right) ≡ neg_ℤ (base *ℤ dot d.set_rows w d.right) =
-    mul-neg base (dot d.set_rows w d.right) in
-    omega (arith, ints)
-
 -- ---- the functions give these programs
 
 pub over_set_is : (d : RobustProgram) (f : ℕ → ℤ) → IsOverSet d (over_set d f)
