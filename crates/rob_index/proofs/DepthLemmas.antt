@@ -104,10 +104,6 @@ module _ (limit : ℕ) (words : List Name) where
   sum_parens (stated.sum ps) = omega arith
   sum_parens (stated.product ps) = omega arith
 
-  first_lead : (m : Bool) → lead limit true m ≤ length (spell_minus m)
-  first_lead true = omega arith
-  first_lead false = omega arith
-
   mutual
     factor_tokens_fit : (f : Factor) (setting : Setting) → IsPlain (tree_factor f)
         → parens_tokens limit (is_compound limit (expand_tree words (tree_factor f) setting))

@@ -144,7 +144,3 @@ module _ (words : List Name) where
     itself_factors_is stated.no_factors setting h = refl
     itself_factors_is (stated.factor t ts) setting h =
         let e = itself_is t setting h.0 in let f = itself_factors_is ts setting h.1 in λ i. stated.factor (e i) (f i)
-
-  -- a statement with no range of its own is one statement
-  pub one_statement : (s : Indexed Tree) → ranges_of s ≡ [] → expand words s ≡ statement_at words s [] ∷ []
-  one_statement s h = ap (λ (rs : List Range). map (statement_at words s) (settings rs [])) h

@@ -32,9 +32,6 @@ number_read n rest h = go n.divisor
     go None = rw h
     go (Some b) = refl
 
-starts_digits : (n : Numeral) (rest : List Symbol) (m : Mark) → begins m (spell_number n ++ rest) ≡ false
-starts_digits n rest m = refl
-
 pub signed_read : (s : Signed) (rest : List Symbol) → NumberEnds rest
     → front_signed (spell_signed s ++ rest) ≡ got s rest
 signed_read s rest h = go s.minus
