@@ -15,7 +15,8 @@ use Rattle.rob_meaning.specs.Multipliers.{ShowsEmpty, ShowsEmptyIn}
 use Rattle.rob_meaning.specs.Places.{Each}
 use Rattle.rob_meaning.specs.Proves.{Proves}
 use Rattle.rob_meaning.specs.RobustModel.{RobustModel}
-use Rattle.rob_meaning.specs.UncertaintySet.{Admits, IsEmptyIn, IsEmptySet}
+use Rattle.rob_meaning.specs.UncertaintySet.{IsEmptyIn, IsEmptySet}
+pub use Rattle.rob_meaning.specs.UncertaintySet.{HasScenario}
 use Rattle.rob_counterpart.specs.Counterpart.{set_program, counterpart}
 use Rattle.rob_counterpart.specs.Endings.{InfeasibleEnding}
 use Rattle.rob_counterpart.specs.ReadCertificates.{scenario_read, weights_read, IsReadOptimal, IsReadInfeasible, IsReadUnbounded}
@@ -29,10 +30,6 @@ use Rattle.rob_cert.specs.declared.certificate.Cert.{Cert}
 use Rattle.rob_cert.specs.declared.ending.Stop.{Stop}
 use Rattle.rob_cert.specs.declared.ending.Stop.TheVariants.{EmptySet, Wide, Memory}
 use Rattle.rob_dualize.specs.Refusals.{IsRefusedAt}
-
--- some scenario is admitted
-abbrev pub HasScenario : RobustModel → Type 0
-HasScenario m = (u : List Fraction) × Admits m u
 
 -- the certificate is read off the rows of the counterpart at this basis, in the entering column where they are
 -- unbounded

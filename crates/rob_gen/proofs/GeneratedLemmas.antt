@@ -11,7 +11,7 @@ use Rattle.rob_meaning.specs.Names.{Name}
 use Rattle.rob_meaning.specs.RobustModel.{RobustModel, SetLine, line, budget, Member, AdaptiveVariable, column_count}
 use Rattle.rob_meaning.specs.SetRows.{lift_count}
 use Rattle.rob_meaning.specs.Places.{tabulate}
-use Rattle.rob_meaning.specs.UncertaintySet.{Admits}
+use Rattle.rob_meaning.specs.UncertaintySet.{Admits, HasScenario}
 use Rattle.rob_meaning.specs.WellFormed.{IsModel}
 use Rattle.rob_meaning.proofs.WorkedDecisions.{either}
 use Rattle.rob_model.specs.Limits.{IsWithinLimits, model_size}
@@ -119,9 +119,6 @@ pub well_named : (n : ℕ) → IsNamed (generated n)
 well_named = by_periods IsNamed four_named
 
 -- ---- a scenario: each demand is at its centre
-abbrev HasScenario : RobustModel → Type 0
-HasScenario m = (u : List Fraction) × Admits m u
-
 abbrev central : ℕ → List Fraction
 central n = tabulate (periods n) (λ place. whole (centre n (suc place)))
 
