@@ -5,6 +5,7 @@ use Rattle.std.specs.Prelude.{Result, IfOk, ℤ, pos, negsuc, ◌+ℤ◌, ◌-�
 use Rattle.std.proofs.lemmas.List.{take_more}
 use Rattle.std.proofs.Math.Seq.{take-length}
 use Rattle.std.proofs.lemmas.Int.{ints, by_lt_z}
+use Rattle.rob_algebra.specs.Integer.{add_assoc}
 use Rattle.rob_index.specs.Expansion.{count, upwards}
 use Rattle.rob_index.specs.Forms.{Form, Ends, value_of, first_factor, outer, far_end, without, minus, greatest, all_run, is_dead, lack_form, length_form, only, at_one, fixed, onto}
 use Rattle.rob_index.proofs.FormLemmas.{without_is, outer_is, minus_is}
@@ -48,10 +49,7 @@ far_upto (negsuc n) r h = absurd (omega (arith, ints, lt_not (negsuc n) (pos 0) 
 pub plus_none : (a : ℤ) → a ≡ a +ℤ pos 0
 plus_none a = omega (arith, ints)
 
-pub plus_on : (a p w : ℤ) → (a +ℤ p) +ℤ w ≡ a +ℤ (p +ℤ w)
-plus_on a p w = omega (arith, ints)
-
-pub ruleset sums_on = (plus_none, plus_on)
+pub ruleset sums_on = (plus_none, add_assoc)
 
 -- ---- ranges of one value
 far_one : (c v : ℤ) (vs : List ℤ) → value_of (far_end c (at_one v)) vs ≡ v
