@@ -17,6 +17,7 @@ pub mod ConeLemmas
 pub mod WholeRowLemmas
 pub mod TauLemmas
 pub mod FormLemmas
+pub mod SizeLemmas
 pub mod MatrixLemmas
 pub mod AloneLemmas
 pub mod JointBoundLemmas

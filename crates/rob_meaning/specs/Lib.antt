@@ -14,6 +14,7 @@ pub mod Coefficients
 pub mod Clearing
 pub mod Forms
 pub mod SetRows
+pub mod Sizes
 pub mod Names
 pub mod Named
 pub mod Multipliers
