@@ -1,25 +1,17 @@
 -- How large the split model's sets are, by the parts of the model.
-use Rattle.std.proofs.Common.{◌≡◌, ℕ, zero, suc, ◌+◌, ◌*◌, List, [], ◌∷◌, ◌++◌, map, length, refl, ap, ◌∙◌, arith, length-append, suc-mul, zero-mul}
-use Rattle.std.specs.Prelude.{flat_map, pred, Option}
+use Rattle.std.proofs.Common.{◌≡◌, ℕ, zero, suc, ◌+◌, List, [], ◌∷◌, ◌++◌, map, length, refl, ap, ◌∙◌, arith, length-append}
+use Rattle.std.specs.Prelude.{pred, Option}
 use Rattle.std.proofs.lemmas.List.{length-map}
 use Rattle.rob_algebra.specs.Fraction.{Fraction}
-use Rattle.rob_cells.proofs.SizeLemmas.{length-both, length-sides, sides_of}
-use Rattle.rob_cells.specs.Counts.{declared_count}
-use Rattle.rob_meaning.specs.Forms.{sides}
-use Rattle.rob_meaning.specs.RobustModel.{Parameter, RobustModel, SetLine, budget, in_set, line}
-use Rattle.rob_meaning.specs.SetConditions.{if_declared}
-use Rattle.rob_meaning.specs.SetRows as meaning
-use Rattle.rob_meaning.specs.SetRows.{budget_row, expression_row, lift_count, member_rows, statement_rows}
+use Rattle.rob_meaning.specs.RobustModel.{Parameter, RobustModel, SetLine, budget, line}
+use Rattle.rob_meaning.specs.SetRows.{lift_count}
 use Rattle.rob_model.specs.GroupNames.{bound_names, parameter_bound_names}
 use Rattle.rob_pieces.specs.Cuts.{Cut, bit}
 use Rattle.rob_pieces.specs.SplitModel.{cell_lines, line_over, member_over, side_line, side_lines}
-use Rattle.rob_meaning.proofs.SetRowLemmas.{length-member_rows}
+use Rattle.rob_meaning.specs.Sizes.{declared_count, inequalities, line_rows, parameter_bounds, rows_of}
+use Rattle.rob_meaning.proofs.SizeLemmas.{length-both}
 
 -- ---- the declared bounds of parameters
-abbrev pub parameter_bounds : List Parameter → ℕ
-parameter_bounds [] = 0
-parameter_bounds (p ∷ ps) = declared_count p.lower p.upper + parameter_bounds ps
-
 both_names : (name : List ℕ) (lower upper : Option Fraction)
     → length (bound_names name lower upper) ≡ declared_count lower upper
 both_names name lower upper = length-both _ _ lower upper
@@ -34,75 +26,7 @@ length-parameter_bound_names (p ∷ ps) =
       length-parameter_bound_names ps,
     )
 
-pub length-bound_rows : (k : ℕ) (ps : List Parameter) → length (meaning.bound_rows k ps) ≡ parameter_bounds ps
-length-bound_rows k [] = refl
-length-bound_rows k (p ∷ ps) =
-    omega (
-      arith,
-      length-append (if_declared (meaning.lower_row k) p.lower ++ if_declared (meaning.upper_row k) p.upper)
-          (meaning.bound_rows (suc k) ps),
-      length-both (meaning.lower_row k) (meaning.upper_row k) p.lower p.upper,
-      length-bound_rows (suc k) ps,
-    )
-
-parameter_bounds-append : (ps qs : List Parameter)
-    → parameter_bounds (ps ++ qs) ≡ parameter_bounds ps + parameter_bounds qs
-parameter_bounds-append [] qs = omega arith
-parameter_bounds-append (p ∷ ps) qs = omega (arith, parameter_bounds-append ps qs)
-
-bounds_in_set : (set : List ℕ) (ps : List Parameter) → parameter_bounds (map (in_set set) ps) ≡ parameter_bounds ps
-bounds_in_set set [] = refl
-bounds_in_set set (p ∷ ps) = ap (λ n. declared_count p.lower p.upper + n) (bounds_in_set set ps)
-
-pub bounds_in_sets : (ps : List Parameter) (sets : List (List ℕ))
-    → parameter_bounds (ps ++ flat_map (λ set. map (in_set set) ps) sets) ≡ suc (length sets) * parameter_bounds ps
-bounds_in_sets ps sets =
-    omega (
-      arith,
-      parameter_bounds-append ps (flat_map (λ set. map (in_set set) ps) sets),
-      later sets,
-      suc-mul (length sets) (parameter_bounds ps),
-    )
-  where
-    later : (sets : List (List ℕ)) → parameter_bounds (flat_map (λ set. map (in_set set) ps) sets)
-        ≡ length sets * parameter_bounds ps
-    later [] = omega (arith, zero-mul (parameter_bounds ps))
-    later (set ∷ sets) =
-        omega (
-          arith,
-          parameter_bounds-append (map (in_set set) ps) (flat_map (λ set. map (in_set set) ps) sets),
-          bounds_in_set set ps,
-          later sets,
-          suc-mul (length sets) (parameter_bounds ps),
-        )
-
 -- ---- the rows of statements
-abbrev pub line_rows : SetLine → ℕ
-line_rows (line left relation right) = sides_of relation
-line_rows (budget limit members) = 2 * length members + 1
-
-abbrev pub rows_of : List SetLine → ℕ
-rows_of [] = 0
-rows_of (c ∷ cs) = line_rows c + rows_of cs
-
-pub length-statement_rows : (m : RobustModel) (t : ℕ) (cs : List SetLine) → length (statement_rows m t cs) ≡ rows_of cs
-length-statement_rows m t [] = refl
-length-statement_rows m t (line left relation right ∷ cs) =
-    omega (
-      arith,
-      length-append (map (expression_row m) (sides relation left right)) (statement_rows m t cs),
-      length-map (sides relation left right) (expression_row m),
-      length-sides relation left right,
-      length-statement_rows m t cs,
-    )
-length-statement_rows m t (budget limit hs ∷ cs) =
-    omega (
-      arith,
-      length-append (member_rows t hs) (budget_row t limit hs ∷ statement_rows m (length hs + t) cs),
-      length-member_rows t hs,
-      length-statement_rows m (length hs + t) cs,
-    )
-
 pub rows_of-append : (cs ds : List SetLine) → rows_of (cs ++ ds) ≡ rows_of cs + rows_of ds
 rows_of-append [] ds = omega arith
 rows_of-append (c ∷ cs) ds = omega (arith, rows_of-append cs ds)
@@ -115,7 +39,7 @@ lift_count-append (budget limit hs ∷ cs) ds = omega (arith, lift_count-append 
 module _ (m : RobustModel) (c : ℕ) where
   rows_over : (cs : List SetLine) → rows_of (map (line_over m c) cs) ≡ rows_of cs
   rows_over [] = refl
-  rows_over (line left relation right ∷ cs) = ap (λ n. sides_of relation + n) (rows_over cs)
+  rows_over (line left relation right ∷ cs) = ap (λ n. inequalities relation + n) (rows_over cs)
   rows_over (budget limit hs ∷ cs) = omega (arith, length-map hs (member_over m c), rows_over cs)
 
   members_over : (cs : List SetLine) → lift_count (map (line_over m c) cs) ≡ lift_count cs

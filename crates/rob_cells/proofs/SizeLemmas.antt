@@ -3,12 +3,12 @@ use Rattle.std.proofs.Common.{◌≡◌, ℕ, zero, suc, ◌+◌, ◌*◌, List,
 use Rattle.std.specs.Prelude.{codes, flat_map, Option, Some, None, option_to_list}
 use Rattle.std.proofs.lemmas.List.{length-map}
 use Rattle.rob_algebra.specs.Fraction.{Fraction}
-use Rattle.rob_cells.specs.Counts.{adaptive_bounds, declared_count, variable_bounds}
-use Rattle.rob_meaning.specs.Expressions.{Expression, adaptive, variable}
-use Rattle.rob_meaning.specs.Forms.{adaptive_forms, bound_forms, row_forms, sides, variable_forms}
+use Rattle.rob_meaning.specs.Forms.{row_forms, sides}
 use Rattle.rob_meaning.specs.Places.{tabulate}
-use Rattle.rob_meaning.specs.RobustModel.{AdaptiveVariable, Relation, RobustModel, Row, Sense, Variable, at_least, at_most, equal, maximise, minimise}
+use Rattle.rob_meaning.specs.RobustModel.{AdaptiveVariable, RobustModel, Row, Sense, Variable, at_least, at_most, maximise, minimise}
 use Rattle.rob_meaning.specs.SetConditions.{if_declared}
+use Rattle.rob_meaning.specs.Sizes.{adaptive_bounds, variable_bounds, inequalities}
+use Rattle.rob_meaning.proofs.SizeLemmas.{length-declared, length-sides}
 use Rattle.rob_pieces.specs.SplitModel.{bound_row, bound_rows, cell_rows, copy_in, cost_relation, cost_row, row_over}
 
 -- ---- one block for each cell
@@ -26,34 +26,7 @@ module _ {A : Type 0} (measure : List A → ℕ) (none : measure [] ≡ 0)
         suc-mul n k,
       )
 
--- ---- how much stands for declared bounds
-length-declared : {A : Type 0} (f : Fraction → A) (o : Option Fraction)
-    → length (if_declared f o) ≡ length (option_to_list o)
-length-declared f None = refl
-length-declared f (Some b) = refl
-
-pub length-both : {A : Type 0} (f g : Fraction → A) (lower upper : Option Fraction)
-    → length (if_declared f lower ++ if_declared g upper) ≡ declared_count lower upper
-length-both f g lower upper =
-    omega (
-      arith,
-      length-append (if_declared f lower) (if_declared g upper),
-      length-declared f lower,
-      length-declared g upper,
-    )
-
 -- ---- forms
--- the inequalities of a relation
-abbrev pub sides_of : Relation → ℕ
-sides_of at_most = 1
-sides_of at_least = 1
-sides_of equal = 2
-
-pub length-sides : (r : Relation) (a b : Expression) → length (sides r a b) ≡ sides_of r
-length-sides at_most a b = refl
-length-sides at_least a b = refl
-length-sides equal a b = refl
-
 pub row_forms-append : (xs ys : List Row)
     → length (row_forms (xs ++ ys)) ≡ length (row_forms xs) + length (row_forms ys)
 row_forms-append [] ys = omega arith
@@ -65,41 +38,13 @@ row_forms-append (r ∷ rs) ys =
       row_forms-append rs ys,
     )
 
-row_forms-first : (r : Row) (rs : List Row) → length (row_forms (r ∷ rs)) ≡ sides_of r.relation + length (row_forms rs)
+row_forms-first : (r : Row) (rs : List Row) → length (row_forms (r ∷ rs)) ≡ inequalities r.relation + length (row_forms rs)
 row_forms-first r rs =
     omega (
       arith,
       length-append (sides r.relation r.left r.right) (row_forms rs),
       length-sides r.relation r.left r.right,
     )
-
-pub length-variable_forms : (k : ℕ) (xs : List Variable) → length (variable_forms k xs) ≡ variable_bounds xs
-length-variable_forms k [] = refl
-length-variable_forms k (x ∷ xs) =
-    omega (
-      arith,
-      length-append (bound_forms (variable k) x.lower x.upper) (variable_forms (suc k) xs),
-      bounds (variable k) x.lower x.upper,
-      length-variable_forms (suc k) xs,
-    )
-  where
-    bounds : (e : Expression) (lower upper : Option Fraction)
-        → length (bound_forms e lower upper) ≡ declared_count lower upper
-    bounds e lower upper = length-both _ _ lower upper
-
-pub length-adaptive_forms : (k : ℕ) (ys : List AdaptiveVariable) → length (adaptive_forms k ys) ≡ adaptive_bounds ys
-length-adaptive_forms k [] = refl
-length-adaptive_forms k (y ∷ ys) =
-    omega (
-      arith,
-      length-append (bound_forms (adaptive k) y.lower y.upper) (adaptive_forms (suc k) ys),
-      bounds (adaptive k) y.lower y.upper,
-      length-adaptive_forms (suc k) ys,
-    )
-  where
-    bounds : (e : Expression) (lower upper : Option Fraction)
-        → length (bound_forms e lower upper) ≡ declared_count lower upper
-    bounds e lower upper = length-both _ _ lower upper
 
 pub variable_bounds-append : (xs ys : List Variable)
     → variable_bounds (xs ++ ys) ≡ variable_bounds xs + variable_bounds ys
@@ -157,8 +102,8 @@ module _ (m : RobustModel) (c : ℕ) where
       )
 
   cost_forms : (s : Sense) (r : Row) → r.relation ≡ cost_relation m c s → length (sides r.relation r.left r.right) ≡ 1
-  cost_forms minimise r e = length-sides r.relation r.left r.right ∙ ap sides_of e
-  cost_forms maximise r e = length-sides r.relation r.left r.right ∙ ap sides_of e
+  cost_forms minimise r e = length-sides r.relation r.left r.right ∙ ap inequalities e
+  cost_forms maximise r e = length-sides r.relation r.left r.right ∙ ap inequalities e
 
   pub cell_forms : length (row_forms (cell_rows m c)) ≡ 1 + (length (row_forms m.rows) + adaptive_bounds m.adaptives)
   cell_forms =

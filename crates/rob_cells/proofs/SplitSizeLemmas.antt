@@ -1,14 +1,16 @@
 -- The counts of the split model, by the counts of the model.
-use Rattle.std.proofs.Common.{◌≡◌, ℕ, suc, ◌+◌, ◌-◌, ◌*◌, ◌≤◌, ◌^◌, List, [], ◌∷◌, ◌++◌, map, length, refl, ap, ap₂, sym, ◌∙◌, arith, length-append, mul-le-mul_right, pow_mono}
+use Rattle.std.proofs.Common.{◌≡◌, ℕ, suc, ◌+◌, ◌-◌, ◌*◌, ◌≤◌, ◌^◌, List, [], ◌∷◌, map, length, refl, ap, ap₂, sym, ◌∙◌, arith, length-append, mul-le-mul_right, pow_mono}
 use Rattle.std.proofs.lemmas.List.{length-map}
-use Rattle.rob_cells.proofs.SetSizeLemmas.{bounds_in_sets, cell_line_count, cell_members, cell_set_rows, length-bound_rows, length-statement_rows, lift_count-append, parameter_bounds, rows_of, rows_of-append}
-use Rattle.rob_cells.proofs.SizeLemmas.{adaptive_bounds-append, blocks, cell_forms, copies_free, length-adaptive_forms, length-cell_rows, length-variable_forms, row_forms-append, variable_bounds-append}
-use Rattle.rob_cells.specs.Counts.{AreCountsOf, AreSmall, adaptive_bounds, variable_bounds}
+use Rattle.rob_cells.proofs.SetSizeLemmas.{cell_line_count, cell_members, cell_set_rows, lift_count-append, rows_of-append}
+use Rattle.rob_cells.proofs.SizeLemmas.{adaptive_bounds-append, blocks, cell_forms, copies_free, length-cell_rows, row_forms-append, variable_bounds-append}
+use Rattle.rob_cells.specs.Counts.{AreCountsOf, AreSmall}
 use Rattle.rob_cells.specs.declared.size.Counts.{Counts}
-use Rattle.rob_meaning.specs.Forms.{adaptive_forms, forms, forms as meaning_forms, row_forms, variable_forms}
+use Rattle.rob_meaning.specs.Forms.{forms, forms as meaning_forms, row_forms}
 use Rattle.rob_meaning.specs.RobustModel.{RobustModel, Row, SetLine, column_count}
 use Rattle.rob_meaning.specs.SetRows as meaning
-use Rattle.rob_meaning.specs.SetRows.{lift_count, set_rows, statement_rows}
+use Rattle.rob_meaning.specs.SetRows.{lift_count, set_rows}
+use Rattle.rob_meaning.specs.Sizes.{adaptive_bounds, variable_bounds, parameter_bounds, rows_of}
+use Rattle.rob_meaning.proofs.SizeLemmas.{bounds-joint, length-forms, length-row_forms, length-set_rows}
 use Rattle.rob_pieces.proofs.ColumnLemmas.{column_base, columns_count, length-names, parameters_count}
 use Rattle.rob_pieces.specs.Cuts.{Cut, cell_count}
 use Rattle.rob_pieces.specs.Pieces.{policy_columns}
@@ -21,23 +23,10 @@ module _ (m : RobustModel) where
   cell_form_count = 1 + (length (row_forms m.rows) + adaptive_bounds m.adaptives)
 
   pub own_forms : length (forms m) ≡ cell_form_count + variable_bounds m.variables
-  own_forms =
-      omega (
-        arith,
-        length-append (row_forms m.rows) (variable_forms 0 m.variables ++ adaptive_forms 0 m.adaptives),
-        length-append (variable_forms 0 m.variables) (adaptive_forms 0 m.adaptives),
-        length-variable_forms 0 m.variables,
-        length-adaptive_forms 0 m.adaptives,
-      )
+  own_forms = omega (arith, length-forms m, length-row_forms m.rows)
 
   pub own_set_rows : length (set_rows m) ≡ rows_of m.set_lines + parameter_bounds m.parameters
-  own_set_rows =
-      omega (
-        arith,
-        length-append (meaning.bound_rows 0 m.parameters) (statement_rows m 0 m.set_lines),
-        length-bound_rows 0 m.parameters,
-        length-statement_rows m 0 m.set_lines,
-      )
+  own_set_rows = omega (arith, length-set_rows m)
 
   pub own_columns : column_count m ≡ policy_columns m + length m.variables
   own_columns = omega (arith, column_base (length m.variables) m.adaptives (length m.adaptives))
@@ -71,13 +60,11 @@ module _ (m : RobustModel) (cuts : List Cut) where
   forms_split =
       omega (
         arith,
-        length-append (row_forms s.rows) (variable_forms 0 s.variables ++ adaptive_forms 0 s.adaptives),
-        length-append (variable_forms 0 s.variables) (adaptive_forms 0 s.adaptives),
+        length-forms s,
+        length-row_forms s.rows,
         blocks (λ rs. length (row_forms rs)) refl row_forms-append (cell_rows m) (cell_form_count m)
             (λ c. cell_forms m c) (cell_count cuts) suc,
-        length-variable_forms 0 s.variables,
         variable_bounds-append m.variables (cells_worst ∷ []),
-        length-adaptive_forms 0 s.adaptives,
         no_bounds,
       )
 
@@ -88,7 +75,7 @@ module _ (m : RobustModel) (cuts : List Cut) where
         arith,
         own_set_rows s,
         statements,
-        bounds_in_sets m.parameters (cell_names cuts)
+        bounds-joint m.parameters (cell_names cuts)
             ∙ ap (λ n. n * parameter_bounds m.parameters)
             (let n = length-names m cuts in
             let e : suc (length (cell_names cuts)) ≡ cell_count cuts + 1 = omega (arith, n) in e),

@@ -1,24 +1,9 @@
 -- How large a model is, by its parts.
-use Rattle.std.specs.Prelude.{◌≡◌, ℕ, ◌+◌, ◌<◌, ◌^◌, List, [], ◌∷◌, length, Option, option_to_list}
-use Rattle.rob_algebra.specs.Fraction.{Fraction}
+use Rattle.std.specs.Prelude.{◌≡◌, ◌<◌, ◌^◌, length}
 use Rattle.rob_cells.specs.declared.size.Counts.{Counts}
 use Rattle.rob_meaning.specs.Forms.{forms}
-use Rattle.rob_meaning.specs.RobustModel.{AdaptiveVariable, RobustModel, Variable, column_count}
+use Rattle.rob_meaning.specs.RobustModel.{RobustModel, column_count}
 use Rattle.rob_meaning.specs.SetRows.{lift_count, set_rows}
-
--- how many of two bounds are declared
-abbrev pub declared_count : Option Fraction → Option Fraction → ℕ
-declared_count lower upper = length (option_to_list lower) + length (option_to_list upper)
-
--- the declared bounds of variables
-abbrev pub variable_bounds : List Variable → ℕ
-variable_bounds [] = 0
-variable_bounds (x ∷ xs) = declared_count x.lower x.upper + variable_bounds xs
-
--- the declared bounds of adaptive variables
-abbrev pub adaptive_bounds : List AdaptiveVariable → ℕ
-adaptive_bounds [] = 0
-adaptive_bounds (y ∷ ys) = declared_count y.lower y.upper + adaptive_bounds ys
 
 -- these are the counts of the model's parts
 pub record AreCountsOf (m : RobustModel) (counts : Counts) : Type 0 where

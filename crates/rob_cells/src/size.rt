@@ -2,7 +2,8 @@
 
 ghost use Rattle.std.specs.Prelude.{◌≡◌, ◌≤◌, length, map};
 ghost use Rattle.std.specs.Bool.{Decides};
-ghost use Rattle.rob_cells.specs.Counts.{AreCountsOf, AreSmall, adaptive_bounds as count_of_adaptive_bounds, variable_bounds as count_of_variable_bounds};
+ghost use Rattle.rob_meaning.specs.Sizes.{adaptive_bounds as count_of_adaptive_bounds, variable_bounds as count_of_variable_bounds};
+ghost use Rattle.rob_cells.specs.Counts.{AreCountsOf, AreSmall};
 ghost use Rattle.rob_cells.specs.View.{cut_of};
 ghost use Rattle.rob_meaning.specs.RobustModel.{RobustModel};
 ghost use Rattle.rob_meaning.specs.SetRows.{lift_count};

@@ -1,5 +1,5 @@
 use Rattle.std.proofs.Common.{◌≡◌, ◌≤◌, ◌+◌, ◌*◌, map, drop}
-use Rattle.rob_cells.specs.Counts.{adaptive_bounds}
+use Rattle.rob_meaning.specs.Sizes.{adaptive_bounds}
 use Rattle.rob_model.specs.View.{adaptive_of}
 use Rattle.rob_cells.proofs.size.adaptive_bounds.Given as goal
 

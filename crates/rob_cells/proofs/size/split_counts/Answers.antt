@@ -1,15 +1,15 @@
 use Rattle.std.proofs.Common.{◌≡◌, ◌≤◌, ◌+◌, ◌-◌, map, length, ap, sym, subst, ◌∙◌, arith}
 use Rattle.std.proofs.lemmas.List.{length-map}
 use Rattle.rob_cells.proofs.CountLemmas.{few_adaptives, few_lines, few_params, few_rows, few_vars, less_of}
-use Rattle.rob_cells.proofs.SetSizeLemmas.{length-parameter_bound_names, parameter_bounds, rows_of}
+use Rattle.rob_cells.proofs.SetSizeLemmas.{length-parameter_bound_names}
 use Rattle.rob_cells.proofs.SplitSizeLemmas.{cell_form_count, counts_are, counts_few, few_times, own_forms, own_set_rows}
-use Rattle.rob_cells.specs.Counts.{adaptive_bounds, variable_bounds}
 use Rattle.rob_cells.specs.View.{cut_of}
 use Rattle.rob_meaning.proofs.NameLemmas.{length-column_names, length-form_names, length-set_row_names}
 use Rattle.rob_meaning.specs.Names.{set_row_names}
 use Rattle.rob_model.proofs.NameCountLemmas.{kind_few}
 use Rattle.rob_model.specs.declared.group.Kind.TheVariants.{Form, SetRow}
 use Rattle.rob_meaning.specs.SetRows.{lift_count}
+use Rattle.rob_meaning.specs.Sizes.{adaptive_bounds, variable_bounds, parameter_bounds, rows_of}
 use Rattle.rob_model.specs.GroupNames.{parameter_bound_names}
 use Rattle.rob_model.specs.View.{adaptive_of, parameter_of, robust, row_of, set_line_of, variable_of}
 use Rattle.rob_cells.proofs.size.split_counts.Goals as goal

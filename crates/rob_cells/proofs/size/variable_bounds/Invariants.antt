@@ -1,5 +1,5 @@
 use Rattle.std.proofs.Common.{◌≡◌, ◌≤◌, ◌+◌, ◌*◌, map, drop}
-use Rattle.rob_cells.specs.Counts.{variable_bounds}
+use Rattle.rob_meaning.specs.Sizes.{variable_bounds}
 use Rattle.rob_model.specs.View.{variable_of}
 use Rattle.rob_cells.proofs.size.variable_bounds.Given as goal
 
