@@ -7,6 +7,8 @@ use Rattle.std.proofs.lemmas.List.Sums.{fold-append}
 use Rattle.rob_meaning.specs.Forms.{forms}
 use Rattle.rob_meaning.specs.RobustModel.{RobustModel}
 use Rattle.rob_meaning.specs.SetRows.{lift_count, set_rows}
+use Rattle.rob_meaning.specs.Sizes.{adaptive_bounds, parameter_bounds, rows_of, variable_bounds}
+use Rattle.rob_meaning.proofs.SizeLemmas.{bounds-joint, length-forms, length-set_rows}
 use Rattle.rob_model.specs.Limits.{IsWithinLimits, most_columns, most_members, most_parameters, most_rows, most_set_lines, most_sets, most_size}
 use Rattle.rob_rules.specs.declared.size.Sizes.{Sizes}
 use Rattle.rob_rules.specs.declared.sort.Sort.{Sort}
@@ -20,7 +22,7 @@ use Rattle.rob_parse.proofs.Sizes.StatementSizes.{added, sizes_are, sizes_behind
 use Rattle.rob_parse.proofs.Sizes.CountLemmas.{columns_are, kept_all}
 use Rattle.rob_parse.proofs.Names.ChainLemmas.{model_chain}
 use Rattle.rob_parse.proofs.Sets.InSets.{length-each_taken, length_joint, lifts_taken}
-use Rattle.rob_parse.proofs.Sizes.ModelSizes.{adaptive_bounds, bounds-joint, length-forms, length-set_rows, line_rows, lines_taken, parameter_bounds, rows_taken, variable_bounds}
+use Rattle.rob_parse.proofs.Sizes.ModelSizes.{lines_taken, rows_taken}
 use Rattle.rob_rules.proofs.SizeLemmas.{Within, kept_start, within}
 
 -- ---- counts of what is written, and of the model that it is in sets
@@ -55,7 +57,7 @@ module _ (w : RobustModel) (names : List (List ℕ)) (of_lines : List ℕ) (of_o
   set_rows_are : s.bounds * (s.sets + 1) + s.set_rows ≡ length (set_rows m)
   set_rows_are =
       (λ i. (each_set (parameter_bounds w.parameters) (length names) ∙ sym (bounds-joint w.parameters names)) i
-      + (let e : 0 + line_rows w.set_lines ≡ line_rows m.set_lines =
+      + (let e : 0 + rows_of w.set_lines ≡ rows_of m.set_lines =
       omega (arith, lines_taken p w.set_lines of_lines) in e) i)
       ∙ sym (length-set_rows m)
 

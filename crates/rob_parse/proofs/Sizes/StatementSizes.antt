@@ -6,6 +6,7 @@ use Rattle.std.proofs.lemmas.List.{length-map}
 use Rattle.std.specs.List.{flat_map}
 use Rattle.rob_meaning.specs.RobustModel.{RobustModel}
 use Rattle.rob_meaning.specs.SetRows.{lift_count}
+use Rattle.rob_meaning.specs.Sizes.{adaptive_bounds, declared_count, inequalities, parameter_bounds, row_inequalities, rows_of, variable_bounds}
 use Rattle.rob_rules.specs.declared.size.Sizes.{Sizes}
 use Rattle.rob_rules.specs.declared.sort.Sort.{Sort}
 use Rattle.rob_syntax.specs.declared.syntax.Bounds.{Bounds}
@@ -20,7 +21,6 @@ use Rattle.rob_rules.specs.Scopes.{Earlier, behind}
 use Rattle.rob_model.specs.Limits.{most_sets, most_parameters, most_columns, most_rows, most_set_lines, most_members, most_size}
 use Rattle.rob_rules.specs.Sizes.{bound_count, rel_count, start_sizes, counted, joint_count, size, is_within}
 use Rattle.rob_parse.proofs.Sizes.CountLemmas.{rule_columns}
-use Rattle.rob_parse.proofs.Sizes.ModelSizes.{some_bounds, inequalities, parameter_bounds, variable_bounds, adaptive_bounds, row_inequalities, line_rows}
 use Rattle.rob_rules.proofs.SizeLemmas.{Within}
 
 -- the sizes behind the statements of a model over written parameters, where so many sets are named
@@ -36,14 +36,14 @@ added s n m = record {
   set_lines = s.set_lines + length m.set_lines;
   members = s.members + lift_count m.set_lines;
   forms = s.forms + (variable_bounds m.variables + adaptive_bounds m.adaptives + row_inequalities m.rows);
-  set_rows = s.set_rows + line_rows m.set_lines;
+  set_rows = s.set_rows + rows_of m.set_lines;
 }
 
-some_bounds_are : (b : Option Bounds) → some_bounds (lower_bound b) (upper_bound b) ≡ bound_count b
-some_bounds_are None = refl
-some_bounds_are (Some (Between both)) = refl
-some_bounds_are (Some (AtLeast a)) = refl
-some_bounds_are (Some (AtMost a)) = refl
+bounds_are : (b : Option Bounds) → declared_count (lower_bound b) (upper_bound b) ≡ bound_count b
+bounds_are None = refl
+bounds_are (Some (Between both)) = refl
+bounds_are (Some (AtLeast a)) = refl
+bounds_are (Some (AtMost a)) = refl
 
 inequalities_are : (r : Rel) → inequalities (relation_of r) ≡ rel_count r
 inequalities_are rel.AtMost = refl
@@ -86,15 +86,15 @@ module _ (words : List (List ℕ)) (sorts : List (Option Sort)) where
       (written_of words sorts (st ∷ list))
   unfolding rule_columns
   added_more s (Uncertain d) list =
-      same_sizes _ _ (omega arith) (omega (arith, some_bounds_are d.bounds)) refl refl refl refl refl refl refl refl
+      same_sizes _ _ (omega arith) (omega (arith, bounds_are d.bounds)) refl refl refl refl refl refl refl refl
       refl
   added_more s (Over k) list = same_sizes _ _ refl refl (omega arith) refl refl refl refl refl refl refl refl
   added_more s (Var d) list =
       same_sizes _ _ refl refl refl (omega arith) refl (omega arith) refl refl refl
-      (omega (arith, some_bounds_are d.bounds)) refl
+      (omega (arith, bounds_are d.bounds)) refl
   added_more s (Adaptive p) list =
       same_sizes _ _ refl refl refl refl (omega arith) (omega (arith, length-map p.on (parameter_at sorts))) refl refl
-      refl (omega (arith, some_bounds_are p.bounds)) refl
+      refl (omega (arith, bounds_are p.bounds)) refl
   added_more s (Set r) list =
       same_sizes _ _ refl refl refl refl refl refl refl (omega arith) refl refl (omega (arith, inequalities_are r.rel))
   added_more s (Budget b) list =
