@@ -8,7 +8,7 @@ use lib.IntN.{ℤ, pos, ◌+ℤ◌, ◌-ℤ◌, ◌*ℤ◌, neg_ℤ}
 use lib.Signed.{◌<ℤ◌, ◌≤ℤ◌}
 use Rattle.rob_linear.specs.Vectors.{sum_to}
 use Rattle.rob_linear.specs.Systems.{System, right, IsSpanned, IsPrimitive, LiesAlong, RowOf, IsBasis, IsNonnegative}
-use Rattle.rob_linear.specs.Programs.{Program, auxiliary_tag, auxiliary_row, auxiliary_of, ShowsEmpty}
+use Rattle.rob_linear.specs.Programs.{Program, auxiliary_tag, auxiliary_row, auxiliary_of}
 use Rattle.rob_linear.specs.Turns.{IsLexPositive, key, IsLexFeasible}
 use Rattle.rob_algebra.specs.Integer.{ring, mul-zero, mul-one, mul-pos_z, mul_cancel_lt, mul_nonneg}
 use Rattle.rob_linear.proofs.Sums.{dot_combine}
@@ -16,7 +16,6 @@ use Rattle.rob_linear.proofs.Solutions.{start_along}
 use Rattle.rob_linear.proofs.Endings.{own_positive}
 use Rattle.rob_linear.proofs.Unique.{row_unique, own_apart}
 use Rattle.rob_linear.proofs.Starts.{auxiliary_tagged}
-use Rattle.rob_linear.proofs.Truths.{infeasible}
 use Rattle.rob_linear.proofs.Phases.{times, divides_times, sum_times, divides_spanned}
 use Rattle.rob_linear.proofs.Programs.{auxiliary_cost_entry, auxiliary_cost_objective, auxiliary_cost_zero, auxiliary_tag-slack}
 

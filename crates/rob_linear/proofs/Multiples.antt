@@ -1,16 +1,16 @@
 -- Rows up to positive factors choose as the rows of the basis do, and a pivot keeps them such.
-use Rattle.std.proofs.Common.{◌≡◌, ◌≢◌, ℕ, zero, suc, ◌*◌, ◌<◌, ◌≤◌, sym, refl, ap, ◌∙◌, subst, arith, inl, inr, cond, eqb}
+use Rattle.std.proofs.Common.{◌≡◌, ◌≢◌, ℕ, suc, ◌*◌, ◌<◌, ◌≤◌, sym, ap, ◌∙◌, subst, arith, inl, inr, cond, eqb}
 use Rattle.std.proofs.Math.Nat.{mul-le-mul_right, le_of_mul-le-mul_left, le_of_dvd}
-use Rattle.std.proofs.lemmas.Int.{ints, by_lt_z, unsigned_abs-mul}
+use Rattle.std.proofs.lemmas.Int.{ints, unsigned_abs-mul}
 use Rattle.std.proofs.lemmas.Bool.{cases_eq}
 use Rattle.std.proofs.lemmas.Bool.Decides.{nat_tests}
 use Rattle.std.specs.Int.RustNames.{unsigned_abs}
 use lib.IntN.{ℤ, pos, negsuc, ◌-ℤ◌, ◌*ℤ◌}
-use lib.Signed.{◌<ℤ◌, ◌≤ℤ◌}
-use Rattle.rob_algebra.specs.Integer.{ring, *ℤ_comm, zero-mul, mul-zero, one-mul, mul_cancel, mul_cancel_zero, mul_cancel_lt, mul_cancel_nonneg, mul-pos_z, mul_nonneg}
+use lib.Signed.{◌<ℤ◌}
+use Rattle.rob_algebra.specs.Integer.{ring, *ℤ_comm, zero-mul, mul-zero, one-mul, mul_cancel, mul_cancel_zero, mul_cancel_lt, mul-pos_z}
 use Rattle.rob_linear.specs.Vectors.{sum_to}
-use Rattle.rob_linear.specs.Systems.{System, IsTagged, objective, right, IsSpanned, IsPrimitive, IsCombined, LiesAlong, RowOf, IsBasis, IsNonnegative, Feasible, EndsOptimal, EndsUnbounded}
-use Rattle.rob_linear.specs.Turns.{IsLexPositive, key, ComesBefore, IsLexFeasible, IsExchange, Enters, Leaves, Rises, own_of, StandsWith, TurnsTo}
+use Rattle.rob_linear.specs.Systems.{System, IsTagged, objective, right, IsSpanned, IsPrimitive, IsCombined, LiesAlong, IsBasis}
+use Rattle.rob_linear.specs.Turns.{IsExchange, Enters, Leaves, Rises, own_of, StandsWith, TurnsTo}
 use Rattle.rob_linear.specs.WideRows.{HasWideEntry, IsWideIn}
 use Rattle.std.specs.Int.{◌∣◌}
 use Rattle.rob_linear.proofs.WideRows.{listed_inside, exchange_inside, wide_in_rows}
@@ -18,9 +18,6 @@ use Rattle.rob_linear.proofs.Turns.{own_low, turn_stands}
 use Rattle.rob_linear.specs.Multiples.{IsParallel, AreParallel, IsMultipleRow, HasMultipleRows, IsPivotableMultiple, IsClearedBy, IsMultiplePivot, StandsMultiple}
 use Rattle.rob_linear.proofs.Sums.{sum_ext, sum_scale, dot_combine}
 use Rattle.rob_linear.proofs.Solutions.{own_in, tags_in}
-use Rattle.rob_linear.proofs.Lexical.{lex_ext, lex_scale, lex_unscale}
-use Rattle.rob_linear.proofs.Unique.{row_unique}
-use Rattle.rob_linear.proofs.Primitive.{primitive_part, chosen}
 use Rattle.rob_linear.proofs.Exact.{divides_other}
 pub use Rattle.rob_linear.proofs.Parallels.{parallel_refl, parallel_sym, parallel_trans, parallel_zero, parallel_positive, parallel_nonnegative, parallel_negative, parallel_nonpositive, parallel_quotient, parallel_along, multiple_parallel, multiples_in, basis_multiples, multiples_basis, primitive_row, multiple_rows_exist, rows_parallel, are_sym, key_parallel, before_parallel, before_column, lex_parallel, order_parallel, enters_parallel, leaves_parallel, feasible_parallel, none_improves_parallel, no_limit_parallel, optimal_parallel, unbounded_parallel, rises_parallel}
 
