@@ -5,7 +5,7 @@ use Rattle.rob_algebra.specs.Fraction.{Fraction, ◌+ℚ◌, ◌-ℚ◌, ◌*ℚ
 use Rattle.rob_meaning.proofs.ListLemmas.{at-tabulate, same_by_places}
 use Rattle.rob_meaning.proofs.TauLemmas.{at-left}
 use Rattle.rob_meaning.specs.Expressions.{Expression, Factors, Terms, adaptive, adaptive_in, factor, no_factors, no_terms, number, parameter, product, sum, term, variable}
-use Rattle.rob_meaning.specs.Places.{at, tabulate, Each}
+use Rattle.rob_meaning.specs.Places.{at, Each}
 use Rattle.rob_meaning.specs.RobustModel.{AdaptiveVariable, Member, Relation, RobustModel, SetLine, budget, column_of, joint_number, line, list_in, list_of, set_count, written_count}
 use Rattle.rob_meaning.specs.UncertaintySet.{KeepsLine, Relates, abs_ℚ, in_each_set, joined_scenarios, part_of, total_deviation}
 use Rattle.rob_meaning.specs.Values.{product_value, rule_part, rule_value, rule_value_in, signed, sum_value, value}

@@ -1,22 +1,19 @@
 -- In a model whose declared names are plain, free and distinct, no two set
 -- rows, set columns or set conditions share a name.
 use Rattle.std.proofs.Common.{inl, inr, sym, ◌∙◌, ap, ap₂, subst, refl, arith, append-nil, length-append}
-use Rattle.std.proofs.lemmas.List.{map-append}
 use Rattle.std.specs.Fmt.{decimal}
-use Rattle.std.specs.Prelude.{◌≡◌, ◌≢◌, ◌⊎◌, ℕ, suc, ◌+◌, ◌<◌, ◌≤◌, ◌^◌, List, [], ◌∷◌, ◌++◌, length, map, flat_map, codes, Option, Some, None}
-use Rattle.rob_algebra.specs.Fraction.{Fraction}
+use Rattle.std.specs.Prelude.{◌≡◌, ◌≢◌, ◌⊎◌, ℕ, ◌+◌, ◌<◌, ◌≤◌, ◌^◌, List, [], ◌∷◌, ◌++◌, length, map, flat_map, codes}
 use Rattle.rob_algebra.proofs.ListLemmas.{map_map}
 use Rattle.rob_meaning.proofs.DeclaredLemmas.{IsShort, parameters_distinct, parameters_short, pname_same}
 use Rattle.rob_meaning.proofs.DistinctLemmas.{distinct_append, apart_by, distinct_map, Keyed, flat_distinct}
 use Rattle.rob_meaning.proofs.EachLemmas.{each_append}
-use Rattle.rob_meaning.proofs.FineNames.{all_plain, behind_begins, behind_two, first_part_of, front, front_append, joined_begins, joined_split, split, split_each, split_long, split_plain, split_same, split_then_plain}
+use Rattle.rob_meaning.proofs.FineNames.{all_plain, behind_begins, behind_two, first_part_of, front, front_append, joined_split, split, split_each, split_long, split_plain, split_same, split_then_plain}
 use Rattle.rob_meaning.proofs.JoinedLemmas.{ArePlain, distinct_joined, decimal_plain}
-use Rattle.rob_meaning.proofs.NamedLemmas.{part, plain_word, last_part, lower_is_not_upper, up_is_not_down, sides_distinct, sides_plain, each_mapped, each_all, each_flat, number_each, number_distinct}
+use Rattle.rob_meaning.proofs.NamedLemmas.{part, plain_word, last_part, up_is_not_down, sides_distinct, sides_plain, each_mapped, each_all, each_flat, number_each, number_distinct}
 use Rattle.rob_meaning.specs.Named.{AreDistinct, IsFree, HasDistinctMembers, IsNamed}
 use Rattle.rob_meaning.specs.Names.{Name, Parts, joined, parameter_name, bound_parts, side_parts, parameter_bound_parts, member_parts, statement_parts, lift_parts, condition_parts, by_number, set_row_names, set_column_names, set_condition_names}
 use Rattle.rob_meaning.specs.Places.{Each}
 use Rattle.rob_meaning.specs.RobustModel.{Relation, at_most, at_least, equal, Parameter, Member, SetLine, line, budget, RobustModel}
-use Rattle.rob_meaning.specs.SetConditions.{if_declared}
 use Rattle.rob_meaning.specs.WellFormed.{IsMember, IsSetLine, IsModel}
 pub use Rattle.rob_meaning.proofs.FinePartLemmas.{flat_joined, number_joined, both_joined, fine_bounds, fine_bounds_joined, fine_bounds_distinct, each_bound}
 

@@ -4,7 +4,6 @@ use Rattle.std.proofs.Math.Nat.{div-lt_iff_lt-mul}
 use Rattle.std.proofs.Math.Nat as N
 use Rattle.std.proofs.lemmas.Bool.{cases_lt}
 use Rattle.std.proofs.lemmas.List.{length-map, get_or-append-add}
-use Rattle.std.proofs.lemmas.Nat.{div-mul-add}
 use Rattle.std.specs.Prelude.{◌≡◌, ◌≢◌, ℕ, zero, suc, ◌+◌, ◌-◌, ◌*◌, ◌/◌, ◌<◌, ◌*ℤ◌, ℤ, pos, Bool, true, false, List, [], ◌∷◌, ◌++◌, length, map, get_or, slice_index_or, Option, Some, None}
 use Rattle.rob_algebra.specs.Fraction.{Fraction, ◌+ℚ◌, ◌*ℚ◌, neg_ℚ}
 use Rattle.rob_algebra.specs.FractionLaws as Q
@@ -21,12 +20,11 @@ use Rattle.rob_meaning.specs.Coefficients.{product_table, rule_table, sum_table,
 use Rattle.rob_meaning.specs.Expressions.{Expression, Factors, Terms, adaptive, adaptive_in, factor, no_factors, no_terms, number, parameter, product, sum, term, variable}
 use Rattle.rob_meaning.specs.Forms.{difference, sides}
 use Rattle.rob_meaning.specs.Places.{0ℚ, Each, EachFrom, at, tabulate}
-use Rattle.rob_meaning.specs.RobustModel.{Member, Parameter, Relation, RobustModel, SetLine, at_least, at_most, budget, column_of, equal, joint_number, line, line_set, list_in_set, list_of, set_count, written_count}
+use Rattle.rob_meaning.specs.RobustModel.{Member, Parameter, Relation, RobustModel, SetLine, at_least, at_most, budget, column_of, equal, line, line_set, list_in_set, list_of, set_count, written_count}
 use Rattle.rob_meaning.specs.SetConditions.{if_declared}
-use Rattle.rob_meaning.specs.SetRows.{SetRow, bound_row_sets, bound_rows, budget_row, coefficients, expression_row, lift_count, lift_sets, lower_row, member_row_sets, member_rows, members_sum, row_denominator, set_column_count, set_number, set_of_parameter, set_of_set_column, set_of_set_row, set_row_sets, set_rows, statement_row_sets, statement_rows, upper_row, whole_row}
+use Rattle.rob_meaning.specs.SetRows.{SetRow, budget_row, coefficients, expression_row, lift_count, lift_sets, lower_row, member_rows, members_sum, row_denominator, set_column_count, set_number, set_of_parameter, set_of_set_column, set_of_set_row, set_row_sets, set_rows, upper_row, whole_row}
 use Rattle.rob_meaning.specs.Values.{signed}
 use Rattle.rob_meaning.specs.WellFormed.{FactorsOf, IsLineOf, IsModel, IsOf, IsParameterOf, TermsOf}
-use Rattle.rob_meaning.proofs.EachLemmas.{each_all}
 pub use Rattle.rob_meaning.proofs.RowSetLemmas.{Pairs, pairs_append, pairs_length, pairs_get, BoundsHave, StatementsHave, row_pairs, each_below, length-row_sets, set_of_joint, OfSet, pairs_of}
 
 unit_other : (k j : ℕ) → k ≢ j → unit k j ≡ 0ℚ

@@ -1,12 +1,7 @@
 -- Tests for worked examples: each gives the fact itself, where it holds of data without variables.
-use Rattle.std.proofs.Common.{ap, sym, ◌∙◌, ap₂, subst, refl, arith, Ordering, Less, Equal, Greater}
-use Rattle.std.proofs.lemmas.Bool.{eqb-true, leb-true, ltb-true}
-use Rattle.std.specs.Ordering.{MatchOrdering}
-use Rattle.std.specs.Prelude.{◌≡◌, ◌<◌, ◌≤◌, ℕ, zero, suc, Bool, true, false, eqb, leb, ltb, get_or, ◌≢◌, ◌+◌, ◌-◌, ◌*◌, List, [], ◌∷◌, ◌++◌, length, Option, Some, None}
-use Rattle.rob_algebra.specs.Fraction.{Fraction, ◌<ℚ◌, ◌≤ℚ◌, ◌+ℚ◌, ◌*ℚ◌}
-use Rattle.rob_algebra.specs.FractionLists.{AllNonneg}
-use Rattle.rob_algebra.specs.FractionOrder.{cmp_ℚ, cmp_ℚ-ranks}
-use Rattle.rob_algebra.specs.FractionLaws as Q
+use Rattle.std.proofs.Common.{ap, ◌∙◌, ap₂, refl}
+use Rattle.std.specs.Prelude.{◌≡◌, ◌<◌, ℕ, ◌-◌, ◌*◌, List, [], ◌∷◌, ◌++◌, length, Option, Some, None}
+use Rattle.rob_algebra.specs.Fraction.{Fraction, ◌<ℚ◌, ◌+ℚ◌, ◌*ℚ◌}
 use Rattle.rob_meaning.proofs.AdmittedLemmas.{meets_admits}
 use Rattle.rob_meaning.proofs.ConeLemmas.{meets_taken}
 use Rattle.rob_meaning.proofs.ProvesLemmas.{certificate_true}
@@ -15,7 +10,7 @@ use Rattle.rob_meaning.specs.Degrees.{uncertain_degree, decision_degree, IsLinea
 use Rattle.rob_meaning.specs.Expressions.{Expression, number, parameter, variable, adaptive, adaptive_in, sum, product, Terms, no_terms, term, Factors, no_factors, factor}
 use Rattle.rob_meaning.specs.Forms.{matrices, plan_vector, constant_part, parameter_part}
 use Rattle.rob_meaning.specs.Multipliers.{set_matrix, set_limits, Covers, ShowsEmpty}
-use Rattle.rob_meaning.specs.Places.{0ℚ, 1ℚ, at, Each, EachFrom}
+use Rattle.rob_meaning.specs.Places.{0ℚ, 1ℚ, at, Each}
 use Rattle.rob_meaning.specs.Proves.{amounts_of, EachCovered, IsItem, combination, target, Improves, ProvesOptimal, ProvesInfeasible, ProvesUnbounded, ProvesAs, HasStatus, Proves}
 use Rattle.rob_meaning.specs.RobustModel.{Relation, at_most, at_least, equal, Sense, minimise, maximise, Parameter, Member, AdaptiveVariable, SetLine, line, budget, Row, RobustModel, joint_parameters, set_count, written_count, written_parameters, joint_number, line_set, row_set, column_count}
 use Rattle.rob_meaning.specs.SetConditions.{SetCondition, lower_bound, upper_bound, stated, set_conditions, taken, total_taken, Holds, Meets}
