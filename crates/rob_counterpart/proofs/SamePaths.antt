@@ -8,7 +8,7 @@ use lib.Signed.{◌<ℤ◌, ◌≤ℤ◌}
 use Rattle.rob_linear.specs.Vectors.{Columns, Vector, Matrix}
 use Rattle.rob_linear.specs.Systems.{System, right, RowOf, IsBasis, IsCombined, IsNonnegative, Feasible, EndsOptimal, EndsUnbounded}
 use Rattle.rob_linear.specs.Optimality.{IsScaled, IsBasicPoint, IsBasicMove}
-use Rattle.rob_linear.specs.Programs.{Program, system_of, auxiliary_tag, auxiliary_row, auxiliary_of, kept_row, kept_of}
+use Rattle.rob_linear.specs.Programs.{Program, system_of, auxiliary_tag, auxiliary_of, kept_row, kept_of}
 use Rattle.rob_linear.specs.Turns.{ComesBefore, own_of, StandsWith, TurnsTo, TurnsFrom}
 use Rattle.rob_linear.specs.Stages.{truncated, IsStage, unit_row, IsHalfStage}
 use Rattle.rob_linear.specs.Paths.{StartsAtSlacks, StartsAtAuxiliary, HasAuxiliary, Steps, Turned, Reached, Last, ReachedFrom, LastFrom}

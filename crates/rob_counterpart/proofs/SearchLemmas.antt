@@ -2,23 +2,22 @@
 -- one a ray along which the form grows.
 use Rattle.std.proofs.Common.{◌≡◌, ℕ, ◌+◌, ◌<◌, sym, ap, ◌∙◌, subst, arith}
 use Rattle.std.proofs.lemmas.Int.{ints}
-use lib.IntN.{ℤ, pos, ◌+ℤ◌, ◌*ℤ◌, neg_ℤ}
+use lib.IntN.{ℤ, pos, ◌*ℤ◌, neg_ℤ}
 use lib.Signed.{◌<ℤ◌, ◌≤ℤ◌}
 use Rattle.rob_linear.specs.Vectors.{Matrix, Columns, sum_to, dot}
 use Rattle.rob_linear.specs.Systems.{IsSolution}
 use Rattle.rob_linear.specs.Programs.{Program, Keeps, system_of, IsDual}
-use Rattle.rob_algebra.specs.Integer.{ring, mul-zero, zero-mul, mul-neg, mul_cancel_le, mul_le_mul}
-use Rattle.rob_linear.proofs.Sums.{sum_ext, sum_scale, dot_rows}
+use Rattle.rob_algebra.specs.Integer.{zero-mul, mul-neg}
 use Rattle.rob_linear.proofs.Endings.{move_is_ray}
 use Rattle.rob_linear.proofs.Programs.{value_of, keeps_from_solution}
 use Rattle.rob_linear.proofs.Truths.{optimal_duals}
 use Rattle.rob_counterpart.specs.RobustProgram.{RobustProgram, number_at}
 use Rattle.rob_counterpart.specs.SetPrograms.{IsSearch}
-use Rattle.rob_counterpart.proofs.SetLemmas.{set_cost, set_column_plus, set_column_minus, set_right, set_ray, feasible_point, rows_bounded}
+use Rattle.rob_counterpart.proofs.SetLemmas.{set_cost, set_column_plus, set_column_minus, set_right, set_ray}
 use Rattle.rob_counterpart.specs.Splitting.{plus, minus}
 use Rattle.rob_counterpart.proofs.ScaledEndings.{pair, OptimalPoint, UnboundedMove}
 use Rattle.rob_counterpart.specs.Endings.{slack_entries}
-use Rattle.rob_counterpart.proofs.WholeCertificates.{constant_at, value_at, BoundsForm, LiesInSet}
+use Rattle.rob_counterpart.proofs.WholeCertificates.{constant_at, value_at, LiesInSet}
 
 -- what the dual values of an optimal search say: their sums of the set rows are
 -- the form's numbers, and of the right sides its peak
