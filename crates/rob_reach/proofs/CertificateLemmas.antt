@@ -1,7 +1,7 @@
 -- What a certificate that proves says of its own plan: it has the certificate's value as a bound; and, in an unbounded
 -- one, moved along the step as well.
-use Rattle.std.specs.Prelude.{◌≡◌, ℕ, suc, ◌<◌, pos, List, [], ◌∷◌, ◌++◌, length, refl, ◌⊎◌}
-use Rattle.std.proofs.Common.{sym, ◌∙◌, ap, ap₂, subst, inl, inr}
+use Rattle.std.specs.Prelude.{◌≡◌, ℕ, suc, ◌<◌, pos, List, [], ◌∷◌, length, refl, ◌⊎◌}
+use Rattle.std.proofs.Common.{sym, ◌∙◌, ap, subst, inl, inr}
 use Rattle.rob_algebra.specs.Fraction.{Fraction, ◌+ℚ◌, ◌-ℚ◌, ◌*ℚ◌, inv_ℚ, neg_ℚ, ◌≤ℚ◌, ◌<ℚ◌}
 use Rattle.rob_algebra.specs.FractionLaws as Q
 use Rattle.rob_algebra.specs.FractionLaws.{ℚ_ring}
@@ -10,7 +10,6 @@ use Rattle.rob_algebra.specs.Ring as Solver
 use Rattle.rob_algebra.specs.Ring.{lit, minus, ◌:+◌, ◌:-◌, ◌:*◌, v0, v1, v2, v3}
 use Rattle.rob_meaning.proofs.AbsoluteLemmas.{pos_some, inv_pos}
 use Rattle.rob_meaning.proofs.AdmittedLemmas.{admits_meets}
-use Rattle.rob_meaning.proofs.AlongLemmas.{suc_same}
 use Rattle.rob_meaning.proofs.AtLemmas.{at_bound, sum_at-plus_plan, sum_at-scale_plan}
 use Rattle.rob_meaning.proofs.CoverLemmas.{covered_at}
 use Rattle.rob_meaning.proofs.LinearLemmas.{zero_lt_one, zero_le_one}
@@ -22,7 +21,7 @@ use Rattle.rob_meaning.specs.Proves.{EachCovered, Improves, ProvesOptimal, Prove
 use Rattle.rob_meaning.specs.RobustModel.{RobustModel, Sense, maximise, minimise}
 use Rattle.rob_meaning.specs.UncertaintySet.{Admits}
 use Rattle.rob_meaning.specs.WellFormed.{IsModel}
-use Rattle.rob_meaning.proofs.ProvesLemmas.{plus_all-append, length-last, scale-append, moved}
+use Rattle.rob_meaning.proofs.ProvesLemmas.{length-last, moved}
 
 -- along a direction that improves, any number is reached: the bound is no worse
 -- than it from the start, or at some multiple

@@ -1,15 +1,14 @@
 -- Ranges of the named variables: a plan's number stands between its bounds, boxes keep that bounds are declared, and a
 -- branch splits a range into two.
-use Rattle.std.specs.Prelude.{◌≡◌, ◌<◌, ℕ, zero, suc, ◌+◌, ℤ, Bool, true, false, ◌&&◌, T, List, [], ◌∷◌, length, Option, Some, None, refl}
+use Rattle.std.specs.Prelude.{◌<◌, ℕ, zero, suc, ◌+◌, ℤ, Bool, true, false, ◌&&◌, T, List, [], ◌∷◌, length, Option, Some, None}
 use Rattle.std.proofs.Common.{sym, subst, inl, inr, arith}
 use Rattle.rob_algebra.specs.Fraction.{Fraction, of_int, ◌≤ℚ◌}
 use Rattle.rob_meaning.specs.Places.{Each, 0ℚ, at, EachFrom}
 use Rattle.rob_meaning.specs.RobustModel.{Variable}
 use Rattle.rob_meaning.specs.UncertaintySet.{KeepsBounds}
 use Rattle.rob_reach.specs.Boxes.{lesser, greater, change_at, tightened}
-use Rattle.rob_reach.specs.Ranges.{has_both, is_bounded, are_bounded, range_between, range_at}
+use Rattle.rob_reach.specs.Ranges.{has_both, is_bounded, are_bounded}
 use Rattle.rob_reach.specs.Trees.{IsIn}
-use Rattle.rob_reach.specs.WholeNumbers.{range}
 
 -- ---- the declared bounds of a variable
 abbrev pub declared : Option Fraction → Fraction

@@ -10,7 +10,7 @@ use Rattle.rob_meaning.specs.Places.{at, Each, EachFrom}
 use Rattle.rob_meaning.specs.RobustModel.{Variable, AdaptiveVariable, SetLine, line, budget, Member, Row, RobustModel, column_from, column_of, column_count, list_of, list_in_set, set_count, line_set, row_set}
 use Rattle.rob_meaning.specs.UncertaintySet.{Relates, KeepsBounds, KeepsLine, total_deviation, in_each_set}
 use Rattle.rob_meaning.specs.Values.{value, sum_value, product_value, signed, rule_part, rule_value, rule_value_in}
-use Rattle.rob_meaning.specs.WellFormed.{IsInside, TermsInside, FactorsInside, IsExpression, IsSetLine, IsParameterOf, IsOf, TermsOf, FactorsOf, IsLineOf, IsModel}
+use Rattle.rob_meaning.specs.WellFormed.{IsInside, TermsInside, FactorsInside, IsExpression, IsSetLine, IsOf, TermsOf, FactorsOf, IsLineOf, IsModel}
 use Rattle.rob_meaning.proofs.EachLemmas.{each_map}
 
 pub each_from_map : {A : Type 0} (P Q : ℕ → A → Type 0) → ((k : ℕ) (x : A) → P k x → Q k x) → (k : ℕ) (xs : List A) →
