@@ -1,7 +1,7 @@
 -- What a solver is after its dictionary has followed the path.
-use Rattle.std.proofs.Common.{◌≡◌, ℕ, ◌+◌, ◌-◌, ◌^◌, ◌<◌, ◌≤◌, ◌∙◌, sym, refl, ap, subst, arith, List, length, to_z, of_z, w64, Some, None}
+use Rattle.std.proofs.Common.{◌≡◌, ℕ, ◌+◌, ◌^◌, ◌<◌, ◌∙◌, sym, refl, subst, arith, List, length, Some, None}
 use Rattle.std.specs.Prelude.{⊤}
-use lib.IntN.{ℤ, pos, nat_abs}
+use lib.IntN.{ℤ}
 use Rattle.rob_linear.specs.Programs.{Program}
 use Rattle.rob_rows.specs.PrimitiveParts.{IsWithin}
 use Rattle.rob_simplex.specs.declared.state.State.{State}
@@ -13,7 +13,6 @@ use Rattle.rob_simplex.specs.Phases.{StandsFor}
 use Rattle.rob_simplex.specs.Resuming.{CanResume}
 use Rattle.rob_simplex.specs.Starts.{IsStartingTable}
 use Rattle.rob_simplex.specs.Solvers.{Solver, positions, IsSound, IsMadeFor}
-use Rattle.rob_number.proofs.CastLemmas.{seen_within}
 use Rattle.rob_simplex.proofs.Solved.{own_in_range, objective_entry}
 
 -- a solver that was made for a program has its starting rows
@@ -25,11 +24,6 @@ pub resumed_stands : (P : Program) (v s : Solver) → v ≡ s → CanResume P s 
 resumed_stands P v s e h = subst (λ (u : Solver). StandsFor P u.dictionary) (sym e) h.own
 
 -- ---- a new solver
--- the limit, as it is read
-pub limit_read : (z : ℤ) (limit : ℕ) → z ≡ pos limit → limit ≤ 2 ^ 62 - 1 → nat_abs (to_z w64 (of_z w64 z)) ≡ limit
-limit_read z limit e h =
-    ap (λ t. nat_abs (to_z w64 (of_z w64 t))) e ∙ ap nat_abs (seen_within limit (pos limit) h (omega arith))
-
 pub made_for : (P : Program) (t : Table) (w : List ℤ) → IsStartingTable P t
     → IsMadeFor P (record { state = New; dictionary = t; weights = w })
 made_for P t w h = record { state = refl; rows = sym h.rows_are; columns = sym h.columns_are; starting = h }

@@ -1,14 +1,14 @@
 use Rattle.std.proofs.Common.{◌≡◌, ◌∙◌, ◌<◌, arith, nat_abs, pos, to_z, of_z, w64}
 use Rattle.std.proofs.lemmas.Int.{ints}
 use lib.Signed.{◌<ℤ◌}
+use Rattle.rob_number.proofs.CastLemmas.{limit_seen}
 use Rattle.rob_simplex.proofs.Quotients.{of_pair_fits}
-use Rattle.rob_simplex.proofs.Solving.{limit_read}
 use Rattle.rob_simplex.proofs.solution.fits.Goals as goal
 
 pub returns-then-size-limit-2-clause-fits : goal.returns-then-size-limit-2-clause-fits
 returns-then-size-limit-2-clause-fits g c =
     let e : nat_abs (to_z w64 (of_z w64 c.LIMIT-limit.result)) ≡ g.N.Exact.limit =
-    limit_read c.LIMIT-limit.result g.N.Exact.limit (c.LIMIT-limit.ensures ∙ g.met.N.Exact.limit_told)
+    limit_seen c.LIMIT-limit.result g.N.Exact.limit (c.LIMIT-limit.ensures ∙ g.met.N.Exact.limit_told)
     g.met.N.Exact.limit_high in
     let p : 0 < nat_abs (g.E.Entry.value c.args.denominator) =
     (let h : pos 0 <ℤ g.E.Entry.value c.args.denominator = c.requires.positive in omega (arith, ints)) in

@@ -1,9 +1,9 @@
 use Rattle.std.proofs.Common.{◌≡◌, ◌∙◌, ◌≤◌, arith, nat_abs, slice_index_or, to_z, of_z, w64}
-use Rattle.rob_simplex.proofs.Solving.{limit_read}
+use Rattle.rob_number.proofs.CastLemmas.{limit_seen}
 use Rattle.rob_tests.proofs.simplex.resumed_from.Goals as goal
 
 pub resume-requires-clause-within : goal.resume-requires-clause-within
 resume-requires-clause-within g c k d l =
     let b : nat_abs (slice_index_or c.args.cost.now k d) ≤ c.largest.result = c.largest.ensures.bound k d l in
-    let e : nat_abs (to_z w64 (of_z w64 c.LIMIT.result)) ≡ g.N.Exact.limit = limit_read c.LIMIT.result g.N.Exact.limit (c.LIMIT.ensures ∙ g.met.N.Exact.limit_told) g.met.N.Exact.limit_high in
+    let e : nat_abs (to_z w64 (of_z w64 c.LIMIT.result)) ≡ g.N.Exact.limit = limit_seen c.LIMIT.result g.N.Exact.limit (c.LIMIT.ensures ∙ g.met.N.Exact.limit_told) g.met.N.Exact.limit_high in
     omega (arith, c.if-largest-LIMIT.false)

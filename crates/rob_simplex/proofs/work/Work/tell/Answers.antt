@@ -4,13 +4,14 @@ use Rattle.rob_simplex.specs.declared.state.State.TheVariants.{Optimal, Infeasib
 use Rattle.rob_simplex.specs.declared.state.Cause.TheVariants.{Told}
 use Rattle.rob_simplex.specs.declared.path.Ending.TheVariants as ending
 use Rattle.rob_simplex.specs.Solvers.{Solver}
+use Rattle.rob_number.proofs.CastLemmas.{limit_seen}
 use Rattle.rob_simplex.proofs.BegunTurns.{halted_path}
 use Rattle.rob_simplex.proofs.Causes.{wide_weight}
 use Rattle.rob_simplex.proofs.TellLemmas.{told_as, told_err, caused_err, halted_err, position_err, told_rows}
 use Rattle.rob_simplex.proofs.Solved.{optimum, ray_found, weights_found}
 use Rattle.rob_simplex.proofs.JudgingLemmas.{one_wide, greatest_wide}
 use Rattle.rob_simplex.proofs.WeightLemmas.{within_from}
-use Rattle.rob_simplex.proofs.Solving.{limit_read, sound_optimal, sound_unbounded, sound_infeasible, sound_stopped}
+use Rattle.rob_simplex.proofs.Solving.{sound_optimal, sound_unbounded, sound_infeasible, sound_stopped}
 use Rattle.rob_simplex.proofs.work.Work.tell.Goals as goal
 
 pub invariant_of-self-in-Optimal : goal.invariant_of-self-in-Optimal
@@ -89,7 +90,7 @@ returns-then-largest-LIMIT-clause-solved g c P h =
     told_as g.N.Exact.limit P c.self.view_is c.in-Ok.ending (ending.Infeasible c.in-Infeasible.row) c.in-Ok.is
     c.in-Infeasible.is h in
     let e : nat_abs (to_z w64 (of_z w64 c.LIMIT.result)) ≡ g.N.Exact.limit =
-    limit_read c.LIMIT.result g.N.Exact.limit (c.LIMIT.ensures ∙ g.met.N.Exact.limit_told) g.met.N.Exact.limit_high in
+    limit_seen c.LIMIT.result g.N.Exact.limit (c.LIMIT.ensures ∙ g.met.N.Exact.limit_told) g.met.N.Exact.limit_high in
     let m : c.positions-m.result ≡ P.m =
     c.positions-m.ensures.positions ∙ c.show_weights.ensures.sized.positions
     ∙ sym (told_rows g.N.Exact.limit P c.self.view_is h) in (
@@ -102,7 +103,7 @@ returns-then-largest-LIMIT-clause-solved g c P h =
 pub invariant_of-self-in-Infeasible : goal.invariant_of-self-in-Infeasible
 invariant_of-self-in-Infeasible g c =
     let e : nat_abs (to_z w64 (of_z w64 c.LIMIT.result)) ≡ g.N.Exact.limit =
-    limit_read c.LIMIT.result g.N.Exact.limit (c.LIMIT.ensures ∙ g.met.N.Exact.limit_told) g.met.N.Exact.limit_high in
+    limit_seen c.LIMIT.result g.N.Exact.limit (c.LIMIT.ensures ∙ g.met.N.Exact.limit_told) g.met.N.Exact.limit_high in
     let size : length c.show_weights.new.weights ≡ length c.self.inside.weights = c.show_weights.ensures.size in
     let m : c.positions-m.result ≡ length c.show_weights.new.weights =
     c.positions-m.ensures.positions ∙ c.show_weights.ensures.sized.positions
@@ -136,7 +137,7 @@ returns-then-largest-LIMIT-clause-caused g c P h =
     told_as g.N.Exact.limit P c.self.view_is c.in-Ok.ending (ending.Infeasible c.in-Infeasible.row) c.in-Ok.is
     c.in-Infeasible.is h in
     let e : nat_abs (to_z w64 (of_z w64 c.LIMIT.result)) ≡ g.N.Exact.limit =
-    limit_read c.LIMIT.result g.N.Exact.limit (c.LIMIT.ensures ∙ g.met.N.Exact.limit_told) g.met.N.Exact.limit_high in
+    limit_seen c.LIMIT.result g.N.Exact.limit (c.LIMIT.ensures ∙ g.met.N.Exact.limit_told) g.met.N.Exact.limit_high in
     let m : c.positions-m.result ≡ P.m =
     c.positions-m.ensures.positions ∙ c.show_weights.ensures.sized.positions
     ∙ sym (told_rows g.N.Exact.limit P c.self.view_is h) in
@@ -168,7 +169,7 @@ returns-then-largest-LIMIT-clause-halted g c P h w =
     told_as g.N.Exact.limit P c.self.view_is c.in-Ok.ending (ending.Infeasible c.in-Infeasible.row) c.in-Ok.is
     c.in-Infeasible.is h in
     let e : nat_abs (to_z w64 (of_z w64 c.LIMIT.result)) ≡ g.N.Exact.limit =
-    limit_read c.LIMIT.result g.N.Exact.limit (c.LIMIT.ensures ∙ g.met.N.Exact.limit_told) g.met.N.Exact.limit_high in
+    limit_seen c.LIMIT.result g.N.Exact.limit (c.LIMIT.ensures ∙ g.met.N.Exact.limit_told) g.met.N.Exact.limit_high in
     let m : c.positions-m.result ≡ P.m =
     c.positions-m.ensures.positions ∙ c.show_weights.ensures.sized.positions
     ∙ sym (told_rows g.N.Exact.limit P c.self.view_is h) in
