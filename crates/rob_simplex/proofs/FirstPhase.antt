@@ -26,6 +26,7 @@ use Rattle.rob_linear.proofs.Turns.{own_same}
 use Rattle.rob_linear.proofs.TwoPhases.{kept_tagged}
 use Rattle.rob_simplex.specs.Dictionaries.{Table, positions, width_of, columns_of, spare_column, shape, rows_of, IsFree, IsClosed, IsPivoted, IsBegunPivot, FirstNegative}
 use Rattle.rob_simplex.specs.Phases.{InBeside, HasLeft, IsOpenBeside, rank_left_beside, turns_left_beside}
+use Rattle.rob_simplex.specs.LeastRows.{IsLeastIn, HasNoLeastIn}
 use Rattle.rob_simplex.proofs.BesideRows.{size_is, q_low, q_in, negative_free}
 use Rattle.rob_simplex.proofs.NegatedRows.{cleared_negated, set_is}
 use Rattle.rob_simplex.proofs.Ranks.{IsSmall, falls}
@@ -155,8 +156,7 @@ module _ {P : Program} {q : ℕ} {t : Table} (h : InBeside P q t) where
             ∙ set_is t.basis q column i (q_in h)
 
         -- the auxiliary column leaves
-        pub leaves_beside : HasNoLeast (shape t'.columns (positions t')) (t'.columns + positions t') (rows_of t')
-            → HasLeft P t'
+        pub leaves_beside : HasNoLeastIn t' → HasLeft P t'
         leaves_beside none' =
             let none : HasNoLeast (shape P.n P.m) (P.n + P.m) (rows_of t') =
             subst (λ n. HasNoLeast (shape n P.m) (n + P.m) (rows_of t')) columns_after
@@ -180,8 +180,7 @@ module _ {P : Program} {q : ℕ} {t : Table} (h : InBeside P q t) where
             }
 
         -- it stays in: the least row comes to position q
-        module _ (least : ℕ) (found' : IsLeast (shape t'.columns (positions t')) (t'.columns + positions t')
-            (rows_of t') least) (t'' : Table)
+        module _ (least : ℕ) (found' : IsLeastIn t' least) (t'' : Table)
             (rx : (i c : ℕ) → i ≤ positions t' → c < width_of t' → rows_of t'' i c ≡ rows_of t' (exchanged q least i) c)
             (bx : (i : ℕ) → columns_of t''.basis i ≡ columns_of t'.basis (exchanged q least i))
             (mx : positions t'' ≡ positions t') (nx : t''.columns ≡ t'.columns) where

@@ -24,6 +24,7 @@ use Rattle.rob_simplex.specs.Dictionaries.{Table, positions, width_of, columns_o
 use Rattle.rob_simplex.specs.Phases.{InSecond, InBeside, HasLeft}
 use Rattle.rob_simplex.specs.Starts.{IsStartingTable}
 use Rattle.rob_simplex.specs.Explicit.{HoldsExplicit}
+use Rattle.rob_simplex.specs.LeastRows.{IsLeastIn, HasNoLeastIn}
 use Rattle.rob_simplex.proofs.ReadRows.{basic_low, basic_high}
 
 -- rows that are multiples of rows that stand
@@ -61,7 +62,7 @@ module _ (P : Program) (t : Table) (h : IsStartingTable P t) where
   starting i il k kl = h.rows i k il kl
 
   -- no row is negative: the auxiliary column isn't needed
-  pub starts_left : HasNoLeast (shape t.columns (positions t)) (t.columns + positions t) (rows_of t) → HasLeft P t
+  pub starts_left : HasNoLeastIn t → HasLeft P t
   starts_left none' =
       let none : HasNoLeast (shape P.n P.m) (P.n + P.m) (rows_of t) =
       subst (λ n. HasNoLeast (shape n P.m) (n + P.m) (rows_of t)) h.columns_are
@@ -81,8 +82,7 @@ module _ (P : Program) (t : Table) (h : IsStartingTable P t) where
       }
 
   -- the least row: the auxiliary column comes in there
-  pub starts_beside : (q : ℕ) → IsLeast (shape t.columns (positions t)) (t.columns + positions t) (rows_of t) q
-      → InBeside P q t
+  pub starts_beside : (q : ℕ) → IsLeastIn t q → InBeside P q t
   starts_beside q least' =
       let l : IsLeast (shape P.n P.m) (P.n + P.m) (rows_of t) q =
       subst (λ n. IsLeast (shape n P.m) (n + P.m) (rows_of t) q) h.columns_are

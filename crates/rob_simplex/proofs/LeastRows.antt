@@ -12,7 +12,8 @@ use Rattle.rob_linear.specs.Turns.{key, ComesBefore}
 use Rattle.rob_linear.specs.Beside.{IsLexNegative, IsLeast, HasNoLeast}
 use Rattle.rob_linear.proofs.Lexical.{before_trans}
 use Rattle.rob_linear.proofs.Choices.{before_not_self}
-use Rattle.rob_simplex.specs.Dictionaries.{shape, IsLower, MayBeLeast, Decided}
+use Rattle.rob_simplex.specs.Dictionaries.{shape, Decided}
+use Rattle.rob_simplex.specs.LeastRows.{IsLower, MayBeLeast}
 use Rattle.rob_simplex.proofs.RatioLemmas.{lex_decided, lex_none}
 
 -- ---- a number negated

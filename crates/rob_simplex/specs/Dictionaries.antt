@@ -5,13 +5,12 @@
 -- Positions 0 to m - 1 are those of the program's rows, position m is the objective's; row m + 1 keeps the row of the
 -- cost while the auxiliary column is basic.
 -- Rows are kept up to positive factors. Chvatal, Linear Programming (1983), chapter 2.
-use Rattle.std.specs.Prelude.{◌≡◌, ◌≢◌, ◌⊎◌, ◌<ℤ◌, ◌≤ℤ◌, ℕ, suc, ◌<◌, ◌≤◌, ◌+◌, ◌^◌, nat_lt, nat_eq, cond, ℤ, pos, neg_ℤ, List, length, set, Bool, true, false, Option, IfSome}
+use Rattle.std.specs.Prelude.{◌≡◌, ◌≢◌, ◌⊎◌, ◌<ℤ◌, ◌≤ℤ◌, ℕ, suc, ◌<◌, ◌≤◌, ◌+◌, ◌^◌, nat_lt, nat_eq, cond, ℤ, pos, List, length, set, Bool, true, false, Option, IfSome}
 use Rattle.rob_linear.specs.Vectors.{Columns, Matrix, Vector}
 pub use Rattle.rob_linear.specs.Vectors.{columns_of}
 use Rattle.rob_linear.specs.Systems.{System}
 use Rattle.rob_linear.specs.Programs.{Program, kept_of}
-use Rattle.rob_linear.specs.Turns.{ComesBefore, key}
-use Rattle.rob_linear.specs.Beside.{IsLexNegative}
+use Rattle.rob_linear.specs.Turns.{ComesBefore}
 use Rattle.rob_linear.specs.CondensedRows.{IsPlaced}
 use Rattle.rob_linear.specs.Multiples.{IsParallel, IsClearedBy}
 use Rattle.rob_entries.specs.Updates.{IsWideCleared}
@@ -161,17 +160,6 @@ abbrev pub GoesFirst : ℕ → ℕ → Matrix → ℕ → ℕ → Option ℕ →
 GoesFirst n m rows column i best =
     (pos 0 <ℤ rows i column)
     × IfSome best (λ e. ComesBefore (shape n m) (rows i) (rows i column) (rows e) (rows e column))
-
--- row i may be the least: it is negative in the column, and its key is lexicographically negative
-abbrev pub MayBeLeast : ℕ → ℕ → Matrix → ℕ → ℕ → Type 0
-MayBeLeast n m rows column i = (rows i column <ℤ pos 0) × IsLexNegative (suc m) (key (shape n m) (rows i))
-
--- row i may be the least, and comes before the best row so far, if there is one
-abbrev pub IsLower : ℕ → ℕ → Matrix → ℕ → ℕ → Option ℕ → Type 0
-IsLower n m rows column i best =
-    (rows i column <ℤ pos 0)
-    × IfSome best (λ e. ComesBefore (shape n m) (rows i) (neg_ℤ (rows i column)) (rows e) (neg_ℤ (rows e column)))
-    × IsLexNegative (suc m) (key (shape n m) (rows i))
 
 -- the sign of a number that is not 0
 abbrev pub Decided : Bool → ℤ → Type 0

@@ -15,3 +15,4 @@ pub mod Lowering
 pub mod Resuming
 pub mod Begun
 pub mod FreeSlacks
+pub mod LeastRows

@@ -1,12 +1,13 @@
 //! The least row over minus its entry in the auxiliary column: of the rows that are negative there and
 //! lexicographically negative, the one that comes first.
 
-ghost use Rattle.std.specs.Prelude.{◌≡◌, ◌≢◌, ◌<◌, ◌≤◌, ◌+◌, ◌<ℤ◌, ◌↔◌, ℕ, suc, pos, neg_ℤ, IsTrue, IfSome, MatchOption};
+ghost use Rattle.std.specs.Prelude.{◌≡◌, ◌<◌, ◌≤◌, ◌<ℤ◌, ◌↔◌, suc, pos, neg_ℤ, IsTrue, IfSome, MatchOption};
 ghost use Rattle.std.specs.Bool.{OnTrue};
 ghost use Rattle.rob_linear.specs.Turns.{key};
-ghost use Rattle.rob_linear.specs.Beside.{IsLexNegative, IsLeast, HasNoLeast};
-ghost use Rattle.rob_simplex.specs.Dictionaries.{positions, rows_of, width_of, shape, IsLower, MayBeLeast, Decided};
+ghost use Rattle.rob_linear.specs.Beside.{IsLexNegative};
+ghost use Rattle.rob_simplex.specs.Dictionaries.{positions, rows_of, width_of, shape, Decided};
 ghost use Rattle.rob_simplex.specs.FreeSlacks.{AreFree};
+ghost use Rattle.rob_simplex.specs.LeastRows.{MayBeLeast, IsLower, IsLeastIn, HasNoLeastIn};
 
 use crate::dictionary::Dictionary;
 use crate::free_slacks::{FIRST, Free};
@@ -117,11 +118,7 @@ impl<E: Entry> Dictionary<E> {
     /// The least row, if there is one. Behind the search for a row to begin with, rows are looked at from the last one
     /// on, as in the ratio test.
     pub fn least(&self) -> Option<usize>
-        ensures least { MatchOption result
-            (HasNoLeast (shape self.now.columns (positions self.now))
-            (self.now.columns + positions self.now) (rows_of self.now))
-            (λ e. IsLeast (shape self.now.columns (positions self.now))
-            (self.now.columns + positions self.now) (rows_of self.now) e) }
+        ensures least { MatchOption result (HasNoLeastIn self.now) (λ e. IsLeastIn self.now e) }
     {
         let mut order = [0usize; FIRST];
         self.least_by(&mut order)
@@ -129,11 +126,7 @@ impl<E: Entry> Dictionary<E> {
 
     /// The same, with room for the slack columns that are not basic.
     fn least_by(&self, order: &mut [usize]) -> Option<usize>
-        ensures least { MatchOption result
-            (HasNoLeast (shape self.now.columns (positions self.now))
-            (self.now.columns + positions self.now) (rows_of self.now))
-            (λ e. IsLeast (shape self.now.columns (positions self.now))
-            (self.now.columns + positions self.now) (rows_of self.now) e) }
+        ensures least { MatchOption result (HasNoLeastIn self.now) (λ e. IsLeastIn self.now e) }
     {
         let m = self.basis.len();
         let auxiliary = self.columns + m;

@@ -2,7 +2,8 @@ use Rattle.std.proofs.Common.{◌≡◌, ℕ, refl, sym, subst, pos, neg_ℤ, Is
 use lib.IntN.{ℤ}
 use lib.Signed.{◌<ℤ◌}
 use Rattle.rob_linear.specs.Turns.{ComesBefore}
-use Rattle.rob_simplex.specs.Dictionaries.{positions, rows_of, shape, IsLower}
+use Rattle.rob_simplex.specs.Dictionaries.{positions, rows_of, shape}
+use Rattle.rob_simplex.specs.LeastRows.{IsLower}
 use Rattle.rob_simplex.proofs.LeastRows.{negative_of}
 use Rattle.rob_simplex.proofs.dictionary.Dictionary.is_lower.Goals as goal
 

@@ -1,6 +1,7 @@
 use Rattle.std.proofs.Common.{◌≡◌, ℕ, ◌+◌, ◌-◌, ◌<◌, ◌∙◌, sym, subst, ap, arith, true, false, IsTrue, ◌↔◌}
 use Rattle.std.specs.Option.{IfSome}
-use Rattle.rob_simplex.specs.Dictionaries.{Table, positions, rows_of, IsLower, MayBeLeast}
+use Rattle.rob_simplex.specs.Dictionaries.{Table, positions, rows_of}
+use Rattle.rob_simplex.specs.LeastRows.{IsLower, MayBeLeast}
 use Rattle.rob_simplex.proofs.LeastRows.{IsLeastSoFar, least_begins, least_takes, least_keeps, least_of_all}
 use Rattle.rob_simplex.proofs.dictionary.Dictionary.least_by.Goals as goal
 use Rattle.rob_simplex.proofs.dictionary.Dictionary.least_by.Goals.{then-is_lower, else-is_lower}
