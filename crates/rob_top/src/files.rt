@@ -170,7 +170,8 @@ pub fn get<S: Shelf>(alloc: Global, name: &str, most: usize, shelf: &mut S) -> R
 /// Fetches a file of at most `most` bytes. What is answered is what is found of the file.
 fn ask<S: Shelf>(alloc: Global, name: &str, most: usize, shelf: &mut S) -> Result<Fetched, ShelfErr>
     ensures found { IfOk result (λ fetched. IsFoundIn (source_of (S.files shelf.old)
-        (S.log shelf.old) (S.log shelf.new)) (record { place = 0; name = name.now; most = most }) (found_of fetched)) }
+        (S.log shelf.old) (S.log shelf.new)) (record { place = 0; name = name.now; most = most })
+        (found_of fetched)) }
     ensures within { IfOk result (IsAtMost most) }
     ensures unchanged { S.files shelf.new ≡ S.files shelf.old }
     ensures asked { AsksOnce (record { place = 0; name = name.now; most = most }) (S.log shelf.old)

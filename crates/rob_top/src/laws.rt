@@ -67,7 +67,8 @@ pub fn prove_then_check()
     ensures accepted { (proving checking : Call) (status : Status) (text shown : List ℕ)
         (solved : IsSolved proving status text) → solved.line.verb ≡ Prove
         → (known : Known checking.source) (line : Line) → line.width ≡ solved.line.width
-        → HasCertificateFile (known_call checking known) verbs.Check line solved.m text → (ended : Ended)
+        → HasCertificateFile (known_call checking known) verbs.Check line solved.m text
+        → (ended : Ended)
         → Means checking ended shown → IsProvedAnswer (limit_of line) solved.m solved.c ended }
 {}
 
@@ -81,13 +82,15 @@ pub fn narrow_then_solve()
         (narrowed : IsNarrowed narrowing text)
         → text ≡ front ++ narrow_line true → (known : Known solving.source) (line : Line)
         → line.width ≡ narrowed.line.width → IsSolving line.verb → line.way ≡ Dual
-        → HasModel (known_call solving known) line narrowed.m → (spot : Spot) → Means solving (TooWide spot) shown → ⊥ }
+        → HasModel (known_call solving known) line narrowed.m → (spot : Spot)
+        → Means solving (TooWide spot) shown → ⊥ }
     // and where some scenario is admitted the model's status is answered, or the outside fails, or memory is refused.
     ensures status { (narrowing solving : Call) (text front shown : List ℕ)
         (narrowed : IsNarrowed narrowing text)
         → text ≡ front ++ narrow_line true → (known : Known solving.source) (line : Line)
         → line.width ≡ narrowed.line.width → IsSolving line.verb → line.way ≡ Dual
-        → HasModel (known_call solving known) line narrowed.m → (ended : Ended) → Means solving ended shown
+        → HasModel (known_call solving known) line narrowed.m → (ended : Ended)
+        → Means solving ended shown
         → (u : List Fraction) → Admits narrowed.m u → (status : Status) × (v : Fraction)
         × HasStatus narrowed.m status v × EndsAs (ended_of status) ended }
     // Where none is, an empty set is answered, with weights that show it, or again the outside fails, or memory is
@@ -95,8 +98,10 @@ pub fn narrow_then_solve()
     ensures empty { (narrowing solving : Call) (text front shown : List ℕ)
         (narrowed : IsNarrowed narrowing text)
         → text ≡ front ++ narrow_line true → (known : Known solving.source) (line : Line)
-        → line.width ≡ narrowed.line.width → IsSolving line.verb → HasModel (known_call solving known) line narrowed.m
-        → (ended : Ended) → Means solving ended shown → IsEmptySet narrowed.m → IsShownAnswer narrowed.m ended }
+        → line.width ≡ narrowed.line.width → IsSolving line.verb
+        → HasModel (known_call solving known) line narrowed.m
+        → (ended : Ended) → Means solving ended shown → IsEmptySet narrowed.m
+        → IsShownAnswer narrowed.m ended }
 {}
 
 /// The plan of a certificate that `check` accepted, as `replay` takes it on the same model.
@@ -130,8 +135,10 @@ pub fn prove_then_worst()
     ensures refused { (proving searching : Call) (status : Status) (text shown : List ℕ)
         (solved : IsSolved proving status text) → solved.line.verb ≡ Prove
         → (known : Known searching.source) (line : Line) → line.width ≡ solved.line.width
-        → HasCertificateFile (known_call searching known) verbs.Worst line solved.m text → (rule number : ℕ)
-        → Means searching (Cert rule number) shown → (rule ≡ 34) × ((number ≡ 1) × (status ≡ infeasible)) }
+        → HasCertificateFile (known_call searching known) verbs.Worst line solved.m text
+        → (rule number : ℕ)
+        → Means searching (Cert rule number) shown → (rule ≡ 34)
+        × ((number ≡ 1) × (status ≡ infeasible)) }
 {}
 
 /// The text that `prove` printed, as the certificate's file of a `replay` on the same model at the same width.
@@ -147,8 +154,10 @@ pub fn prove_then_replay()
     ensures refused { (proving replaying : Call) (status : Status) (text shown : List ℕ)
         (solved : IsSolved proving status text) → solved.line.verb ≡ Prove
         → (known : Known replaying.source) (line : Line) → line.width ≡ solved.line.width
-        → HasCertificateFile (known_call replaying known) verbs.Replay line solved.m text → (rule number : ℕ)
-        → Means replaying (Cert rule number) shown → (rule ≡ 34) × ((number ≡ 1) × (status ≡ infeasible)) }
+        → HasCertificateFile (known_call replaying known) verbs.Replay line solved.m text
+        → (rule number : ℕ)
+        → Means replaying (Cert rule number) shown → (rule ≡ 34)
+        × ((number ≡ 1) × (status ≡ infeasible)) }
 {}
 
 /// The text that `tree` printed, as the tree's file of a `checktree` on the same model and the same names in the same
@@ -159,8 +168,8 @@ pub fn tree_then_checktree()
     ensures accepted { (growing checking : Call) (status : Status) (text shown : List ℕ)
         (branched : IsBranched growing status text) → branched.line.verb ≡ Tree
         → (known : Known checking.source) (line : Line) → line.width ≡ branched.line.width
-        → HasTreeFile (known_call checking known) line branched.m branched.names text → (ended : Ended)
-        → Means checking ended shown → EndsAs Accepted ended
+        → HasTreeFile (known_call checking known) line branched.m branched.names text
+        → (ended : Ended) → Means checking ended shown → EndsAs Accepted ended
         ⊎ NamesWidth (limit_of line) branched.m branched.names branched.t ended }
     // And whichever tree is accepted there claims the status that `whole` and `tree` answer, and the value of an
     // optimum.
@@ -206,7 +215,8 @@ pub fn compared_models()
 pub fn celltext_then_solve()
     // It is read as the split model where it has no more tokens than that, and only there;
     ensures read { (printing : Call) (text : List ℕ) (split : IsSplitText printing text)
-        → HasFewTokens (written_split split) ↔ ReadsModel (limit_of split.line) text (written_split split) }
+        → HasFewTokens (written_split split)
+        ↔ ReadsModel (limit_of split.line) text (written_split split) }
     // so a call that takes it has read the split model,
     ensures model { (printing : Call) (text : List ℕ) (split : IsSplitText printing text)
         (later : Call)
@@ -225,21 +235,24 @@ pub fn celltext_then_solve()
     // A status that `solve` or `prove` shows of it is the first model's over pieces, an optimum with the same value;
     ensures status { (printing : Call) (text : List ℕ) (split : IsSplitText printing text)
         (solving : Call)
-        (known : Known solving.source) (line : Line) → TakesSplit split (known_call solving known) line
+        (known : Known solving.source) (line : Line)
+        → TakesSplit split (known_call solving known) line
         → (status : Status) (shown : List ℕ) (solved : IsSolved solving status shown)
         → HasStatusOverPieces split.m split.cuts status solved.c.value }
     // else they answer an empty set, where not each cell holds an admitted scenario, or a wide number of the split
     // model, or the outside fails, or memory is refused;
     ensures answer { (printing : Call) (text : List ℕ) (split : IsSplitText printing text)
         (solving : Call)
-        (known : Known solving.source) (line : Line) → TakesSplit split (known_call solving known) line
+        (known : Known solving.source) (line : Line)
+        → TakesSplit split (known_call solving known) line
         → IsSolving line.verb → (ended : Ended) (shown : List ℕ) → Means solving ended shown
         → IsPiecesAnswer line.way (limit_of line) split.m split.cuts ended }
     // and where each cell holds one, and no number is wide, that status is answered, or again the outside fails, or
     // memory is refused.
     ensures answered { (printing : Call) (text : List ℕ) (split : IsSplitText printing text)
         (solving : Call)
-        (known : Known solving.source) (line : Line) → TakesSplit split (known_call solving known) line
+        (known : Known solving.source) (line : Line)
+        → TakesSplit split (known_call solving known) line
         → IsSolving line.verb → EachCellAdmits split.m split.cuts
         → IsNarrowOnWay line.way (limit_of line) (written_split split)
         → (ended : Ended) (shown : List ℕ) → Means solving ended shown
@@ -249,7 +262,8 @@ pub fn celltext_then_solve()
     // is wide, and its place is named, or the outside fails, or memory is refused.
     ensures accepted { (printing : Call) (text : List ℕ) (split : IsSplitText printing text)
         (proving : Call)
-        (known : Known proving.source) (line : Line) → TakesSplit split (known_call proving known) line
+        (known : Known proving.source) (line : Line)
+        → TakesSplit split (known_call proving known) line
         → (checking : Call) (again : Known checking.source) (other : Line)
         → TakesSplit split (known_call checking again) other
         → (status : Status) (certificate : List ℕ) (solved : IsSolved proving status certificate)
@@ -275,7 +289,8 @@ pub fn status_laws()
     // and none of them where no scenario is admitted.
     ensures not_empty { (call : Call) (known : Known call.source) (status : Status)
         (weights : List ℤ)
-        (text other : List ℕ) → Means call (ended_of status) text → Means call (EmptySet weights) other → ⊥ }
+        (text other : List ℕ) → Means call (ended_of status) text
+        → Means call (EmptySet weights) other → ⊥ }
 {}
 
 /// Two calls of `solve` and `prove` on one model, by whichever routes and at whichever widths.
@@ -290,15 +305,19 @@ pub fn route_laws()
     // So two of them whose model's files have the same bytes have one status, and of an optimum one value,
     ensures same_bytes { (a b : Call) (known : Known a.source) (again : Known b.source)
         (line other : Line)
-        (bytes : List ℕ) → HasModelText (known_call a known) line bytes → HasModelText (known_call b again) other bytes
+        (bytes : List ℕ) → HasModelText (known_call a known) line bytes
+        → HasModelText (known_call b again) other bytes
         → IsSolving line.verb → IsSolving other.verb → (s t : Status) (text shown : List ℕ)
         → Means a (ended_of s) text → Means b (ended_of t) shown
-        → (x : IsSolved a s text) × (y : IsSolved b t shown) × (s ≡ t) × (s ≡ optimal → x.c.value ≡ y.c.value) }
+        → (x : IsSolved a s text) × (y : IsSolved b t shown) × (s ≡ t)
+        × (s ≡ optimal → x.c.value ≡ y.c.value) }
     // and not the one a status and the other an empty set.
     ensures same_emptiness { (a b : Call) (known : Known a.source) (again : Known b.source)
         (line other : Line)
-        (bytes : List ℕ) → HasModelText (known_call a known) line bytes → HasModelText (known_call b again) other bytes
-        → IsSolving line.verb → IsSolving other.verb → (s : Status) (weights : List ℤ) (text shown : List ℕ)
+        (bytes : List ℕ) → HasModelText (known_call a known) line bytes
+        → HasModelText (known_call b again) other bytes
+        → IsSolving line.verb → IsSolving other.verb
+        → (s : Status) (weights : List ℤ) (text shown : List ℕ)
         → Means a (ended_of s) text → Means b (EmptySet weights) shown → ⊥ }
 {}
 

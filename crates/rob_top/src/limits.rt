@@ -45,7 +45,8 @@ pub fn limits_of<N: Exact, L: Ledger>(
 ) -> Result<Option<List<N>>, Memory>
     ensures limits { IfOk result (λ found. MatchOption found
         (IsLimitList N.limit word.now → ⊥)
-        (λ limits. (map N.value limits ≡ map limit_value (parts_of word.now)) × (length limits ≤ 20))) }
+        (λ limits. (map N.value limits ≡ map limit_value (parts_of word.now))
+        × (length limits ≤ 20))) }
     ensures counted { L.wides ledger.old ≤ L.wides ledger.new }
 {
     let mut limits = List::new(alloc);

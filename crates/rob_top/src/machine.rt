@@ -27,7 +27,8 @@ pub fn run_here<R: Files, P: Print, L: Ledger>(
     ensures headline { Ends
         (call_of (map string_bytes words.now) (source_of None shelf.old.log shelf.new.log)
         (count shelf.old.faults shelf.new.faults) (count (L.wides ledger.old) (L.wides ledger.new)))
-        (output_of out.old.taken out.new.taken out.old.puts out.new.puts (count out.old.faults out.new.faults))
+        (output_of out.old.taken out.new.taken out.old.puts out.new.puts
+        (count out.old.faults out.new.faults))
         result }
     // Which answer has to come.
     ensures complete { IsComplete

@@ -60,7 +60,8 @@ pub fn variables_of<N: Exact>(
     requires valid { IsValid N.value model.now }
     requires named { IsNamed (robust N.value model.now) }
     ensures numbers { IfOk result (λ found. MatchOption found
-        ((numbers : List ℕ) → AreVariables (robust N.value model.now) (parts_of names.now) numbers → ⊥)
+        ((numbers : List ℕ) → AreVariables (robust N.value model.now) (parts_of names.now) numbers
+        → ⊥)
         (λ numbers. AreVariables (robust N.value model.now) (parts_of names.now) numbers)) }
 {
     let mut numbers = List::new(alloc);

@@ -95,9 +95,10 @@ fn cuts_of<N: Exact, L: Ledger>(
     requires named { IsNamed (robust N.value model.now) }
     ensures cuts { IfOk result (λ found. MatchOption found
         (IsCutList N.limit word.now
-        → (cuts : Items pieces.Cut) → AreCutsAt (robust N.value model.now) (parts_of word.now) cuts → ⊥)
-        (λ cuts. AreCutsAt (robust N.value model.now) (parts_of word.now) (map (cut_of N.value) cuts)
-        × ((0 < length cuts) × (length cuts ≤ 3)))) }
+        → (cuts : Items pieces.Cut) → AreCutsAt (robust N.value model.now) (parts_of word.now) cuts
+        → ⊥)
+        (λ cuts. AreCutsAt (robust N.value model.now) (parts_of word.now)
+        (map (cut_of N.value) cuts) × ((0 < length cuts) × (length cuts ≤ 3)))) }
     ensures counted { L.wides ledger.old ≤ L.wides ledger.new }
 {
     let mut cuts = List::new(alloc);
@@ -121,7 +122,8 @@ fn cut_at<N: Exact, L: Ledger>(model: &Model<N>, word: &str, ledger: &mut L) -> 
     requires valid { IsValid N.value model.now }
     requires named { IsNamed (robust N.value model.now) }
     ensures cut { MatchOption result
-        (IsCut N.limit word.now → (cut : pieces.Cut) → IsCutAt (robust N.value model.now) word.now cut → ⊥)
+        (IsCut N.limit word.now → (cut : pieces.Cut)
+        → IsCutAt (robust N.value model.now) word.now cut → ⊥)
         (λ cut. IsCutAt (robust N.value model.now) word.now (cut_of N.value cut)) }
     ensures counted { L.wides ledger.old ≤ L.wides ledger.new }
 {
@@ -226,7 +228,8 @@ fn with_cells<N: Exact>(
     requires valid { IsValid N.value model.now }
     requires shape { HasShape (robust N.value model.now) (certificate_of N.value cert.now) }
     ensures report { IfOk result (Replies (ended_of (status_of cert.now.status))
-        (cells_line cells ++ report_of (robust N.value model.now) (certificate_of N.value cert.now))) }
+        (cells_line cells ++ report_of (robust N.value model.now)
+        (certificate_of N.value cert.now))) }
 {
     let mut text = Text::new(alloc);
     text.push(b"cells ")?;

@@ -43,7 +43,8 @@ pub fn run<S: Shelf, K: Sink, L: Ledger>(
     // it, one put for each line.
     ensures headline { Ends (call_of (map string_bytes words.now)
         (source_of (S.files shelf.old) (S.log shelf.old) (S.log shelf.new))
-        (count (S.faults shelf.old) (S.faults shelf.new)) (count (L.wides ledger.old) (L.wides ledger.new)))
+        (count (S.faults shelf.old) (S.faults shelf.new))
+        (count (L.wides ledger.old) (L.wides ledger.new)))
         (output_of (K.taken out.old) (K.taken out.new) (K.puts out.old) (K.puts out.new)
         (count (K.faults out.old) (K.faults out.new))) result }
     // Which answer has to come.
@@ -104,7 +105,8 @@ fn on_line<S: Shelf, L: Ledger>(
     ensures means { IfOk result (λ reply. (call : Call) → IsLine call line.now
         → call.source ≡ source_of (S.files shelf.old) (S.log shelf.old) (S.log shelf.new)
         → call.read_faults ≡ count (S.faults shelf.old) (S.faults shelf.new)
-        → call.wides ≡ count (L.wides ledger.old) (L.wides ledger.new) → Means call reply.ended reply.text) }
+        → call.wides ≡ count (L.wides ledger.old) (L.wides ledger.new)
+        → Means call reply.ended reply.text) }
     ensures files { S.files shelf.new ≡ S.files shelf.old }
     ensures asked { Asks (requests (line_of line.now)) (S.log shelf.old) (S.log shelf.new) }
     ensures counted { (S.faults shelf.old ≤ S.faults shelf.new)
@@ -127,7 +129,8 @@ fn on_texts<L: Ledger>(
     requires read { IsRead line.now }
     requires short { IsShort texts.now }
     ensures means { IfOk result (λ reply. (call : Call) → HasTexts call (line_of line.now) texts.now
-        → call.wides ≡ count (L.wides ledger.old) (L.wides ledger.new) → Means call reply.ended reply.text) }
+        → call.wides ≡ count (L.wides ledger.old) (L.wides ledger.new)
+        → Means call reply.ended reply.text) }
     ensures counted { L.wides ledger.old ≤ L.wides ledger.new }
 {
     if reads_model(line.verb) {

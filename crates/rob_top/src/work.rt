@@ -52,7 +52,8 @@ pub fn work_at<L: Ledger>(
     requires short { IsShort texts.now }
     // The reply is the answer of each call whose words are the command line, and whose files came with the texts.
     ensures means { IfOk result (λ reply. (call : Call) → HasTexts call (line_of line.now) texts.now
-        → call.wides ≡ count (L.wides ledger.old) (L.wides ledger.new) → Means call reply.ended reply.text) }
+        → call.wides ≡ count (L.wides ledger.old) (L.wides ledger.new)
+        → Means call reply.ended reply.text) }
     ensures counted { L.wides ledger.old ≤ L.wides ledger.new }
 {
     match line.width {

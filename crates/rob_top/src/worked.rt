@@ -50,7 +50,8 @@ pub fn solving()
     ensures narrow_spot { (result : Ended) → MustEnd (solve_call one_demand) result → (spot : Spot)
         → (result ≡ TooWide spot) → ⊥ }
     ensures narrow_status { (result : Ended) → MustEnd (solve_call one_demand) result
-        → (status : Status) × (v : Fraction) × HasStatus one_demand status v × EndsAs (ended_of status) result }
+        → (status : Status) × (v : Fraction) × HasStatus one_demand status v
+        × EndsAs (ended_of status) result }
     // on a model without a scenario by weights that show it, or a wide row of the set's program,
     ensures empty { (result : Ended) → MustEnd (solve_call empty_interval) result
         → IsEmptyAnswer greatest empty_interval result }
@@ -63,7 +64,8 @@ pub fn solving()
     // A model with a named set is read from its text, rows over that set among them: it is answered with `optimal`,
     // or a wide row,
     ensures named_set { (result : Ended) → MustEnd (solve_call hard_and_soft) result
-        → EndsAs Optimal result ⊎ ((spot : Spot) × IsWideOnPath greatest hard_and_soft spot × (result ≡ TooWide spot)) }
+        → EndsAs Optimal result
+        ⊎ ((spot : Spot) × IsWideOnPath greatest hard_and_soft spot × (result ≡ TooWide spot)) }
     // and where the named set admits no scenario by weights that show it, or a wide row of the sets' program.
     ensures empty_named_set { (result : Ended) → MustEnd (solve_call never_calm) result
         → IsEmptyAnswer greatest never_calm result }
@@ -79,7 +81,8 @@ pub fn checking()
         → EndsAs Accepted result }
     // and rejects one that doesn't, at the first place that fails.
     ensures rejected { (result : Ended) → MustEnd (check_call order_11) result
-        → (place : Place) × IsFirstFailing greatest one_demand order_11 place × EndsAs (Rejected place) result }
+        → (place : Place) × IsFirstFailing greatest one_demand order_11 place
+        × EndsAs (Rejected place) result }
     // `replay` prints the table of a file with one scenario that is admitted and one that isn't,
     ensures replayed { (result : Ended) → MustEnd (replay_call order_12 two_demands) result
         → EndsAs Printed result }
@@ -131,7 +134,8 @@ pub fn branching()
         → EndsAs (Whole 61) result }
     // On a model whose optimum in fractions isn't whole it is answered with `optimal`, or a wide number of a box.
     ensures halves { (result : Ended) → MustEnd (whole_call half_a_demand (codes "x")) result
-        → EndsAs Optimal result ⊎ ((path : List Branch) × (spot : Spot) × (result ≡ WideNode path spot)) }
+        → EndsAs Optimal result
+        ⊎ ((path : List Branch) × (spot : Spot) × (result ≡ WideNode path spot)) }
     // Where that model admits no scenario, by weights that show it, or a wide number of the set's program.
     ensures empty_whole { (result : Ended) → MustEnd
         (whole_call impossible_demand (codes "x")) result
@@ -146,8 +150,8 @@ pub fn branching()
     // and of one that doesn't prove it names a condition that fails, or a wide number.
     ensures unproved_tree { (result : Ended) → MustEnd (tree_call half_a_demand
         (tree_text half_a_demand cheaper_orders)) result → NamesFault greatest half_a_demand
-        (0 ∷ []) cheaper_orders result ⊎ (NamesWidth greatest half_a_demand (0 ∷ []) cheaper_orders result
-        ⊎ IsOutside result) }
+        (0 ∷ []) cheaper_orders result
+        ⊎ (NamesWidth greatest half_a_demand (0 ∷ []) cheaper_orders result ⊎ IsOutside result) }
 {}
 
 /// `sweep` and `sweeptext`.
@@ -175,7 +179,8 @@ pub fn cutting()
     ensures pieces { (result : Ended) → MustEnd
         (cells_call (codes "cells") (codes "d=9") one_demand) result
         → EndsAs Optimal result
-        ⊎ ((spot : Spot) × IsWideIn greatest (split_model one_demand at_9) spot × (result ≡ TooWide spot)) }
+        ⊎ ((spot : Spot) × IsWideIn greatest (split_model one_demand at_9) spot
+        × (result ≡ TooWide spot)) }
     ensures split { (result : Ended) → MustEnd
         (cells_call (codes "celltext") (codes "d=9") one_demand) result
         → EndsAs Printed result }
