@@ -13,7 +13,7 @@ ghost use Rattle.rob_top.specs.WorkStops.{IsPathOf};
 
 use crate::ended::Ended;
 use crate::reply::Reply;
-use itoa::Buffer;
+use rob_cert::spelling::put_whole;
 use rob_model::{Model, Spot, put_column_name};
 use rob_number::{Exact, List, Memory, Text};
 use rob_report::spot_text;
@@ -84,12 +84,4 @@ fn relation(at_most: bool) -> &'static [u8]
     ensures words { result.now ≡ branch_relation at_most }
 {
     if at_most { b" <= " } else { b" >= " }
-}
-
-/// Appends a whole number.
-fn put_whole(out: &mut Text, k: i64) -> Result<(), Memory>
-    ensures appended { OnOk result (out.new ≡ out.old ++ signed_decimal k) }
-{
-    let mut buffer = Buffer::new();
-    out.push(buffer.format(k).as_bytes())
 }
