@@ -20,25 +20,24 @@ use crate::work::too_wide;
 use rob_cert::spelling::put_number;
 use rob_cert::{Cert, CertErr, Status, read_cert};
 use rob_check::{Verdict, check};
-use rob_elab::Forms;
+use rob_dualize::Elaborated;
 use rob_model::{Model, Place, Spot};
 use rob_number::{Exact, Ledger, Memory, Text};
 use rob_report::place_text;
-use rob_sets::SetForm;
 use std::alloc::Global;
 
 /// The answer of `check` for the text of a certificate.
 pub fn check_text<N: Exact + Drop, L: Ledger>(
     alloc: Global,
     model: &Model<N>,
-    forms: &Forms,
-    set: &SetForm,
+    elaborated: Elaborated,
     text: &[u8],
     ledger: &mut L,
 ) -> Result<Reply, Memory>
     requires valid { IsValid N.value model.now }
     requires named { IsNamed (robust N.value model.now) }
-    requires elaborated { IsElaborated N.limit (robust N.value model.now) forms.now set.now }
+    requires elaborated { IsElaborated N.limit (robust N.value model.now)
+        elaborated.forms.now elaborated.set.now }
     requires short { length text.now ≤ 2 ^ 30 }
     ensures answers { IfOk result (AnswersFile N.limit
         (count (L.wides ledger.old) (L.wides ledger.new))
@@ -46,7 +45,7 @@ pub fn check_text<N: Exact + Drop, L: Ledger>(
     ensures counted { L.wides ledger.old ≤ L.wides ledger.new }
 {
     match read_cert(alloc, text, model, ledger) {
-        Ok(cert) => check_cert(alloc, model, forms, set, &cert, ledger),
+        Ok(cert) => check_cert(alloc, model, elaborated, &cert, ledger),
         Err(CertErr::Rule(rule, number)) => certificate_rule(alloc, rule, number),
         Err(CertErr::Memory) => Err(Memory),
     }
@@ -56,20 +55,20 @@ pub fn check_text<N: Exact + Drop, L: Ledger>(
 fn check_cert<N: Exact, L: Ledger>(
     alloc: Global,
     model: &Model<N>,
-    forms: &Forms,
-    set: &SetForm,
+    elaborated: Elaborated,
     cert: &Cert<N>,
     ledger: &mut L,
 ) -> Result<Reply, Memory>
     requires valid { IsValid N.value model.now }
-    requires elaborated { IsElaborated N.limit (robust N.value model.now) forms.now set.now }
+    requires elaborated { IsElaborated N.limit (robust N.value model.now)
+        elaborated.forms.now elaborated.set.now }
     requires shape { HasShape (robust N.value model.now) (certificate_of N.value cert.now) }
     ensures answers { IfOk result (AnswersCertificate N.limit
         (count (L.wides ledger.old) (L.wides ledger.new))
         (robust N.value model.now) (certificate_of N.value cert.now)) }
     ensures counted { L.wides ledger.old ≤ L.wides ledger.new }
 {
-    match check(model, forms, set, cert, ledger) {
+    match check(model, elaborated.forms, elaborated.set, cert, ledger) {
         Verdict::Accepted => accepted(alloc, cert.status, cert.value),
         Verdict::Rejected(place) => rejected(alloc, model, place),
         Verdict::TooWide(place) => too_wide(alloc, model, Spot::Check(place)),

@@ -21,13 +21,13 @@ use crate::solving::{find, put_told_rounds};
 use itoa::Buffer;
 use rob_cert::spelling::{put_named, put_words};
 use rob_cert::{Cert, Status, Stop, Trace};
-use rob_elab::{ElabErr, Forms, written};
+use rob_dualize::Elaborated;
+use rob_elab::{ElabErr, written};
 use rob_gen::generate;
 use rob_model::{Model, Spot};
 use rob_number::{Exact, Ledger, Memory, Text};
 use rob_quick::Quick;
 use rob_report::spot_text;
-use rob_sets::SetForm;
 use rob_words::{Route, Width};
 use std::alloc::Global;
 
@@ -72,8 +72,12 @@ fn compare<N: Exact + Drop, L: Ledger>(
     let model = generate::<N, L>(alloc, number, ledger)?;
     match written(alloc, &model, ledger) {
         Ok((forms, set)) => {
-            let dual = line_by(alloc, &model, &forms, &set, Route::Dual, ledger)?;
-            let cuts = line_by(alloc, &model, &forms, &set, Route::Cuts, ledger)?;
+            let elaborated = Elaborated {
+                forms: &forms,
+                set: &set,
+            };
+            let dual = line_by(alloc, &model, elaborated, Route::Dual, ledger)?;
+            let cuts = line_by(alloc, &model, elaborated, Route::Cuts, ledger)?;
             summary(alloc, number, dual, cuts)
         }
         // No number of a generated model's set rows and forms is wide.
@@ -86,13 +90,13 @@ fn compare<N: Exact + Drop, L: Ledger>(
 fn line_by<N: Exact + Drop, L: Ledger>(
     alloc: Global,
     model: &Model<N>,
-    forms: &Forms,
-    set: &SetForm,
+    elaborated: Elaborated,
     route: Route,
     ledger: &mut L,
 ) -> Result<RouteLine, Memory>
     requires valid { IsValid N.value model.now }
-    requires elaborated { IsElaborated N.limit (robust N.value model.now) forms.now set.now }
+    requires elaborated { IsElaborated N.limit (robust N.value model.now)
+        elaborated.forms.now elaborated.set.now }
     requires admitted { HasScenario (robust N.value model.now) }
     ensures told { IfOk result (λ told. IsLineOf N.limit
         (robust N.value model.now) route told.spot told.text) }
@@ -100,7 +104,7 @@ fn line_by<N: Exact + Drop, L: Ledger>(
         (count (L.wides ledger.old) (L.wides ledger.new)) told.spot) }
     ensures counted { L.wides ledger.old ≤ L.wides ledger.new }
 {
-    match find::<N, L>(alloc, forms, set, route, ledger) {
+    match find::<N, L>(alloc, elaborated, route, ledger) {
         Ok((cert, _)) => status_line(alloc, route, &cert),
         Err(Stop::Wide(spot, trace)) => wide_line(alloc, model, route, spot, &trace),
         // Some joint scenario is admitted.

@@ -11,23 +11,21 @@ ghost use Rattle.rob_top.specs.Narrowed.{RepliesNarrow, bounds_text};
 use crate::ended::Ended;
 use crate::reply::Reply;
 use rob_dualize::bounds::ModelBounds;
-use rob_dualize::model_bounds;
-use rob_elab::Forms;
+use rob_dualize::{Elaborated, model_bounds};
 use rob_number::{Exact, Memory, Text};
 use rob_report::{put_bound, put_narrow};
-use rob_sets::SetForm;
 use std::alloc::Global;
 
 /// The answer of `narrow`: the bounds of the set's program and of the counterpart, and whether neither is over the
 /// limit.
-pub fn narrow<N: Exact>(alloc: Global, forms: &Forms, set: &SetForm) -> Result<Reply, Memory>
-    requires model { AreElaborated N.limit forms.now set.now }
-    requires few { IsFew (counterpart_of forms.now set.now) }
-    ensures narrow { IfOk result (λ reply. (m : RobustModel) → IsForms m forms.now
-        → IsSetForm m set.now
+pub fn narrow<N: Exact>(alloc: Global, elaborated: Elaborated) -> Result<Reply, Memory>
+    requires model { AreElaborated N.limit elaborated.forms.now elaborated.set.now }
+    requires few { IsFew (counterpart_of elaborated.forms.now elaborated.set.now) }
+    ensures narrow { IfOk result (λ reply. (m : RobustModel) → IsForms m elaborated.entry.forms.now
+        → IsSetForm m elaborated.entry.set.now
         → RepliesNarrow N.limit m reply) }
 {
-    let bounds = model_bounds::<N>(alloc, forms, set)?;
+    let bounds = model_bounds::<N>(alloc, elaborated.forms, elaborated.set)?;
     let text = bounds_text(alloc, &bounds)?;
     Ok(Reply {
         ended: Ended::Printed,

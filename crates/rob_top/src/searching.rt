@@ -23,12 +23,11 @@ use crate::reply::{Reply, certificate_rule, fault, no_plan};
 use crate::solving::stopped;
 use crate::work::too_wide;
 use rob_cert::{Cert, CertErr, Status, Worst, read_cert};
+use rob_dualize::Elaborated;
 use rob_dualize::told::whole;
-use rob_elab::Forms;
 use rob_model::{Model, Plan, Spot, Where, find_form};
 use rob_number::{Exact, Ledger, Memory, Wide};
 use rob_report::worst_text;
-use rob_sets::SetForm;
 use rob_words::Route;
 use rob_worst::slack::slack;
 use rob_worst::worst;
@@ -38,15 +37,15 @@ use std::alloc::Global;
 pub fn search_text<N: Exact + Drop, L: Ledger>(
     alloc: Global,
     model: &Model<N>,
-    forms: &Forms,
-    set: &SetForm,
+    elaborated: Elaborated,
     certificate: &[u8],
     name: &[u8],
     ledger: &mut L,
 ) -> Result<Reply, Memory>
     requires valid { IsValid N.value model.now }
     requires named { IsNamed (robust N.value model.now) }
-    requires elaborated { IsElaborated N.limit (robust N.value model.now) forms.now set.now }
+    requires elaborated { IsElaborated N.limit (robust N.value model.now)
+        elaborated.forms.now elaborated.set.now }
     requires short { length certificate.now ≤ 2 ^ 30 }
     ensures answers { IfOk result (AnswersSearch N.limit
         (count (L.wides ledger.old) (L.wides ledger.new))
@@ -54,7 +53,7 @@ pub fn search_text<N: Exact + Drop, L: Ledger>(
     ensures counted { L.wides ledger.old ≤ L.wides ledger.new }
 {
     match read_cert(alloc, certificate, model, ledger) {
-        Ok(cert) => search_cert(alloc, model, forms, set, cert, name, ledger),
+        Ok(cert) => search_cert(alloc, model, elaborated, cert, name, ledger),
         Err(CertErr::Rule(rule, number)) => certificate_rule(alloc, rule, number),
         Err(CertErr::Memory) => Err(Memory),
     }
@@ -64,14 +63,14 @@ pub fn search_text<N: Exact + Drop, L: Ledger>(
 fn search_cert<N: Exact + Drop, L: Ledger>(
     alloc: Global,
     model: &Model<N>,
-    forms: &Forms,
-    set: &SetForm,
+    elaborated: Elaborated,
     cert: Cert<N>,
     name: &[u8],
     ledger: &mut L,
 ) -> Result<Reply, Memory>
     requires valid { IsValid N.value model.now }
-    requires elaborated { IsElaborated N.limit (robust N.value model.now) forms.now set.now }
+    requires elaborated { IsElaborated N.limit (robust N.value model.now)
+        elaborated.forms.now elaborated.set.now }
     requires shape { HasShape (robust N.value model.now) (certificate_of N.value cert) }
     ensures answers { IfOk result (AnswersSearched N.limit
         (count (L.wides ledger.old) (L.wides ledger.new))
@@ -80,8 +79,8 @@ fn search_cert<N: Exact + Drop, L: Ledger>(
 {
     match cert.status {
         Status::Infeasible => no_plan(alloc),
-        Status::Optimal => search_plan(alloc, model, forms, set, cert, name, ledger),
-        Status::Unbounded => search_plan(alloc, model, forms, set, cert, name, ledger),
+        Status::Optimal => search_plan(alloc, model, elaborated, cert, name, ledger),
+        Status::Unbounded => search_plan(alloc, model, elaborated, cert, name, ledger),
     }
 }
 
@@ -89,14 +88,14 @@ fn search_cert<N: Exact + Drop, L: Ledger>(
 fn search_plan<N: Exact + Drop, L: Ledger>(
     alloc: Global,
     model: &Model<N>,
-    forms: &Forms,
-    set: &SetForm,
+    elaborated: Elaborated,
     cert: Cert<N>,
     name: &[u8],
     ledger: &mut L,
 ) -> Result<Reply, Memory>
     requires valid { IsValid N.value model.now }
-    requires elaborated { IsElaborated N.limit (robust N.value model.now) forms.now set.now }
+    requires elaborated { IsElaborated N.limit (robust N.value model.now)
+        elaborated.forms.now elaborated.set.now }
     requires size { length cert.plan ≡ column_count (robust N.value model.now) }
     ensures answers { IfOk result (AnswersPlanned N.limit
         (count (L.wides ledger.old) (L.wides ledger.new))
@@ -109,7 +108,7 @@ fn search_plan<N: Exact + Drop, L: Ledger>(
                 columns: cert.plan,
                 bound: cert.value,
             };
-            search_form(alloc, model, forms, set, form, &plan, ledger)
+            search_form(alloc, model, elaborated, form, &plan, ledger)
         }
         None => fault(alloc, Ended::NoRow, b"no row ", name),
     }
@@ -119,14 +118,14 @@ fn search_plan<N: Exact + Drop, L: Ledger>(
 fn search_form<N: Exact + Drop, L: Ledger>(
     alloc: Global,
     model: &Model<N>,
-    forms: &Forms,
-    set: &SetForm,
+    elaborated: Elaborated,
     form: u32,
     plan: &Plan<N>,
     ledger: &mut L,
 ) -> Result<Reply, Memory>
     requires valid { IsValid N.value model.now }
-    requires elaborated { IsElaborated N.limit (robust N.value model.now) forms.now set.now }
+    requires elaborated { IsElaborated N.limit (robust N.value model.now)
+        elaborated.forms.now elaborated.set.now }
     requires form_in { form < length (model_forms (robust N.value model.now)) }
     requires size { length plan.now.columns ≡ column_count (robust N.value model.now) }
     ensures answers { IfOk result (λ reply. (c : Certificate) → plan_of N.value plan.now
@@ -135,7 +134,7 @@ fn search_form<N: Exact + Drop, L: Ledger>(
         (robust N.value model.now) c form reply) }
     ensures counted { L.wides ledger.old ≤ L.wides ledger.new }
 {
-    match worst(alloc, forms, set, form, plan, ledger) {
+    match worst(alloc, elaborated.forms, elaborated.set, form, plan, ledger) {
         Ok(worst) => with_slack(alloc, model, form, &worst, ledger),
         Err(stop) => stopped(alloc, model, Route::Dual, stop),
     }

@@ -29,12 +29,10 @@ use crate::ended::Ended;
 use crate::reply::Reply;
 use rob_cert::{Cert, Status, Stop, Trace, write_cert};
 use rob_cuts::solve_cuts;
-use rob_dualize::solve_dual;
-use rob_elab::Forms;
+use rob_dualize::{Elaborated, solve_dual};
 use rob_model::{Model, Spot};
 use rob_number::{Exact, Ledger, List, Memory, Text};
 use rob_report::{empty_set_text, put_rounds, report_text, spot_text};
-use rob_sets::SetForm;
 use rob_words::Route;
 use std::alloc::Global;
 
@@ -42,19 +40,19 @@ use std::alloc::Global;
 pub fn solve<N: Exact + Drop, L: Ledger>(
     alloc: Global,
     model: &Model<N>,
-    forms: &Forms,
-    set: &SetForm,
+    elaborated: Elaborated,
     route: Route,
     ledger: &mut L,
 ) -> Result<Reply, Memory>
     requires valid { IsValid N.value model.now }
-    requires elaborated { IsElaborated N.limit (robust N.value model.now) forms.now set.now }
+    requires elaborated { IsElaborated N.limit (robust N.value model.now)
+        elaborated.forms.now elaborated.set.now }
     ensures answers { IfOk result (AnswersRoute N.limit
         (count (L.wides ledger.old) (L.wides ledger.new))
         (robust N.value model.now) Solve route) }
     ensures counted { L.wides ledger.old ≤ L.wides ledger.new }
 {
-    match find(alloc, forms, set, route, ledger) {
+    match find(alloc, elaborated, route, ledger) {
         Ok((cert, trace)) => reported(alloc, model, &cert, route, &trace),
         Err(stop) => stopped(alloc, model, route, stop),
     }
@@ -64,19 +62,19 @@ pub fn solve<N: Exact + Drop, L: Ledger>(
 pub fn prove<N: Exact + Drop, L: Ledger>(
     alloc: Global,
     model: &Model<N>,
-    forms: &Forms,
-    set: &SetForm,
+    elaborated: Elaborated,
     route: Route,
     ledger: &mut L,
 ) -> Result<Reply, Memory>
     requires valid { IsValid N.value model.now }
-    requires elaborated { IsElaborated N.limit (robust N.value model.now) forms.now set.now }
+    requires elaborated { IsElaborated N.limit (robust N.value model.now)
+        elaborated.forms.now elaborated.set.now }
     ensures answers { IfOk result (AnswersRoute N.limit
         (count (L.wides ledger.old) (L.wides ledger.new))
         (robust N.value model.now) Prove route) }
     ensures counted { L.wides ledger.old ≤ L.wides ledger.new }
 {
-    match find(alloc, forms, set, route, ledger) {
+    match find(alloc, elaborated, route, ledger) {
         Ok((cert, _)) => proved(alloc, model, &cert),
         Err(stop) => stopped(alloc, model, route, stop),
     }
@@ -86,18 +84,18 @@ pub fn prove<N: Exact + Drop, L: Ledger>(
 /// only where no joint scenario is admitted; `Wide` names a number on the route's way that is wide.
 pub fn find<N: Exact + Drop, L: Ledger>(
     alloc: Global,
-    forms: &Forms,
-    set: &SetForm,
+    elaborated: Elaborated,
     route: Route,
     ledger: &mut L,
 ) -> Result<(Cert<N>, Trace), Stop>
-    requires model { AreOfModel N.limit forms.now set.now }
-    requires few { IsFew (counterpart_of forms.now set.now) }
-    ensures solves { (m : RobustModel) → IsModel m → IsForms m forms.now → IsSetForm m set.now
+    requires model { AreOfModel N.limit elaborated.forms.now elaborated.set.now }
+    requires few { IsFew (counterpart_of elaborated.forms.now elaborated.set.now) }
+    ensures solves { (m : RobustModel) → IsModel m → IsForms m elaborated.entry.forms.now
+        → IsSetForm m elaborated.entry.set.now
         → SolvesBy route N.value N.limit m (L.wides ledger.old) (L.wides ledger.new) result }
 {
     match route {
-        Route::Dual => match solve_dual(alloc, forms, set, ledger) {
+        Route::Dual => match solve_dual(alloc, elaborated.forms, elaborated.set, ledger) {
             Ok(cert) => Ok((
                 cert,
                 Trace {
@@ -106,7 +104,7 @@ pub fn find<N: Exact + Drop, L: Ledger>(
             )),
             Err(stop) => Err(stop),
         },
-        Route::Cuts => solve_cuts(alloc, forms, set, ledger),
+        Route::Cuts => solve_cuts(alloc, elaborated.forms, elaborated.set, ledger),
     }
 }
 

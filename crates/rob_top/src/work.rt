@@ -30,14 +30,14 @@ use crate::splitting::split_words;
 use crate::sweeping::{limit_words, sweep_words};
 use crate::tree_checking::check_tree_text;
 use rob_cert::Trace;
-use rob_elab::{ElabErr, Forms, written};
+use rob_dualize::Elaborated;
+use rob_elab::{ElabErr, written};
 use rob_model::{Model, Spot};
 use rob_number::{Exact, Ledger, List, Memory};
 use rob_parse::read_model;
 use rob_quick::Quick;
 use rob_report::{rows_text, spot_text};
 use rob_rules::ModelErr;
-use rob_sets::SetForm;
 use rob_words::{CommandLine, Own, Route, Verb, Width};
 use std::alloc::Global;
 
@@ -201,7 +201,13 @@ fn elaborated<N: Exact + Drop, L: Ledger>(
     ensures counted { L.wides ledger.old ≤ L.wides ledger.new }
 {
     match written(alloc, model, ledger) {
-        Ok((forms, set)) => on_forms(alloc, model, &forms, &set, line, texts, ledger),
+        Ok((forms, set)) => {
+            let elaborated = Elaborated {
+                forms: &forms,
+                set: &set,
+            };
+            on_forms(alloc, model, elaborated, line, texts, ledger)
+        }
         Err(error) => not_elaborated(alloc, model, line.route, error),
     }
 }
@@ -210,15 +216,15 @@ fn elaborated<N: Exact + Drop, L: Ledger>(
 fn on_forms<N: Exact + Drop, L: Ledger>(
     alloc: Global,
     model: &Model<N>,
-    forms: &Forms,
-    set: &SetForm,
+    elaborated: Elaborated,
     line: &CommandLine,
     texts: &Texts,
     ledger: &mut L,
 ) -> Result<Reply, Memory>
     requires valid { IsValid N.value model.now }
     requires named { IsNamed (robust N.value model.now) }
-    requires elaborated { IsElaborated N.limit (robust N.value model.now) forms.now set.now }
+    requires elaborated { IsElaborated N.limit (robust N.value model.now)
+        elaborated.forms.now elaborated.set.now }
     requires short { IsShort texts.now }
     requires elaborates { IsElaborating line.now.verb }
     ensures answers { IfOk result (AnswersWhole N.limit
@@ -227,35 +233,31 @@ fn on_forms<N: Exact + Drop, L: Ledger>(
     ensures counted { L.wides ledger.old ≤ L.wides ledger.new }
 {
     match line.verb {
-        Verb::Rows => rows(alloc, model, forms, set),
-        Verb::Solve => solve(alloc, model, forms, set, line.route, ledger),
-        Verb::Prove => prove(alloc, model, forms, set, line.route, ledger),
+        Verb::Rows => rows(alloc, model, elaborated),
+        Verb::Solve => solve(alloc, model, elaborated, line.route, ledger),
+        Verb::Prove => prove(alloc, model, elaborated, line.route, ledger),
         Verb::Check => {
             let text = texts.certificate.as_slice();
-            check_text(alloc, model, forms, set, text, ledger)
+            check_text(alloc, model, elaborated, text, ledger)
         }
         Verb::Worst => {
             let text = texts.certificate.as_slice();
             let name = own_word(Own::Form, line.verb, line.own.as_slice());
-            search_text(alloc, model, forms, set, text, name.as_bytes(), ledger)
+            search_text(alloc, model, elaborated, text, name.as_bytes(), ledger)
         }
-        Verb::Narrow => narrow::<N>(alloc, forms, set),
+        Verb::Narrow => narrow::<N>(alloc, elaborated),
         _ => unreachable!(),
     }
 }
 
 /// The answer of `rows`.
-fn rows<N: Exact>(
-    alloc: Global,
-    model: &Model<N>,
-    forms: &Forms,
-    set: &SetForm,
-) -> Result<Reply, Memory>
+fn rows<N: Exact>(alloc: Global, model: &Model<N>, elaborated: Elaborated) -> Result<Reply, Memory>
     requires valid { IsValid N.value model.now }
-    requires elaborated { IsElaborated N.limit (robust N.value model.now) forms.now set.now }
+    requires elaborated { IsElaborated N.limit (robust N.value model.now)
+        elaborated.forms.now elaborated.set.now }
     ensures rows { IfOk result (Replies Ended.Printed (rows_of (robust N.value model.now))) }
 {
-    let text = rows_text(alloc, model, forms, set)?;
+    let text = rows_text(alloc, model, elaborated.forms, elaborated.set)?;
     Ok(Reply {
         ended: Ended::Printed,
         text,

@@ -23,7 +23,7 @@ returns-in-Err g c = record {
 pub returns-in-Cuts : goal.returns-in-Cuts
 returns-in-Cuts g c = record {
   solves = λ m well forms set.
-      cuts_answers g.N.Exact.value g.N.Exact.limit m _ _ c.args.route c.in-Cuts.is c.args.forms.now c.args.set.now
-      c.solve_cuts.result well forms set
+      cuts_answers g.N.Exact.value g.N.Exact.limit m _ _ c.args.route c.in-Cuts.is c.args.elaborated.forms.now
+      c.args.elaborated.set.now c.solve_cuts.result well forms set
       c.solve_cuts.ensures.solved c.solve_cuts.ensures.stopped c.solve_cuts.ensures.fits c.solve_cuts.ensures.wides;
 }

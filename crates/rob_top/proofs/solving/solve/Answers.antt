@@ -17,8 +17,8 @@ find-requires-clause-model g c = record {
 
 pub find-requires-clause-few : goal.find-requires-clause-few
 find-requires-clause-few g c =
-    counterpart_few (robust g.N.Exact.value c.args.model.now) c.requires.valid.limits c.args.forms.now c.args.set.now
-    c.requires.elaborated.are_forms c.requires.elaborated.is_set
+    counterpart_few (robust g.N.Exact.value c.args.model.now) c.requires.valid.limits c.args.elaborated.forms.now
+    c.args.elaborated.set.now c.requires.elaborated.are_forms c.requires.elaborated.is_set
 
 pub reported-requires-clause-shape : goal.reported-requires-clause-shape
 reported-requires-clause-shape g c =

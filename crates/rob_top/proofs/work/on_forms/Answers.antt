@@ -48,14 +48,13 @@ narrow-requires g c =
         model = m;
         elaborated = c.requires.elaborated;
       };
-      few = counterpart_few m c.requires.valid.limits c.args.forms.now c.args.set.now c.requires.elaborated.are_forms
-          c.requires.elaborated.is_set;
+      few = counterpart_few m c.requires.valid.limits c.args.elaborated.forms.now c.args.elaborated.set.now
+          c.requires.elaborated.are_forms c.requires.elaborated.is_set;
     }
 
 pub returns-in-Narrow-clause-answers : goal.returns-in-Narrow-clause-answers
 returns-in-Narrow-clause-answers g c =
     let m = robust g.N.Exact.value c.args.model.now in
     narrow_answers g.N.Exact.limit m _ (line_of c.args.line.now) c.args.texts.now c.narrow.result c.in-Narrow.is
-    (of_model m c.narrow.result c.args.forms.now c.args.set.now g.N.Exact.limit c.requires.elaborated.are_forms
-    c.requires.elaborated.is_set
-    c.narrow.ensures.narrow)
+    (of_model m c.narrow.result c.args.elaborated.forms.now c.args.elaborated.set.now g.N.Exact.limit
+    c.requires.elaborated.are_forms c.requires.elaborated.is_set c.narrow.ensures.narrow)
