@@ -23,7 +23,8 @@ ghost use Rattle.rob_rules.specs.Texts.{Breaks, Reads};
 /// Each text reads as exactly one model, or breaks exactly one rule at one line.
 pub fn one_model()
     ensures some { (limit : ℕ) (text : List ℕ)
-        → ((m : RobustModel) × ReadsModel limit text m) ⊎ ((rule : ℕ) × (line : ℕ) × Breaks limit text rule line) }
+        → ((m : RobustModel) × ReadsModel limit text m)
+        ⊎ ((rule : ℕ) × (line : ℕ) × Breaks limit text rule line) }
     ensures model { (limit : ℕ) (text : List ℕ) (m m' : RobustModel)
         → ReadsModel limit text m → ReadsModel limit text m' → m ≡ m' }
     // A limit only bounds the digits: one text, read at two limits, is one model.
@@ -75,5 +76,6 @@ pub fn text_chain()
         → Reads limit text words list known → Chain limit words (start (length words)) list known }
     ensures words { (limit : ℕ) (text : List ℕ) (words : List (List ℕ)) (list : List Statement)
         (known : Earlier)
-        → Reads limit text words list known → AreDistinct words × (Each IsWord words × Each IsPlain words) }
+        → Reads limit text words list known → AreDistinct words
+        × (Each IsWord words × Each IsPlain words) }
 {}

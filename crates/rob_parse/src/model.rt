@@ -347,7 +347,8 @@ fn row_def<N: Exact, L: Ledger>(
     requires fits { FitsRelation N.limit row.now.relation }
     requires room { HasRoom sorts.now place }
     ensures read { IfOk result (λ r. row_of N.value r ∷ []
-        ≡ map (row_taken place.count place.set) (rows (texts words.now.keys) sorts.now (parsed.Row row.now))) }
+        ≡ map (row_taken place.count place.set)
+        (rows (texts words.now.keys) sorts.now (parsed.Row row.now))) }
     ensures ops { L.ops ledger.old ≤ L.ops ledger.new }
     ensures wides { L.wides ledger.old ≡ L.wides ledger.new }
 {

@@ -36,10 +36,12 @@ ghost use Rattle.rob_rules.specs.Texts.{Reads};
 pub fn known()
     ensures names { (limit : ℕ) (text : List ℕ) (words : List (List ℕ)) (list : List Statement)
         (known : Earlier)
-        → Reads limit text words list known → AreKnown words known.sorts (naming_of (model_of words known.sorts list)) }
+        → Reads limit text words list known
+        → AreKnown words known.sorts (naming_of (model_of words known.sorts list)) }
     ensures things { (limit : ℕ) (text : List ℕ) (words : List (List ℕ)) (list : List Statement)
         (known : Earlier)
-        → Reads limit text words list known → (k : ℕ) (sort : Sort) → sort_at known.sorts k ≡ Some sort
+        → Reads limit text words list known → (k : ℕ) (sort : Sort)
+        → sort_at known.sorts k ≡ Some sort
         → HasByName (model_of words known.sorts list) (word_of words k) sort }
     ensures over { (limit : ℕ) (text : List ℕ) (words : List (List ℕ)) (list : List Statement)
         (known : Earlier)
@@ -53,11 +55,13 @@ pub fn without_sets()
     ensures statements { (limit : ℕ) (text : List ℕ) (words : List (List ℕ)) (list : List Statement)
         (known : Earlier)
         (read : Reads limit text words list known)
-        → HasNoOver (text_lines text (words_of text read.tokens) read.tokens) → Each NamesNoSet list }
+        → HasNoOver (text_lines text (words_of text read.tokens) read.tokens)
+        → Each NamesNoSet list }
     ensures model { (words : List (List ℕ)) (sorts : List (Option Sort)) (list : List Statement)
         → Each NamesNoSet list → model_of words sorts list ≡ written_alone words sorts list }
     ensures plain { (limit : ℕ) (text : List ℕ) (m : RobustModel) (read : ReadsModel limit text m)
-        → HasNoOver (text_lines text (words_of text read.reads.tokens) read.reads.tokens) → HasOneSet m }
+        → HasNoOver (text_lines text (words_of text read.reads.tokens) read.reads.tokens)
+        → HasOneSet m }
     ensures lines { (m : RobustModel) → m.sets ≡ [] → IsPlaced m → canonical_lines_of m
         ≡ lines_alone m }
     ensures no_over { (m : RobustModel) → Each (Each IsNotOver) (lines_alone m) }
@@ -70,7 +74,8 @@ pub fn pages()
     ensures only { (ls : List (List Written)) (tokens : List Token) → Each (Each IsToken) ls
         → AreTokens (page_text ls) tokens
         → (words_of (page_text ls) tokens ≡ words_on ls)
-        × (lines_of (page_text ls) one (words_on ls) tokens ≡ map (symbols_on (words_on ls)) ls ++ [] ∷ []) }
+        × (lines_of (page_text ls) one (words_on ls) tokens
+        ≡ map (symbols_on (words_on ls)) ls ++ [] ∷ []) }
 {}
 
 /// What the canonical lines of a model that a text reads as consist of may be written, and the model's names are found
@@ -85,15 +90,18 @@ pub fn canonical_words()
 /// An expression that is written is read back, where its names are known.
 pub fn expressions()
     ensures read { (limit : ℕ) → limit < 2 ^ 62
-        → (words : List (List ℕ)) (sorts : List (Option Sort)) (names : Naming) → AreKnown words sorts names
+        → (words : List (List ℕ)) (sorts : List (Option Sort)) (names : Naming)
+        → AreKnown words sorts names
         → (e : Expression) → IsReadable limit names e → IsReadBack words sorts names e }
 {}
 
 /// The canonical lines of a model are statements, whose model it is.
 pub fn canonical_lines()
     ensures read { (limit : ℕ) → limit < 2 ^ 62
-        → (words : List (List ℕ)) (sorts : List (Option Sort)) (m : RobustModel) → AreKnown words sorts (naming_of m)
-        → AreDeclarable words m → IsReadableModel limit (naming_of m) m → AreReadBack words sorts m }
+        → (words : List (List ℕ)) (sorts : List (Option Sort)) (m : RobustModel)
+        → AreKnown words sorts (naming_of m)
+        → AreDeclarable words m → IsReadableModel limit (naming_of m) m
+        → AreReadBack words sorts m }
 {}
 
 /// A model that a text reads as is readable: its numbers are within the limit, and its expressions are the grammar's.
@@ -110,8 +118,8 @@ pub fn canonical_reading()
         → IsReadableModel limit (naming_of m) m
         → IsModel (written_model m) → IsNamed m → Each IsSpelled (declared_names m)
         → Each HasDistinctMembers (written_model m).set_lines → IsWithinLimits m
-        → Each (IsShallow 0) (canonical_lines_of m) → length (ended (canonical_lines_of m)) ≤ most_tokens
-        → ReadsModel limit (model_text m) m }
+        → Each (IsShallow 0) (canonical_lines_of m)
+        → length (ended (canonical_lines_of m)) ≤ most_tokens → ReadsModel limit (model_text m) m }
 {}
 
 /// A model that a text reads as is read again from its canonical text.
@@ -130,8 +138,10 @@ pub fn counted_lines()
     ensures lines { (limit : ℕ) (words : List (List ℕ)) (sorts : List (Option Sort))
         (names : Naming)
         → CountsSetsFromOne sorts → (list : List Statement)
-        → Each (FitsStatement limit) list → Each (AreReadable limit sorts names) list → Each (EndsInSet sorts) list
-        → length (ended (map (canonical_line words sorts names) list)) ≡ lines_tokens limit (map (shown words) list) }
+        → Each (FitsStatement limit) list → Each (AreReadable limit sorts names) list
+        → Each (EndsInSet sorts) list
+        → length (ended (map (canonical_line words sorts names) list))
+        ≡ lines_tokens limit (map (shown words) list) }
 {}
 
 /// The canonical line of a statement is shallow, where it opens few parentheses at once as rob_index says.

@@ -38,7 +38,8 @@ pub fn shallow_texts()
         (lines_of text version words tokens) }
     ensures read { (text : List ℕ) (tokens : List Token) (words : List (List ℕ))
         → AreTokens text tokens
-        → Each (λ (l : List Symbol). deepest 0 [] false (seen_line l) ≤ most_open) (text_lines text words tokens) }
+        → Each (λ (l : List Symbol). deepest 0 [] false (seen_line l) ≤ most_open)
+        (text_lines text words tokens) }
 {}
 
 /// A statement of version 1, whose names are found again by their words, is a line of rob_index' version 1; and the
@@ -47,7 +48,8 @@ pub fn plain_lines()
     ensures statement { (words : List (List ℕ)) (symbols : List Symbol) (s : Statement)
         → IsStatement symbols s
         → Each (IsFoundAgain words) symbols
-        → (t : Indexed Tree) × IsOf one (seen_line symbols) t × (numbered words (itself_line words t) ≡ s) }
+        → (t : Indexed Tree) × IsOf one (seen_line symbols) t
+        × (numbered words (itself_line words t) ≡ s) }
 {}
 
 /// A text of version 1 that reads as statements reads as the same by rob_index' reading of lines of either version.
@@ -61,7 +63,8 @@ pub fn plain_texts()
 pub fn numbered_lines()
     ensures shallow { (words : List (List ℕ)) (limit : ℕ) (sorts : List (Option Sort))
         (names : Naming)
-        (p : plain.Statement) → AreReadable limit sorts names (numbered words p) → line_depth p ≤ most_open
+        (p : plain.Statement) → AreReadable limit sorts names (numbered words p)
+        → line_depth p ≤ most_open
         → IsShallow 0 (canonical_line words sorts names (numbered words p)) }
     ensures counted { (words : List (List ℕ)) (limit : ℕ) (sorts : List (Option Sort))
         (names : Naming)
@@ -78,8 +81,8 @@ pub fn read_lengths()
     ensures few { (limit : ℕ) (text : List ℕ) (words : List (List ℕ)) (list : List Statement)
         (known : Earlier)
         → texts.Reads limit text words list known → (sorts : List (Option Sort)) (names : Naming)
-        → CountsSetsFromOne sorts → Each (FitsStatement limit) list → Each (AreReadable limit sorts names) list
-        → Each (EndsInSet sorts) list
+        → CountsSetsFromOne sorts → Each (FitsStatement limit) list
+        → Each (AreReadable limit sorts names) list → Each (EndsInSet sorts) list
         → length (ended (map (canonical_line words sorts names) list)) ≤ most_tokens }
     ensures shallow { (limit : ℕ) (text : List ℕ) (words : List (List ℕ)) (list : List Statement)
         (known : Earlier)

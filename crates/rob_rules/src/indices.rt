@@ -66,7 +66,8 @@ pub fn judge_indices(
     ensures named { IfOk result (λ o. (words : List Name) → MatchOption o
         (named limit words (is_set declared.now) total (seen_statement statement.now)
         ≡ late_fault words (seen_statement statement.now))
-        (λ f. named limit words (is_set declared.now) total (seen_statement statement.now) ≡ Some (seen_fault f))) }
+        (λ f. named limit words (is_set declared.now) total (seen_statement statement.now)
+        ≡ Some (seen_fault f))) }
     ensures behind { IfOk result (λ o. o ≡ None → (words : List Name)
         → behind.new ≡ total + lines_tokens limit (expand words (seen_statement statement.now))) }
 {
@@ -128,7 +129,8 @@ fn judge_crowded(
     statement: &Indexed,
 ) -> Result<IndexFault, Memory>
     ensures named { IfOk result (λ f. (limit total : ℕ) (words : List Name)
-        → named_crowded limit words (is_set declared.now) total (seen_statement statement.now) ≡ seen_fault f) }
+        → named_crowded limit words (is_set declared.now) total (seen_statement statement.now)
+        ≡ seen_fault f) }
 {
     let unknown = some_unknown(alloc, declared, statement)?;
     if unknown {

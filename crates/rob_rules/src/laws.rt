@@ -48,7 +48,8 @@ pub fn growing()
         → ((k : ℕ) → sort_at before.sorts k ≡ sort_at before'.sorts k)
         → ((k : ℕ) → sort_at now.sorts k ≡ sort_at now'.sorts k)
         → now.sizes ≡ now'.sizes → now.goal ≡ now'.goal
-        → (s : Statement) (f : Fault) → has_fault limit before now s f ≡ has_fault limit before' now' s f }
+        → (s : Statement) (f : Fault)
+        → has_fault limit before now s f ≡ has_fault limit before' now' s f }
 {}
 
 /// The plain statements of a text that reads stand one behind another, each without a fault.

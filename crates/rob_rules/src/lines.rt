@@ -144,11 +144,13 @@ impl Reader {
         ensures count { IfOk result (λ n. n ≡ length (token_lines tokens.now)) }
         ensures lines { MatchResult result
             (λ _. ReadsOn limit (texts self.old.own.keys) (seen_version version)
-            (map seen_line (map (symbols_of text.now (seen_version version) (texts self.old.own.keys))
+            (map seen_line
+            (map (symbols_of text.now (seen_version version) (texts self.old.own.keys))
             (body text.now false (token_lines tokens.now)))) self.old self.new)
             (λ e. HaveStop limit (texts self.old.own.keys) (seen_version version)
             (stage_of limit (texts self.old.own.keys) (seen_version version) self.old)
-            (map seen_line (map (symbols_of text.now (seen_version version) (texts self.old.own.keys))
+            (map seen_line
+            (map (symbols_of text.now (seen_version version) (texts self.old.own.keys))
             (body text.now false (token_lines tokens.now)))) e) }
     {
         let mut line = 0;
@@ -179,10 +181,11 @@ impl Reader {
     ) -> Result<(), Stop>
         requires between { IsBetween (texts self.old.own.keys) self.old }
         ensures line { MatchResult result
-            (λ _. ReadsOn limit (texts self.old.own.keys) (seen_version version) (seen_line symbols.now ∷ [])
-            self.old self.new)
+            (λ _. ReadsOn limit (texts self.old.own.keys) (seen_version version)
+            (seen_line symbols.now ∷ []) self.old self.new)
             (λ e. HasLineStop limit (texts self.old.own.keys) (seen_version version)
-            (stage_of limit (texts self.old.own.keys) (seen_version version) self.old) (seen_line symbols.now) e) }
+            (stage_of limit (texts self.old.own.keys) (seen_version version) self.old)
+            (seen_line symbols.now) e) }
     {
         if symbols.is_empty() {
             return Ok(());
@@ -203,10 +206,11 @@ impl Reader {
         requires between { IsBetween (texts self.old.own.keys) self.old }
         requires some { 0 < length symbols.now }
         ensures appended { MatchResult result
-            (λ _. IsAppended limit (texts self.old.own.keys) (seen_version version) (seen_line symbols.now)
-            self.old self.new)
+            (λ _. IsAppended limit (texts self.old.own.keys) (seen_version version)
+            (seen_line symbols.now) self.old self.new)
             (λ e. HasLineStop limit (texts self.old.own.keys) (seen_version version)
-            (stage_of limit (texts self.old.own.keys) (seen_version version) self.old) (seen_line symbols.now) e) }
+            (stage_of limit (texts self.old.own.keys) (seen_version version) self.old)
+            (seen_line symbols.now) e) }
     {
         let statement = statement_of(alloc, version, symbols)?;
         self.expand_line(alloc, limit, &statement)
@@ -233,8 +237,10 @@ impl Reader {
     fn expand_line(&mut self, alloc: Global, limit: u64, statement: &Indexed) -> Result<(), Stop>
         requires between { IsBetween (texts self.old.own.keys) self.old }
         ensures expanded { MatchResult result
-            (λ _. IsExpanded limit (texts self.old.own.keys) (seen_statement statement.now) self.old self.new)
-            (λ e. HasIndexStop limit (texts self.old.own.keys) (seen_statement statement.now) self.old e) }
+            (λ _. IsExpanded limit (texts self.old.own.keys)
+            (seen_statement statement.now) self.old self.new)
+            (λ e. HasIndexStop limit (texts self.old.own.keys)
+            (seen_statement statement.now) self.old e) }
     {
         let mut total = self.total;
         let fault = judge_indices(
@@ -321,7 +327,8 @@ fn judge_all(
 ) -> Result<Option<Fault>, rob_number::Memory>
     requires small { LeaveRoom scope.old.sizes statements.now }
     ensures fault { IfOk result
-        (λ found. found ≡ lowest_fault limit (earlier_of front.now) (earlier_of scope.old) statements.now) }
+        (λ found. found
+        ≡ lowest_fault limit (earlier_of front.now) (earlier_of scope.old) statements.now) }
     ensures noted { OnOk result (earlier_of scope.new
         ≡ behind_all (earlier_of scope.old) statements.now) }
 {

@@ -61,7 +61,8 @@ pub enum Symbol {
 /// The symbols behind the sign, if it is the first.
 pub fn behind_mark(symbols: &[Symbol], mark: Mark) -> Option<&[Symbol]>
     ensures read { MatchOption result
-        ((rest : List Symbol) → symbols.now ≡ Sign mark ∷ rest → ⊥) (λ rest. symbols.now ≡ Sign mark ∷ rest.now) }
+        ((rest : List Symbol) → symbols.now ≡ Sign mark ∷ rest → ⊥)
+        (λ rest. symbols.now ≡ Sign mark ∷ rest.now) }
 {
     match symbols {
         [Symbol::Sign(first), rest @ ..] if *first == mark => Some(rest),
@@ -96,7 +97,8 @@ pub fn front_digits(symbols: &[Symbol]) -> Option<(u64, &[Symbol])>
 /// The name that is the first symbol, and the symbols behind it.
 pub fn front_name(symbols: &[Symbol]) -> Option<(usize, &[Symbol])>
     ensures read { MatchOption result
-        ((name : ℕ) (rest : List Symbol) → symbols.now ≡ Name name ∷ rest → ⊥) (λ p. symbols.now ≡ Name p.0 ∷ p.1.now) }
+        ((name : ℕ) (rest : List Symbol) → symbols.now ≡ Name name ∷ rest → ⊥)
+        (λ p. symbols.now ≡ Name p.0 ∷ p.1.now) }
 {
     match symbols {
         [Symbol::Name(name), rest @ ..] => Some((*name, rest)),

@@ -64,7 +64,8 @@ pub fn symbols(
     tokens: &[Token],
 ) -> Result<Vec<Symbol>, Memory>
     ensures symbols { IfOk result
-        (λ v. v.items ≡ symbols_of text.now (seen_version version) (texts words.now.keys) tokens.now) }
+        (λ v. v.items ≡ symbols_of text.now (seen_version version)
+        (texts words.now.keys) tokens.now) }
 {
     let mut symbols = Vec::new(alloc);
     for token in tokens {

@@ -22,7 +22,8 @@ pub fn put_comparison<N: Exact>(
 ) -> Result<(), Memory>
     ensures written { OnOk result (page.new
         ≡ fold put page.old (comparison_words (naming_of (robust N.value model.now))
-        (written (written_count (robust N.value model.now)) (expression_of N.value left.now)) (relation_of rel)
+        (written (written_count (robust N.value model.now)) (expression_of N.value left.now))
+        (relation_of rel)
         (written (written_count (robust N.value model.now)) (expression_of N.value right.now)))) }
 {
     put_expression(page, model, left)?;
@@ -50,7 +51,8 @@ pub fn put_expression<N: Exact>(
 ) -> Result<(), Memory>
     ensures written { OnOk result (page.new ≡ fold put page.old
         (expression_words (naming_of (robust N.value model.now))
-        (written (written_count (robust N.value model.now)) (expression_of N.value expression.now)))) }
+        (written (written_count (robust N.value model.now))
+        (expression_of N.value expression.now)))) }
 {
     match expression {
         Expr::Number(number) => put_number(page, *number),
@@ -70,7 +72,8 @@ pub fn put_expression<N: Exact>(
 fn put_terms<N: Exact>(page: &mut Page, model: &Model<N>, terms: &[Term<N>]) -> Result<(), Memory>
     ensures written { OnOk result (page.new ≡ fold put page.old
         (term_words (naming_of (robust N.value model.now)) true
-        (terms_written (written_count (robust N.value model.now)) (terms_of (map (signed_of N.value) terms.now))))) }
+        (terms_written (written_count (robust N.value model.now))
+        (terms_of (map (signed_of N.value) terms.now))))) }
 {
     let mut first = true;
     for term in terms {
@@ -180,7 +183,8 @@ fn variable_name<N: Exact>(vars: &[Var<N>], k: u32) -> &[u8]
 /// The name of an adaptive variable.
 fn adaptive_name<N: Exact>(adaptives: &[Adaptive<N>], k: u32) -> &[u8]
     ensures name { result.now
-        ≡ get_or (map (λ (x : AdaptiveVariable). x.name) (map (adaptive_of N.value) adaptives.now)) k [] }
+        ≡ get_or (map (λ (x : AdaptiveVariable). x.name) (map (adaptive_of N.value) adaptives.now))
+        k [] }
 {
     if (k as usize) < adaptives.len() {
         adaptives[k as usize].name.bytes()

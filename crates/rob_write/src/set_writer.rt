@@ -18,7 +18,8 @@ use rob_syntax::{Keyword, Mark};
 /// Writes the parameters and the statements on the set.
 pub fn put_set<N: Exact>(page: &mut Page, model: &Model<N>) -> Result<(), Memory>
     ensures written { OnOk result (page.new ≡ fold put_line (fold put_line
-        (fold put_line page.old (map parameter_words (written_parameters (robust N.value model.now))))
+        (fold put_line page.old
+        (map parameter_words (written_parameters (robust N.value model.now))))
         (map declared_set_words model.now.sets))
         (lines_over (set_words (naming_of (robust N.value model.now))) model.now.sets
         (written_model (robust N.value model.now)).set_lines model.now.line_sets)) }
@@ -64,7 +65,8 @@ fn put_set_lines<N: Exact>(
 ) -> Result<(), Memory>
     ensures written { OnOk result (page.new ≡ fold put_line page.old
         (lines_over (set_words (naming_of (robust N.value model.now))) model.now.sets
-        (map (line_written (written_count (robust N.value model.now))) (map (set_line_of N.value) set_lines.now))
+        (map (line_written (written_count (robust N.value model.now)))
+        (map (set_line_of N.value) set_lines.now))
         of_lines.now)) }
 {
     for (i, set_line) in set_lines.iter().enumerate() {
@@ -83,7 +85,8 @@ fn put_set_line<N: Exact>(
 ) -> Result<(), Memory>
     ensures written { OnOk result (page.new
         ≡ fold put page.old (set_words (naming_of (robust N.value model.now))
-        (line_written (written_count (robust N.value model.now)) (set_line_of N.value set_line.now)))) }
+        (line_written (written_count (robust N.value model.now))
+        (set_line_of N.value set_line.now)))) }
 {
     match set_line {
         SetLine::Line { left, rel, right } => {
@@ -107,7 +110,8 @@ fn put_members<N: Exact>(
 ) -> Result<(), Memory>
     ensures written { OnOk result (page.new ≡ fold put page.old
         (listed (member_words (naming_of (robust N.value model.now))) true
-        (map (member_written (written_count (robust N.value model.now))) (map (member_of N.value) members.now)))) }
+        (map (member_written (written_count (robust N.value model.now)))
+        (map (member_of N.value) members.now)))) }
 {
     let mut first = true;
     for member in members {

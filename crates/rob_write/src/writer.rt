@@ -32,7 +32,8 @@ pub fn write_model<N: Exact>(alloc: Global, model: &Model<N>) -> Result<Text, Me
 fn put_decisions<N: Exact>(page: &mut Page, model: &Model<N>) -> Result<(), Memory>
     ensures written { OnOk result (page.new ≡ fold put_line (put_line (fold put_line
         (fold put_line page.old (map variable_words (map (variable_of N.value) model.now.vars)))
-        (map (adaptive_words (naming_of (robust N.value model.now))) (map (adaptive_of N.value) model.now.adaptives)))
+        (map (adaptive_words (naming_of (robust N.value model.now)))
+        (map (adaptive_of N.value) model.now.adaptives)))
         (goal_words (naming_of (robust N.value model.now)) (sense_of model.now.sense)
         (written_model (robust N.value model.now)).objective
         ++ over_words model.now.sets model.now.objective_set))
@@ -74,7 +75,8 @@ fn put_adaptives<N: Exact>(
     adaptives: &[Adaptive<N>],
 ) -> Result<(), Memory>
     ensures written { OnOk result (page.new ≡ fold put_line page.old
-        (map (adaptive_words (naming_of (robust N.value model.now))) (map (adaptive_of N.value) adaptives.now))) }
+        (map (adaptive_words (naming_of (robust N.value model.now)))
+        (map (adaptive_of N.value) adaptives.now))) }
 {
     for adaptive in adaptives {
         put_adaptive(page, model, adaptive)?;
@@ -89,7 +91,8 @@ fn put_adaptive<N: Exact>(
     adaptive: &Adaptive<N>,
 ) -> Result<(), Memory>
     ensures written { OnOk result (page.new ≡ put_line page.old
-        (adaptive_words (naming_of (robust N.value model.now)) (adaptive_of N.value adaptive.now))) }
+        (adaptive_words (naming_of (robust N.value model.now))
+        (adaptive_of N.value adaptive.now))) }
 {
     page.keyword(Keyword::Adaptive)?;
     page.name(adaptive.name.bytes())?;
@@ -103,7 +106,8 @@ fn put_adaptive<N: Exact>(
 /// Writes the names of some parameters.
 fn put_list<N: Exact>(page: &mut Page, model: &Model<N>, on: &[u32]) -> Result<(), Memory>
     ensures written { OnOk result (page.new ≡ fold put page.old
-        (listed (λ k. name_at (naming_of (robust N.value model.now)).parameters k ∷ []) true on.now)) }
+        (listed (λ k. name_at (naming_of (robust N.value model.now)).parameters k ∷ []) true
+        on.now)) }
 {
     let mut first = true;
     for k in on {
@@ -146,7 +150,8 @@ fn put_rows<N: Exact>(
 ) -> Result<(), Memory>
     ensures written { OnOk result (page.new ≡ fold put_line page.old
         (lines_over (row_words (naming_of (robust N.value model.now))) model.now.sets
-        (map (row_written (written_count (robust N.value model.now))) (map (row_of N.value) rows.now)) of_rows.now)) }
+        (map (row_written (written_count (robust N.value model.now)))
+        (map (row_of N.value) rows.now)) of_rows.now)) }
 {
     for (i, row) in rows.iter().enumerate() {
         put_row(page, model, row)?;

@@ -15,7 +15,8 @@ use crate::syntax::{Bounds, Interval};
 /// The bounds at the front, or none, and the symbols behind them.
 pub fn bounds(symbols: &[Symbol]) -> Option<(Option<Bounds>, &[Symbol])>
     ensures read { MatchOption result (IsMissing spell_bounds EndsBounds (seen_line symbols.now))
-        (λ p. Found spell_bounds EndsBounds (seen_line symbols.now) (seen_line p.1.now) (option_map seen_bounds p.0)) }
+        (λ p. Found spell_bounds EndsBounds (seen_line symbols.now) (seen_line p.1.now)
+        (option_map seen_bounds p.0)) }
 {
     if let Some(behind) = behind_mark(symbols, Mark::AtLeast) {
         let (lower, rest) = signed(behind)?;

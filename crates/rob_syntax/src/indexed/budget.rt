@@ -43,9 +43,10 @@ pub fn budget(alloc: Global, symbols: &[Symbol]) -> Result<Shares, ParseErr>
 /// The members at the front, of which there may be none, and the symbols behind them.
 fn members(alloc: Global, symbols: &[Symbol]) -> Result<(List<Ranged<Share>>, &[Symbol]), ParseErr>
     ensures read { MatchResult result
-        (λ p. Found (spell_list (spell_ranged spell_share)) (EndsList EndsShare) (seen_line symbols.now)
-        (seen_line p.1.now) (map (seen_ranged seen_share) p.0))
-        (λ e. HasCause (spell_list (spell_ranged spell_share)) (EndsList EndsShare) (seen_line symbols.now) e) }
+        (λ p. Found (spell_list (spell_ranged spell_share)) (EndsList EndsShare)
+        (seen_line symbols.now) (seen_line p.1.now) (map (seen_ranged seen_share) p.0))
+        (λ e. HasCause (spell_list (spell_ranged spell_share)) (EndsList EndsShare)
+        (seen_line symbols.now) e) }
 {
     let Some(_) = front_name(symbols) else {
         return Ok((List::new(alloc), symbols));
@@ -65,7 +66,8 @@ fn members_behind(
         (λ p. ReadsMore (spell_more (spell_ranged spell_share)) (EndsList EndsShare) (λ xs. xs)
         (seen_line symbols.now) (seen_line p.1.now) (seen_ranged seen_share first ∷ [])
         (map (seen_ranged seen_share) p.0))
-        (λ e. HasCause (spell_more (spell_ranged spell_share)) (EndsList EndsShare) (seen_line symbols.now) e) }
+        (λ e. HasCause (spell_more (spell_ranged spell_share)) (EndsList EndsShare)
+        (seen_line symbols.now) e) }
 {
     let mut list = List::new(alloc);
     list.push(first)?;
@@ -93,7 +95,8 @@ fn member(alloc: Global, symbols: &[Symbol]) -> Result<(Ranged<Share>, &[Symbol]
 /// The member at the front without its ranges, and the symbols behind it.
 fn share(alloc: Global, symbols: &[Symbol]) -> Result<(Share, &[Symbol]), ParseErr>
     ensures read { MatchResult result
-        (λ p. Found spell_share EndsNumber (seen_line symbols.now) (seen_line p.1.now) (seen_share p.0))
+        (λ p. Found spell_share EndsNumber (seen_line symbols.now) (seen_line p.1.now)
+        (seen_share p.0))
         (λ e. HasCause spell_share EndsNumber (seen_line symbols.now) e) }
 {
     let (name, rest) = reference(alloc, symbols)?;

@@ -23,7 +23,8 @@ use std::alloc::Global;
 #[cycle(indexed_expr)]
 pub fn expr<'a>(alloc: Global, symbols: &'a [Symbol]) -> Result<(Tree, &'a [Symbol]), ParseErr>
     ensures read { MatchResult result
-        (λ p. Reads spell_expr EndsExpr tree_expr (seen_line symbols.now) (seen_line p.1.now) (seen_tree p.0))
+        (λ p. Reads spell_expr EndsExpr tree_expr (seen_line symbols.now) (seen_line p.1.now)
+        (seen_tree p.0))
         (λ e. HasCause spell_expr EndsExpr (seen_line symbols.now) e) }
 {
     let (minus, rest) = front_minus(symbols);
@@ -69,7 +70,8 @@ fn parts<'a>(
 #[cycle(indexed_expr)]
 fn term<'a>(alloc: Global, symbols: &'a [Symbol]) -> Result<(Tree, &'a [Symbol]), ParseErr>
     ensures read { MatchResult result
-        (λ p. Reads spell_term EndsTerm tree_term (seen_line symbols.now) (seen_line p.1.now) (seen_tree p.0))
+        (λ p. Reads spell_term EndsTerm tree_term (seen_line symbols.now) (seen_line p.1.now)
+        (seen_tree p.0))
         (λ e. HasCause spell_term EndsTerm (seen_line symbols.now) e) }
 {
     let (first, rest) = factor(alloc, symbols)?;
@@ -88,8 +90,9 @@ fn factors<'a>(
     symbols: &'a [Symbol],
 ) -> Result<(List<Tree>, &'a [Symbol]), ParseErr>
     ensures read { MatchResult result
-        (λ p. ReadsMore spell_factors EndsTerm factor_trees (seen_line symbols.now) (seen_line p.1.now)
-        (seen_tree first ∷ []) (map seen_tree p.0) × BeginsNot (sign is.star) (seen_line p.1.now))
+        (λ p. ReadsMore spell_factors EndsTerm factor_trees (seen_line symbols.now)
+        (seen_line p.1.now) (seen_tree first ∷ []) (map seen_tree p.0)
+        × BeginsNot (sign is.star) (seen_line p.1.now))
         (λ e. HasCause spell_factors EndsTerm (seen_line symbols.now) e) }
 {
     let mut list = List::new(alloc);
@@ -107,7 +110,8 @@ fn factors<'a>(
 #[cycle(indexed_expr)]
 fn factor<'a>(alloc: Global, symbols: &'a [Symbol]) -> Result<(Tree, &'a [Symbol]), ParseErr>
     ensures read { MatchResult result
-        (λ p. Reads spell_factor EndsFactor tree_factor (seen_line symbols.now) (seen_line p.1.now) (seen_tree p.0))
+        (λ p. Reads spell_factor EndsFactor tree_factor (seen_line symbols.now) (seen_line p.1.now)
+        (seen_tree p.0))
         (λ e. HasCause spell_factor EndsFactor (seen_line symbols.now) e) }
 {
     if let Some((numeral, rest)) = number(symbols) {
@@ -129,7 +133,8 @@ fn factor<'a>(alloc: Global, symbols: &'a [Symbol]) -> Result<(Tree, &'a [Symbol
 #[cycle(indexed_expr)]
 fn closed<'a>(alloc: Global, symbols: &'a [Symbol]) -> Result<(Tree, &'a [Symbol]), ParseErr>
     ensures read { MatchResult result
-        (λ p. Reads spell_closed Ends tree_expr (seen_line symbols.now) (seen_line p.1.now) (seen_tree p.0))
+        (λ p. Reads spell_closed Ends tree_expr (seen_line symbols.now) (seen_line p.1.now)
+        (seen_tree p.0))
         (λ e. HasCause spell_closed Ends (seen_line symbols.now) e) }
 {
     let (inner, rest) = expr(alloc, symbols)?;
@@ -143,7 +148,8 @@ fn closed<'a>(alloc: Global, symbols: &'a [Symbol]) -> Result<(Tree, &'a [Symbol
 #[cycle(indexed_expr)]
 fn summed<'a>(alloc: Global, symbols: &'a [Symbol]) -> Result<(Tree, &'a [Symbol]), ParseErr>
     ensures read { MatchResult result
-        (λ p. Reads spell_summed Ends tree_summed (seen_line symbols.now) (seen_line p.1.now) (seen_tree p.0))
+        (λ p. Reads spell_summed Ends tree_summed (seen_line symbols.now) (seen_line p.1.now)
+        (seen_tree p.0))
         (λ e. HasCause spell_summed Ends (seen_line symbols.now) e) }
 {
     let Some(inside) = behind_mark(symbols, Mark::Open) else {

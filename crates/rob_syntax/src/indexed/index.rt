@@ -27,7 +27,8 @@ fn atom(symbols: &[Symbol]) -> Option<(Atom, &[Symbol])>
 /// The atoms that are added and subtracted at the front, and the symbols behind them.
 fn steps(alloc: Global, symbols: &[Symbol]) -> Result<(List<Step>, &[Symbol]), ParseErr>
     ensures read { MatchResult result
-        (λ p. Found spell_steps EndsIndex (seen_line symbols.now) (seen_line p.1.now) (map seen_step p.0))
+        (λ p. Found spell_steps EndsIndex (seen_line symbols.now) (seen_line p.1.now)
+        (map seen_step p.0))
         (λ e. HasCause spell_steps EndsIndex (seen_line symbols.now) e) }
 {
     let mut list = List::new(alloc);
@@ -45,7 +46,8 @@ fn steps(alloc: Global, symbols: &[Symbol]) -> Result<(List<Step>, &[Symbol]), P
 /// The index at the front, and the symbols behind it.
 pub fn index(alloc: Global, symbols: &[Symbol]) -> Result<(Index, &[Symbol]), ParseErr>
     ensures read { MatchResult result
-        (λ p. Found spell_index EndsIndex (seen_line symbols.now) (seen_line p.1.now) (seen_index p.0))
+        (λ p. Found spell_index EndsIndex (seen_line symbols.now) (seen_line p.1.now)
+        (seen_index p.0))
         (λ e. HasCause spell_index EndsIndex (seen_line symbols.now) e) }
 {
     let Some((first, rest)) = atom(symbols) else {
@@ -62,8 +64,8 @@ fn indices(
     symbols: &[Symbol],
 ) -> Result<(List<Index>, &[Symbol]), ParseErr>
     ensures read { MatchResult result
-        (λ p. ReadsMore (spell_more spell_index) (EndsList EndsIndex) (λ xs. xs) (seen_line symbols.now)
-        (seen_line p.1.now) (seen_index first ∷ []) (map seen_index p.0))
+        (λ p. ReadsMore (spell_more spell_index) (EndsList EndsIndex) (λ xs. xs)
+        (seen_line symbols.now) (seen_line p.1.now) (seen_index first ∷ []) (map seen_index p.0))
         (λ e. HasCause (spell_more spell_index) (EndsList EndsIndex) (seen_line symbols.now) e) }
 {
     let mut list = List::new(alloc);
@@ -93,7 +95,8 @@ pub fn reference(alloc: Global, symbols: &[Symbol]) -> Result<(Ref, &[Symbol]), 
 /// The indices in brackets at the front, or none, and the symbols behind them.
 fn brackets(alloc: Global, symbols: &[Symbol]) -> Result<(List<Index>, &[Symbol]), ParseErr>
     ensures read { MatchResult result
-        (λ p. Found spell_indices EndsRef (seen_line symbols.now) (seen_line p.1.now) (map seen_index p.0))
+        (λ p. Found spell_indices EndsRef (seen_line symbols.now) (seen_line p.1.now)
+        (map seen_index p.0))
         (λ e. HasCause spell_indices EndsRef (seen_line symbols.now) e) }
 {
     let Some(inside) = behind_mark(symbols, Mark::OpenBracket) else {

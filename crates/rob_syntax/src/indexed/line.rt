@@ -78,7 +78,8 @@ pub fn last_ranges(alloc: Global, symbols: &[Symbol]) -> Result<List<Range>, Par
 /// A name and ranges, as the rest of a line.
 pub fn named(alloc: Global, symbols: &[Symbol]) -> Result<Ranged<Ref>, ParseErr>
     ensures read { MatchResult result
-        (λ x. Found spell_named EndsLine (seen_line symbols.now) [] (seen_ref x.item, seen_ranges x.ranges))
+        (λ x. Found spell_named EndsLine (seen_line symbols.now) []
+        (seen_ref x.item, seen_ranges x.ranges))
         (λ e. HasCause spell_named EndsLine (seen_line symbols.now) e) }
 {
     let (item, rest) = reference(alloc, symbols)?;
@@ -89,7 +90,8 @@ pub fn named(alloc: Global, symbols: &[Symbol]) -> Result<Ranged<Ref>, ParseErr>
 /// Bounds and ranges, as the rest of a line.
 pub fn bounded(alloc: Global, symbols: &[Symbol]) -> Result<(Option<Bounds>, List<Range>), ParseErr>
     ensures read { MatchResult result
-        (λ p. Found spell_bounded EndsLine (seen_line symbols.now) [] (option_map seen_bounds p.0, seen_ranges p.1))
+        (λ p. Found spell_bounded EndsLine (seen_line symbols.now) []
+        (option_map seen_bounds p.0, seen_ranges p.1))
         (λ e. HasCause spell_bounded EndsLine (seen_line symbols.now) e) }
 {
     let Some((bounds, rest)) = bounds(symbols) else {
@@ -133,7 +135,8 @@ pub fn ending(
 /// Two expressions with a relation between them at the front, and the set that it is over; and the symbols behind them.
 fn sides(alloc: Global, symbols: &[Symbol]) -> Result<(Sides, &[Symbol]), ParseErr>
     ensures read { MatchResult result
-        (λ p. Reads spell_sides EndsSides trees_of (seen_line symbols.now) (seen_line p.1.now) (seen_sides p.0))
+        (λ p. Reads spell_sides EndsSides trees_of (seen_line symbols.now) (seen_line p.1.now)
+        (seen_sides p.0))
         (λ e. HasCause spell_sides EndsSides (seen_line symbols.now) e) }
 {
     let (left, rest) = expr(alloc, symbols)?;

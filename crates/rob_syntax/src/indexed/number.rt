@@ -14,7 +14,8 @@ use crate::syntax::{Numeral, Signed};
 /// The number at the front, and the symbols behind it.
 pub fn number(symbols: &[Symbol]) -> Option<(Numeral, &[Symbol])>
     ensures read { MatchOption result (IsMissing spell_number EndsNumber (seen_line symbols.now))
-        (λ p. Found spell_number EndsNumber (seen_line symbols.now) (seen_line p.1.now) (seen_numeral p.0)) }
+        (λ p. Found spell_number EndsNumber (seen_line symbols.now) (seen_line p.1.now)
+        (seen_numeral p.0)) }
 {
     let (numerator, rest) = front_digits(symbols)?;
     let (divisor, rest) = divisor(rest)?;
@@ -47,7 +48,8 @@ pub fn front_minus(symbols: &[Symbol]) -> (bool, &[Symbol])
 /// The number with its sign at the front, and the symbols behind it.
 pub fn signed(symbols: &[Symbol]) -> Option<(Signed, &[Symbol])>
     ensures read { MatchOption result (IsMissing spell_signed EndsNumber (seen_line symbols.now))
-        (λ p. Found spell_signed EndsNumber (seen_line symbols.now) (seen_line p.1.now) (seen_signed p.0)) }
+        (λ p. Found spell_signed EndsNumber (seen_line symbols.now) (seen_line p.1.now)
+        (seen_signed p.0)) }
 {
     let (minus, rest) = front_minus(symbols);
     let (number, rest) = number(rest)?;

@@ -23,7 +23,10 @@ pub fn policy(alloc: Global, symbols: &[Symbol]) -> Result<Rule, ParseErr>
     ensures read { MatchResult result
         (λ p. Found spell_adaptive EndsLine (seen_line symbols.now) [] (
           seen_ref p.name,
-          (map (seen_ranged seen_ref) p.on, (option_map seen_bounds p.bounds, seen_ranges p.ranges)),
+          (
+            map (seen_ranged seen_ref) p.on,
+            (option_map seen_bounds p.bounds, seen_ranges p.ranges),
+          ),
         ))
         (λ e. HasCause spell_adaptive EndsLine (seen_line symbols.now) e) }
 {
@@ -47,9 +50,10 @@ pub fn policy(alloc: Global, symbols: &[Symbol]) -> Result<Rule, ParseErr>
 /// The entries at the front, of which there may be none, and the symbols behind them.
 fn entries(alloc: Global, symbols: &[Symbol]) -> Result<(List<Ranged<Ref>>, &[Symbol]), ParseErr>
     ensures read { MatchResult result
-        (λ p. Found (spell_list (spell_ranged spell_ref)) (EndsList EndsEntry) (seen_line symbols.now)
-        (seen_line p.1.now) (map (seen_ranged seen_ref) p.0))
-        (λ e. HasCause (spell_list (spell_ranged spell_ref)) (EndsList EndsEntry) (seen_line symbols.now) e) }
+        (λ p. Found (spell_list (spell_ranged spell_ref)) (EndsList EndsEntry)
+        (seen_line symbols.now) (seen_line p.1.now) (map (seen_ranged seen_ref) p.0))
+        (λ e. HasCause (spell_list (spell_ranged spell_ref)) (EndsList EndsEntry)
+        (seen_line symbols.now) e) }
 {
     let Some(_) = front_name(symbols) else {
         return Ok((List::new(alloc), symbols));
@@ -69,7 +73,8 @@ fn entries_behind(
         (λ p. ReadsMore (spell_more (spell_ranged spell_ref)) (EndsList EndsEntry) (λ xs. xs)
         (seen_line symbols.now) (seen_line p.1.now) (seen_ranged seen_ref first ∷ [])
         (map (seen_ranged seen_ref) p.0))
-        (λ e. HasCause (spell_more (spell_ranged spell_ref)) (EndsList EndsEntry) (seen_line symbols.now) e) }
+        (λ e. HasCause (spell_more (spell_ranged spell_ref)) (EndsList EndsEntry)
+        (seen_line symbols.now) e) }
 {
     let mut list = List::new(alloc);
     list.push(first)?;

@@ -16,7 +16,8 @@ use std::alloc::Global;
 /// The range at the front, and the symbols behind it.
 pub fn range(alloc: Global, symbols: &[Symbol]) -> Result<(Range, &[Symbol]), ParseErr>
     ensures read { MatchResult result
-        (λ p. Found spell_range EndsIndex (seen_line symbols.now) (seen_line p.1.now) (seen_range p.0))
+        (λ p. Found spell_range EndsIndex (seen_line symbols.now) (seen_line p.1.now)
+        (seen_range p.0))
         (λ e. HasCause spell_range EndsIndex (seen_line symbols.now) e) }
 {
     let Some((name, rest)) = front_name(symbols) else {
@@ -71,7 +72,8 @@ fn ranges_behind(
 /// The ranges behind `for` at the front, or none, and the symbols behind them.
 pub fn ranges(alloc: Global, symbols: &[Symbol]) -> Result<(List<Range>, &[Symbol]), ParseErr>
     ensures read { MatchResult result
-        (λ p. Found spell_ranges EndsRanges (seen_line symbols.now) (seen_line p.1.now) (seen_ranges p.0))
+        (λ p. Found spell_ranges EndsRanges (seen_line symbols.now) (seen_line p.1.now)
+        (seen_ranges p.0))
         (λ e. HasCause spell_ranges EndsRanges (seen_line symbols.now) e) }
 {
     let Some(rest) = behind_word(symbols, Keyword::For) else {

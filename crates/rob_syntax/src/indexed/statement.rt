@@ -42,7 +42,8 @@ pub fn read_statement(alloc: Global, symbols: &[Symbol]) -> Result<Indexed, Pars
 /// The line that the symbols are, with any number of ranges beside each other, and of members.
 fn read_line(alloc: Global, symbols: &[Symbol]) -> Result<Indexed, ParseErr>
     ensures read { MatchResult result
-        (λ s. ReadsLine (seen_line symbols.now) (seen_statement s)) (λ e. HasLineCause (seen_line symbols.now) e) }
+        (λ s. ReadsLine (seen_line symbols.now) (seen_statement s))
+        (λ e. HasLineCause (seen_line symbols.now) e) }
 {
     let Some((keyword, rest)) = front_word(symbols) else {
         return Err(ParseErr::NotAStatement);
