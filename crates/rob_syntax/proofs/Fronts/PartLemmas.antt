@@ -1,7 +1,7 @@
 -- One symbol; a part and one behind it; a part seen as another.
 use Rattle.std.proofs.Common.{◌≡◌, ◌<◌, ◌≤◌, List, [], ◌∷◌, ◌++◌, length, sym, ap, ◌∙◌, subst, arith, map, append_assoc, length-append}
 use Rattle.std.proofs.lemmas.List.{map-append}
-use Rattle.std.specs.Prelude.{Result, MatchResult, Err}
+use Rattle.std.specs.Prelude.{Result, MatchResult, Ok, Err, IsErrAnd}
 use Rattle.rob_index.specs.Symbols.{Symbol}
 use Rattle.rob_syntax.specs.declared.error.ParseErr.{ParseErr}
 use Rattle.rob_syntax.specs.declared.error.ParseErr.TheVariants.{NotAStatement, Memory}
@@ -173,18 +173,27 @@ pub first_pushed : {A B : Type 0} (seen : A → B) {old new : List A} (x : A) �
 first_pushed {A} seen {old} {new} x empty is = ap (map seen) (is ∙ ap (λ (l : List A). l ++ x ∷ []) empty)
 
 -- ---- refusals handed up
+-- at the exit of a `?`
+pub refused_with : {V : Type 0} (r : Result V ParseErr) (P : V → Type 0) (Q : ParseErr → Type 0) (e : ParseErr)
+    → IsErrAnd r (λ f. f ≡ e) → Q e → MatchResult r P Q
+refused_with (Ok v) P Q e is cause = absurd is
+refused_with (Err f) P Q e is cause = subst Q (sym is) cause
+
 -- a refusal of a part is one of the whole
-pub cause_up : {A B : Type 0} {spell : A → List Symbol} {EndsItem : List Symbol → Type 0} {symbols : List Symbol}
+cause_up : {A B : Type 0} {spell : A → List Symbol} {EndsItem : List Symbol → Type 0} {symbols : List Symbol}
     {spell' : B → List Symbol} {EndsItem' : List Symbol → Type 0} {symbols' : List Symbol}
     → (IsMissing spell EndsItem symbols → IsMissing spell' EndsItem' symbols') → (e : ParseErr)
     → HasCause spell EndsItem symbols e → HasCause spell' EndsItem' symbols' e
 cause_up up NotAStatement cause = up cause
 cause_up up Memory cause = tt
 
--- at the exit of a `?`
-pub refused_with : {V : Type 0} (r : Result V ParseErr) (P : V → Type 0) (Q : ParseErr → Type 0) (e f : ParseErr)
-    → r ≡ Err f → f ≡ e → Q e → MatchResult r P Q
-refused_with r P Q e f is same cause = rw is (subst Q (sym same) cause)
+pub refused_up : {A B V : Type 0} {spell : A → List Symbol} {EndsItem : List Symbol → Type 0} {symbols : List Symbol}
+    {spell' : B → List Symbol} {EndsItem' : List Symbol → Type 0} {symbols' : List Symbol} (r : Result V ParseErr)
+    (P : V → Type 0) (e : ParseErr) → IsErrAnd r (λ f. f ≡ e)
+    → (IsMissing spell EndsItem symbols → IsMissing spell' EndsItem' symbols') → HasCause spell EndsItem symbols e
+    → MatchResult r P (λ f. HasCause spell' EndsItem' symbols' f)
+refused_up {spell'} {EndsItem'} {symbols'} r P e is up cause =
+    refused_with r P (λ (f : ParseErr). HasCause spell' EndsItem' symbols' f) e is (cause_up up e cause)
 
 -- behind a symbol and a part
 pub led_shorter : {A : Type 0} {spell : A → List Symbol} {EndsItem : List Symbol → Type 0}

@@ -1,5 +1,6 @@
 -- Lines from their keyword and what stands behind it.
 use Rattle.std.proofs.Common.{◌≡◌, true, false, List, [], ◌∷◌, Option, refl, sym, ap, ◌∙◌, subst, append-nil}
+use Rattle.std.specs.Prelude.{Result, MatchResult, IsErrAnd}
 use Rattle.rob_index.specs.Symbols.{Symbol, word}
 use Rattle.rob_index.specs.Symbols as is
 use Rattle.rob_index.specs.Statements.{Numeral, Bounds, Sense, minimise, maximise, Ref, Range, Ranged, Share, Sides, Indexed, Tree, uncertain, over, set, budget, variable, adaptive, goal, row}
@@ -11,8 +12,10 @@ use Rattle.rob_syntax.specs.Parts.{spell_named, spell_declared, spell_related, t
 use Rattle.rob_syntax.specs.Whole.{ReadsLine, IsNoLine, HasLineCause, IsNoStatement, HasStatementCause}
 use Rattle.rob_syntax.specs.Seen.{seen_keyword}
 use Rattle.rob_syntax.specs.declared.symbol.Keyword.{Keyword}
+use Rattle.rob_syntax.specs.declared.symbol.Keyword.TheVariants as keyword
 use Rattle.rob_syntax.specs.declared.error.ParseErr.{ParseErr}
 use Rattle.rob_syntax.specs.declared.error.ParseErr.TheVariants.{NotAStatement, Memory}
+use Rattle.rob_syntax.proofs.Fronts.PartLemmas.{refused_with}
 
 -- ---- what a line with a keyword is
 -- some parts stand behind the keyword, and the line is made of them
@@ -114,109 +117,128 @@ module _ {P : Type 0} {spell : P → List Symbol} {symbols behind : List Symbol}
       let m = made other (sym first ∙ same) in
       missing.none m.parts [] (m.spelled ∙ sym (append-nil (spell m.parts))) refl
 
-module _ {symbols behind : List Symbol} where
-  pub is_uncertain : {p : Ref × (Option Bounds × List Range)} → symbols ≡ word is.uncertain ∷ behind
+module _ {symbols behind : List Symbol} {w : Keyword} (first : symbols ≡ word (seen_keyword w) ∷ behind) where
+  -- the keyword in front
+  keyword_first : {k : Keyword} → w ≡ k → symbols ≡ word (seen_keyword k) ∷ behind
+  keyword_first word_is = first ∙ ap (λ (v : Keyword). word (seen_keyword v) ∷ behind) word_is
+
+  pub is_uncertain : {p : Ref × (Option Bounds × List Range)} → w ≡ keyword.Uncertain
       → Found spell_declared EndsLine behind [] p → ReadsLine symbols (uncertain p.0 p.1.0 p.1.1)
-  is_uncertain first found =
-      line_read is.uncertain make_uncertain first (λ p. refl) (λ l. made_of is.uncertain behind l) found refl
+  is_uncertain word_is found =
+      line_read is.uncertain make_uncertain (keyword_first word_is) (λ p. refl) (λ l. made_of is.uncertain behind l)
+      found refl
 
-  pub no_uncertain : symbols ≡ word is.uncertain ∷ behind → IsMissing spell_declared EndsLine behind
+  pub no_uncertain : w ≡ keyword.Uncertain → IsMissing spell_declared EndsLine behind
       → IsNoLine symbols
-  no_uncertain first missing =
-      no_line is.uncertain make_uncertain first (λ p. refl) (λ l. made_of is.uncertain behind l) missing
+  no_uncertain word_is missing =
+      no_line is.uncertain make_uncertain (keyword_first word_is) (λ p. refl) (λ l. made_of is.uncertain behind l)
+      missing
 
-  pub is_variable : {p : Ref × (Option Bounds × List Range)} → symbols ≡ word is.var ∷ behind
+  pub is_variable : {p : Ref × (Option Bounds × List Range)} → w ≡ keyword.Var
       → Found spell_declared EndsLine behind [] p → ReadsLine symbols (variable p.0 p.1.0 p.1.1)
-  is_variable first found = line_read is.var make_variable first (λ p. refl) (λ l. made_of is.var behind l) found refl
+  is_variable word_is found =
+      line_read is.var make_variable (keyword_first word_is) (λ p. refl) (λ l. made_of is.var behind l) found refl
 
-  pub no_variable : symbols ≡ word is.var ∷ behind → IsMissing spell_declared EndsLine behind → IsNoLine symbols
-  no_variable first missing = no_line is.var make_variable first (λ p. refl) (λ l. made_of is.var behind l) missing
+  pub no_variable : w ≡ keyword.Var → IsMissing spell_declared EndsLine behind → IsNoLine symbols
+  no_variable word_is missing =
+      no_line is.var make_variable (keyword_first word_is) (λ p. refl) (λ l. made_of is.var behind l) missing
 
-  pub is_over : {p : Ref × List Range} → symbols ≡ word is.over ∷ behind → Found spell_named EndsLine behind [] p
+  pub is_over : {p : Ref × List Range} → w ≡ keyword.Over → Found spell_named EndsLine behind [] p
       → ReadsLine symbols (over p.0 p.1)
-  is_over first found = line_read is.over make_over first (λ p. refl) (λ l. made_of is.over behind l) found refl
+  is_over word_is found =
+      line_read is.over make_over (keyword_first word_is) (λ p. refl) (λ l. made_of is.over behind l) found refl
 
-  pub no_over : symbols ≡ word is.over ∷ behind → IsMissing spell_named EndsLine behind → IsNoLine symbols
-  no_over first missing = no_line is.over make_over first (λ p. refl) (λ l. made_of is.over behind l) missing
+  pub no_over : w ≡ keyword.Over → IsMissing spell_named EndsLine behind → IsNoLine symbols
+  no_over word_is missing =
+      no_line is.over make_over (keyword_first word_is) (λ p. refl) (λ l. made_of is.over behind l) missing
 
-  pub is_set : {s : Sides Tree} {rs : List Range} → symbols ≡ word is.set ∷ behind
+  pub is_set : {s : Sides Tree} {rs : List Range} → w ≡ keyword.Set
       → Reads spell_related EndsLine tree_related behind [] (s, rs) → ReadsLine symbols (set s rs)
-  is_set first read =
-      line_read is.set make_set first (λ p. refl) (λ l. made_of is.set behind l) read.found
+  is_set word_is read =
+      line_read is.set make_set (keyword_first word_is) (λ p. refl) (λ l. made_of is.set behind l) read.found
       (ap (λ (p : Sides Tree × List Range). set p.0 p.1) read.value_is)
 
-  pub no_set : symbols ≡ word is.set ∷ behind → IsMissing spell_related EndsLine behind → IsNoLine symbols
-  no_set first missing = no_line is.set make_set first (λ p. refl) (λ l. made_of is.set behind l) missing
+  pub no_set : w ≡ keyword.Set → IsMissing spell_related EndsLine behind → IsNoLine symbols
+  no_set word_is missing =
+      no_line is.set make_set (keyword_first word_is) (λ p. refl) (λ l. made_of is.set behind l) missing
 
-  pub is_budget : {p : Numeral × (List (Ranged Share) × Option Ref)} → symbols ≡ word is.budget ∷ behind
+  pub is_budget : {p : Numeral × (List (Ranged Share) × Option Ref)} → w ≡ keyword.Budget
       → Found spell_budget EndsLine behind [] p → ReadsLine symbols (budget p.0 p.1.0 p.1.1)
-  is_budget first found = line_read is.budget make_budget first (λ p. refl) (λ l. made_of is.budget behind l) found refl
+  is_budget word_is found =
+      line_read is.budget make_budget (keyword_first word_is) (λ p. refl) (λ l. made_of is.budget behind l) found refl
 
-  pub no_budget : symbols ≡ word is.budget ∷ behind → IsMissing spell_budget EndsLine behind → IsNoLine symbols
-  no_budget first missing = no_line is.budget make_budget first (λ p. refl) (λ l. made_of is.budget behind l) missing
+  pub no_budget : w ≡ keyword.Budget → IsMissing spell_budget EndsLine behind → IsNoLine symbols
+  no_budget word_is missing =
+      no_line is.budget make_budget (keyword_first word_is) (λ p. refl) (λ l. made_of is.budget behind l) missing
 
-  pub is_adaptive : {p : Ref × (List (Ranged Ref) × (Option Bounds × List Range))} → symbols ≡ word is.adaptive ∷ behind
+  pub is_adaptive : {p : Ref × (List (Ranged Ref) × (Option Bounds × List Range))} → w ≡ keyword.Adaptive
       → Found spell_adaptive EndsLine behind [] p → ReadsLine symbols (adaptive p.0 p.1.0 p.1.1.0 p.1.1.1)
-  is_adaptive first found =
-      line_read is.adaptive make_adaptive first (λ p. refl) (λ l. made_of is.adaptive behind l) found refl
+  is_adaptive word_is found =
+      line_read is.adaptive make_adaptive (keyword_first word_is) (λ p. refl) (λ l. made_of is.adaptive behind l) found
+      refl
 
-  pub no_adaptive : symbols ≡ word is.adaptive ∷ behind → IsMissing spell_adaptive EndsLine behind → IsNoLine symbols
-  no_adaptive first missing =
-      no_line is.adaptive make_adaptive first (λ p. refl) (λ l. made_of is.adaptive behind l) missing
+  pub no_adaptive : w ≡ keyword.Adaptive → IsMissing spell_adaptive EndsLine behind → IsNoLine symbols
+  no_adaptive word_is missing =
+      no_line is.adaptive make_adaptive (keyword_first word_is) (λ p. refl) (λ l. made_of is.adaptive behind l) missing
 
-  pub is_minimise : {t : Tree} {o : Option Ref} {rs : List Range} → symbols ≡ word is.minimise ∷ behind
+  pub is_minimise : {t : Tree} {o : Option Ref} {rs : List Range} → w ≡ keyword.Minimise
       → Reads spell_goal EndsLine tree_goal behind [] (t, (o, rs)) → ReadsLine symbols (goal minimise t o rs)
-  is_minimise first read =
-      line_read is.minimise (make_goal minimise) first (λ p. refl) (λ l. made_of is.minimise behind l) read.found
+  is_minimise word_is read =
+      line_read is.minimise (make_goal minimise) (keyword_first word_is) (λ p. refl) (λ l. made_of is.minimise behind l)
+      read.found
       (ap (λ (p : Tree × (Option Ref × List Range)). goal minimise p.0 p.1.0 p.1.1) read.value_is)
 
-  pub no_minimise : symbols ≡ word is.minimise ∷ behind → IsMissing spell_goal EndsLine behind → IsNoLine symbols
-  no_minimise first missing =
-      no_line is.minimise (make_goal minimise) first (λ p. refl) (λ l. made_of is.minimise behind l) missing
+  pub no_minimise : w ≡ keyword.Minimise → IsMissing spell_goal EndsLine behind → IsNoLine symbols
+  no_minimise word_is missing =
+      no_line is.minimise (make_goal minimise) (keyword_first word_is) (λ p. refl) (λ l. made_of is.minimise behind l)
+      missing
 
-  pub is_maximise : {t : Tree} {o : Option Ref} {rs : List Range} → symbols ≡ word is.maximise ∷ behind
+  pub is_maximise : {t : Tree} {o : Option Ref} {rs : List Range} → w ≡ keyword.Maximise
       → Reads spell_goal EndsLine tree_goal behind [] (t, (o, rs)) → ReadsLine symbols (goal maximise t o rs)
-  is_maximise first read =
-      line_read is.maximise (make_goal maximise) first (λ p. refl) (λ l. made_of is.maximise behind l) read.found
+  is_maximise word_is read =
+      line_read is.maximise (make_goal maximise) (keyword_first word_is) (λ p. refl) (λ l. made_of is.maximise behind l)
+      read.found
       (ap (λ (p : Tree × (Option Ref × List Range)). goal maximise p.0 p.1.0 p.1.1) read.value_is)
 
-  pub no_maximise : symbols ≡ word is.maximise ∷ behind → IsMissing spell_goal EndsLine behind → IsNoLine symbols
-  no_maximise first missing =
-      no_line is.maximise (make_goal maximise) first (λ p. refl) (λ l. made_of is.maximise behind l) missing
+  pub no_maximise : w ≡ keyword.Maximise → IsMissing spell_goal EndsLine behind → IsNoLine symbols
+  no_maximise word_is missing =
+      no_line is.maximise (make_goal maximise) (keyword_first word_is) (λ p. refl) (λ l. made_of is.maximise behind l)
+      missing
 
-  pub is_row : {r : Ref} {s : Sides Tree} {rs : List Range} → symbols ≡ word is.row ∷ behind
+  pub is_row : {r : Ref} {s : Sides Tree} {rs : List Range} → w ≡ keyword.Row
       → Reads spell_row EndsLine tree_row behind [] (r, (s, rs)) → ReadsLine symbols (row r s rs)
-  is_row first read =
-      line_read is.row make_row first (λ p. refl) (λ l. made_of is.row behind l) read.found
+  is_row word_is read =
+      line_read is.row make_row (keyword_first word_is) (λ p. refl) (λ l. made_of is.row behind l) read.found
       (ap (λ (p : Ref × (Sides Tree × List Range)). row p.0 p.1.0 p.1.1) read.value_is)
 
-  pub no_row : symbols ≡ word is.row ∷ behind → IsMissing spell_row EndsLine behind → IsNoLine symbols
-  no_row first missing = no_line is.row make_row first (λ p. refl) (λ l. made_of is.row behind l) missing
+  pub no_row : w ≡ keyword.Row → IsMissing spell_row EndsLine behind → IsNoLine symbols
+  no_row word_is missing =
+      no_line is.row make_row (keyword_first word_is) (λ p. refl) (λ l. made_of is.row behind l) missing
 
   -- other keywords begin no line
-  pub no_at : symbols ≡ word is.at ∷ behind → IsNoLine symbols
-  no_at first other same = made_of is.at behind other (sym first ∙ same)
+  pub no_at : w ≡ keyword.At → IsNoLine symbols
+  no_at word_is other same = made_of is.at behind other (sym (keyword_first word_is) ∙ same)
 
-  pub no_by : symbols ≡ word is.by ∷ behind → IsNoLine symbols
-  no_by first other same = made_of is.by behind other (sym first ∙ same)
+  pub no_by : w ≡ keyword.By → IsNoLine symbols
+  no_by word_is other same = made_of is.by behind other (sym (keyword_first word_is) ∙ same)
 
-  pub no_within : symbols ≡ word is.within ∷ behind → IsNoLine symbols
-  no_within first other same = made_of is.within behind other (sym first ∙ same)
+  pub no_within : w ≡ keyword.In → IsNoLine symbols
+  no_within word_is other same = made_of is.within behind other (sym (keyword_first word_is) ∙ same)
 
-  pub no_sum : symbols ≡ word is.sum ∷ behind → IsNoLine symbols
-  no_sum first other same = made_of is.sum behind other (sym first ∙ same)
+  pub no_sum : w ≡ keyword.Sum → IsNoLine symbols
+  no_sum word_is other same = made_of is.sum behind other (sym (keyword_first word_is) ∙ same)
 
-  pub no_for : symbols ≡ word is.for ∷ behind → IsNoLine symbols
-  no_for first other same = made_of is.for behind other (sym first ∙ same)
+  pub no_for : w ≡ keyword.For → IsNoLine symbols
+  no_for word_is other same = made_of is.for behind other (sym (keyword_first word_is) ∙ same)
 
-  pub no_to : symbols ≡ word is.to ∷ behind → IsNoLine symbols
-  no_to first other same = made_of is.to behind other (sym first ∙ same)
+  pub no_to : w ≡ keyword.To → IsNoLine symbols
+  no_to word_is other same = made_of is.to behind other (sym (keyword_first word_is) ∙ same)
 
-  pub no_model : symbols ≡ word is.model ∷ behind → IsNoLine symbols
-  no_model first other same = made_of is.model behind other (sym first ∙ same)
+  pub no_model : w ≡ keyword.Model → IsNoLine symbols
+  no_model word_is other same = made_of is.model behind other (sym (keyword_first word_is) ∙ same)
 
-  pub no_unused : symbols ≡ word is.unused ∷ behind → IsNoLine symbols
-  no_unused first other same = made_of is.unused behind other (sym first ∙ same)
+  pub no_unused : w ≡ keyword.Unused → IsNoLine symbols
+  no_unused word_is other same = made_of is.unused behind other (sym (keyword_first word_is) ∙ same)
 
 -- a goal's sense
 pub is_goal_of : {symbols : List Symbol} {s t : Sense} {tree : Tree} {o : Option Ref} {rs : List Range} → s ≡ t
@@ -224,17 +246,19 @@ pub is_goal_of : {symbols : List Symbol} {s t : Sense} {tree : Tree} {o : Option
 is_goal_of {symbols} {s} {t} {tree} {o} {rs} same read =
     subst (λ (v : Sense). ReadsLine symbols (goal v tree o rs)) (sym same) read
 
--- the keyword in front
-pub keyword_first : {symbols rest : List Symbol} {w k : Keyword} → symbols ≡ word (seen_keyword w) ∷ rest → w ≡ k
-    → symbols ≡ word (seen_keyword k) ∷ rest
-keyword_first {symbols} {rest} first is = first ∙ ap (λ (v : Keyword). word (seen_keyword v) ∷ rest) is
-
 -- a refusal of what is behind the keyword is one of the line
-pub line_cause : {A : Type 0} {spell : A → List Symbol} {EndsItem : List Symbol → Type 0} {behind symbols : List Symbol}
+line_cause : {A : Type 0} {spell : A → List Symbol} {EndsItem : List Symbol → Type 0} {behind symbols : List Symbol}
     → (IsMissing spell EndsItem behind → IsNoLine symbols) → (e : ParseErr) → HasCause spell EndsItem behind e
     → HasLineCause symbols e
 line_cause up NotAStatement cause = up cause
 line_cause up Memory cause = tt
+
+pub line_refused : {A V : Type 0} {spell : A → List Symbol} {EndsItem : List Symbol → Type 0}
+    {behind symbols : List Symbol} (r : Result V ParseErr) (P : V → Type 0) (e : ParseErr) → IsErrAnd r (λ f. f ≡ e)
+    → (IsMissing spell EndsItem behind → IsNoLine symbols) → HasCause spell EndsItem behind e
+    → MatchResult r P (λ f. HasLineCause symbols f)
+line_refused {symbols} r P e is up cause =
+    refused_with r P (λ (f : ParseErr). HasLineCause symbols f) e is (line_cause up e cause)
 
 -- each line begins with a keyword
 pub no_keyword : {symbols : List Symbol}

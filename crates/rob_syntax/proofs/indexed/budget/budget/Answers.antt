@@ -1,5 +1,4 @@
-use Rattle.std.proofs.lemmas.Result.{err_from_is_err_and}
-use Rattle.rob_syntax.proofs.Fronts.PartLemmas.{cause_up, refused_with}
+use Rattle.rob_syntax.proofs.Fronts.PartLemmas.{refused_up}
 use Rattle.rob_syntax.proofs.Fronts.KindLemmas.{no_limit, no_limit_colon, no_members, no_budget_over, budget_found}
 use Rattle.rob_syntax.proofs.indexed.budget.budget.Goals as goal
 
@@ -11,25 +10,19 @@ returns-in_default-behind_mark c =
     record { read = no_limit_colon c.in-Some.ensures.read c.in_default-behind_mark.ensures.read }
 
 pub returns-in_err-members : goal.returns-in_err-members
-returns-in_err-members c =
-    record {
-      read =
-          let p = err_from_is_err_and c.from_residual.result c.from_residual.ensures.1 in
-          refused_with c.from_residual.result _ _ c.in_err-members.field-0.0 p.0 p.1 p.2
-          (cause_up (λ missing. no_members c.in-Some.ensures.read c.in-Some-behind_mark.ensures.read missing)
-          c.in_err-members.field-0.0 c.in_err-members.ensures.read);
-    }
+returns-in_err-members c = record {
+  read =
+      refused_up _ _ _ c.from_residual.ensures.1
+      (λ missing. no_members c.in-Some.ensures.read c.in-Some-behind_mark.ensures.read missing)
+      c.in_err-members.ensures.read;
+}
 
 pub returns-in_err-over : goal.returns-in_err-over
-returns-in_err-over c =
-    record {
-      read =
-          let p = err_from_is_err_and c.from_residual-in_err-over.result c.from_residual-in_err-over.ensures.1 in
-          refused_with c.from_residual-in_err-over.result _ _ c.in_err-over.field-0.0 p.0 p.1 p.2
-          (cause_up (λ missing. no_budget_over c.in-Some.ensures.read c.in-Some-behind_mark.ensures.read
-          c.in_ok-members.ensures.read missing)
-          c.in_err-over.field-0.0 c.in_err-over.ensures.read);
-    }
+returns-in_err-over c = record {
+  read =
+      refused_up _ _ _ c.from_residual-in_err-over.ensures.1 (λ missing. no_budget_over c.in-Some.ensures.read
+      c.in-Some-behind_mark.ensures.read c.in_ok-members.ensures.read missing) c.in_err-over.ensures.read;
+}
 
 pub returns : goal.returns
 returns c =

@@ -1,17 +1,12 @@
-use Rattle.std.proofs.lemmas.Result.{err_from_is_err_and}
-use Rattle.rob_syntax.proofs.Fronts.PartLemmas.{cause_up, refused_with}
+use Rattle.rob_syntax.proofs.Fronts.PartLemmas.{refused_up}
 use Rattle.rob_syntax.proofs.Fronts.ListLemmas.{no_share_name, no_at, no_centre, no_by, no_deviation, share_found}
 use Rattle.rob_syntax.proofs.indexed.budget.share.Goals as goal
 
 pub returns-in_err-name : goal.returns-in_err-name
-returns-in_err-name c =
-    record {
-      read =
-          let p = err_from_is_err_and c.from_residual.result c.from_residual.ensures.1 in
-          refused_with c.from_residual.result _ _ c.in_err-name.field-0.0 p.0 p.1 p.2
-          (cause_up (λ missing. no_share_name missing)
-          c.in_err-name.field-0.0 c.in_err-name.ensures.read);
-    }
+returns-in_err-name c = record {
+  read =
+      refused_up _ _ _ c.from_residual.ensures.1 (λ missing. no_share_name missing) c.in_err-name.ensures.read;
+}
 
 pub returns-in_default : goal.returns-in_default
 returns-in_default c = record { read = no_at c.in_ok-name.ensures.read c.in_default.ensures.read }

@@ -1,9 +1,8 @@
 use Rattle.std.proofs.Common.{ap, refl, sym, ◌∙◌}
-use Rattle.std.proofs.lemmas.Result.{err_from_is_err_and}
 use Rattle.rob_index.specs.Statements as stated
 use Rattle.rob_syntax.specs.declared.syntax.Tree.{Tree}
 use Rattle.rob_syntax.specs.Seen.{seen_range, seen_tree, seen_part}
-use Rattle.rob_syntax.proofs.Fronts.PartLemmas.{pushed, first_pushed, led_found, led_missing, cause_up, refused_with, read_as}
+use Rattle.rob_syntax.proofs.Fronts.PartLemmas.{pushed, first_pushed, led_found, led_missing, read_as, refused_up}
 use Rattle.rob_syntax.proofs.Fronts.ChainLemmas.{front_start, front_push, front_end, front_refused, started}
 use Rattle.rob_syntax.proofs.Fronts.TreeLemmas.{number_is, ref_is, sum_is, product_is, ranged_is, part_is}
 use Rattle.rob_syntax.proofs.Fronts.FactorLemmas.{factor_of_number, factor_of_ref, factor_of_parens, no_parens, factor_of_sum, no_sum, no_factor, closed_read, not_closed, nothing_closed, not_summed, no_range_inside, no_colon, no_summand, summed_read}
@@ -12,14 +11,11 @@ use Rattle.rob_syntax.proofs.Fronts.ExprLemmas.{term_chain, sign_stuck, no_next 
 use Rattle.rob_syntax.proofs.indexed.expr.+indexed_expr.Goals as goal
 
 pub expr-returns-in_err-first : goal.expr-returns-in_err-first
-expr-returns-in_err-first t c =
-    record {
-      read =
-          let p = err_from_is_err_and c.from_residual.result c.from_residual.ensures.1 in
-          refused_with c.from_residual.result _ _ c.in_err-first.field-0.0 p.0 p.1 p.2
-          (cause_up (λ missing. no_first_term c.front_minus-minus.ensures.read missing)
-          c.in_err-first.field-0.0 c.in_err-first.ensures.read);
-    }
+expr-returns-in_err-first t c = record {
+  read =
+      refused_up _ _ _ c.from_residual.ensures.1 (λ missing. no_first_term c.front_minus-minus.ensures.read missing)
+      c.in_err-first.ensures.read;
+}
 
 pub expr-returns-then-is_one_term : goal.expr-returns-then-is_one_term
 expr-returns-then-is_one_term t c = record {
@@ -29,14 +25,12 @@ expr-returns-then-is_one_term t c = record {
 }
 
 pub expr-returns-in_err-parts : goal.expr-returns-in_err-parts
-expr-returns-in_err-parts t c =
-    record {
-      read =
-          let p = err_from_is_err_and c.from_residual-in_err-parts.result c.from_residual-in_err-parts.ensures.1 in
-          refused_with c.from_residual-in_err-parts.result _ _ c.in_err-parts.field-0.0 p.0 p.1 p.2
-          (cause_up (λ missing. no_terms_behind c.front_minus-minus.ensures.read c.in_ok-first.ensures.read missing)
-          c.in_err-parts.field-0.0 c.in_err-parts.ensures.read);
-    }
+expr-returns-in_err-parts t c = record {
+  read =
+      refused_up _ _ _ c.from_residual-in_err-parts.ensures.1
+      (λ missing. no_terms_behind c.front_minus-minus.ensures.read c.in_ok-first.ensures.read missing)
+      c.in_err-parts.ensures.read;
+}
 
 pub expr-returns : goal.expr-returns
 expr-returns t c = record {
@@ -51,16 +45,12 @@ parts-loop-minus-init t c =
     front_start (first_pushed seen_part _ c.new-list.ensures.empty c.in_ok-push.ensures.appended)
 
 pub parts-returns-in_err-inner : goal.parts-returns-in_err-inner
-parts-returns-in_err-inner t c =
-    record {
-      read =
-          let p = err_from_is_err_and c.from_residual-in_err-inner.result c.from_residual-in_err-inner.ensures.1 in
-          refused_with c.from_residual-in_err-inner.result _ _ c.in_err-inner.field-0.0 p.0 p.1 p.2
-          (cause_up (λ missing. front_refused term_chain c.loop-minus.invariant
-          (next_missing c.in-Some.minus c.in-Some.ensures.read missing)
-          (sign_stuck c.in-Some.minus c.in-Some.ensures.read))
-          c.in_err-inner.field-0.0 c.in_err-inner.ensures.read);
-    }
+parts-returns-in_err-inner t c = record {
+  read =
+      refused_up _ _ _ c.from_residual-in_err-inner.ensures.1 (λ missing. front_refused term_chain
+      c.loop-minus.invariant (next_missing c.in-Some.minus c.in-Some.ensures.read missing)
+      (sign_stuck c.in-Some.minus c.in-Some.ensures.read)) c.in_err-inner.ensures.read;
+}
 
 pub parts-loop-minus-preserved : goal.parts-loop-minus-preserved
 parts-loop-minus-preserved t c =
@@ -80,27 +70,20 @@ parts-returns t c = record {
 }
 
 pub term-returns-in_err-first : goal.term-returns-in_err-first
-term-returns-in_err-first t c =
-    record {
-      read =
-          let p = err_from_is_err_and c.from_residual.result c.from_residual.ensures.1 in
-          refused_with c.from_residual.result _ _ c.in_err-first.field-0.0 p.0 p.1 p.2
-          (cause_up (λ missing. no_first_factor missing)
-          c.in_err-first.field-0.0 c.in_err-first.ensures.read);
-    }
+term-returns-in_err-first t c = record {
+  read =
+      refused_up _ _ _ c.from_residual.ensures.1 (λ missing. no_first_factor missing) c.in_err-first.ensures.read;
+}
 
 pub term-returns-in_default : goal.term-returns-in_default
 term-returns-in_default t c = record { read = term_of_one c.in_ok-first.ensures.read c.in_default.ensures.read }
 
 pub term-returns-in_err-factors : goal.term-returns-in_err-factors
-term-returns-in_err-factors t c =
-    record {
-      read =
-          let p = err_from_is_err_and c.from_residual-in_err-factors.result c.from_residual-in_err-factors.ensures.1 in
-          refused_with c.from_residual-in_err-factors.result _ _ c.in_err-factors.field-0.0 p.0 p.1 p.2
-          (cause_up (λ missing. no_factors_behind c.in_ok-first.ensures.read missing)
-          c.in_err-factors.field-0.0 c.in_err-factors.ensures.read);
-    }
+term-returns-in_err-factors t c = record {
+  read =
+      refused_up _ _ _ c.from_residual-in_err-factors.ensures.1
+      (λ missing. no_factors_behind c.in_ok-first.ensures.read missing) c.in_err-factors.ensures.read;
+}
 
 pub term-returns : goal.term-returns
 term-returns t c = record {
@@ -115,15 +98,12 @@ factors-loop-behind-init t c =
     front_start (first_pushed seen_tree _ c.new-list.ensures.empty c.in_ok-push.ensures.appended)
 
 pub factors-returns-in_err-next : goal.factors-returns-in_err-next
-factors-returns-in_err-next t c =
-    record {
-      read =
-          let p = err_from_is_err_and c.from_residual-in_err-next.result c.from_residual-in_err-next.ensures.1 in
-          refused_with c.from_residual-in_err-next.result _ _ c.in_err-next.field-0.0 p.0 p.1 p.2
-          (cause_up (λ missing. front_refused factor_chain c.loop-behind.invariant
-          (led_missing c.in-Some.ensures.read missing) (star_stuck c.in-Some.ensures.read))
-          c.in_err-next.field-0.0 c.in_err-next.ensures.read);
-    }
+factors-returns-in_err-next t c = record {
+  read =
+      refused_up _ _ _ c.from_residual-in_err-next.ensures.1 (λ missing. front_refused factor_chain
+      c.loop-behind.invariant (led_missing c.in-Some.ensures.read missing) (star_stuck c.in-Some.ensures.read))
+      c.in_err-next.ensures.read;
+}
 
 pub factors-loop-behind-preserved : goal.factors-loop-behind-preserved
 factors-loop-behind-preserved t c =
@@ -145,14 +125,11 @@ factor-returns-in-Some t c =
     record { read = read_as (sym (number_is c.in-Some.numeral)) (factor_of_number _ c.in-Some.ensures.read) }
 
 pub factor-returns-in_err-inner : goal.factor-returns-in_err-inner
-factor-returns-in_err-inner t c =
-    record {
-      read =
-          let p = err_from_is_err_and c.from_residual.result c.from_residual.ensures.1 in
-          refused_with c.from_residual.result _ _ c.in_err-inner.field-0.0 p.0 p.1 p.2
-          (cause_up (λ missing. no_parens c.in-Some-behind_mark.ensures.read missing)
-          c.in_err-inner.field-0.0 c.in_err-inner.ensures.read);
-    }
+factor-returns-in_err-inner t c = record {
+  read =
+      refused_up _ _ _ c.from_residual.ensures.1 (λ missing. no_parens c.in-Some-behind_mark.ensures.read missing)
+      c.in_err-inner.ensures.read;
+}
 
 pub factor-returns-in-Some-behind_mark : goal.factor-returns-in-Some-behind_mark
 factor-returns-in-Some-behind_mark t c = record {
@@ -160,14 +137,11 @@ factor-returns-in-Some-behind_mark t c = record {
 }
 
 pub factor-returns-in_err-sum : goal.factor-returns-in_err-sum
-factor-returns-in_err-sum t c =
-    record {
-      read =
-          let p = err_from_is_err_and c.from_residual-in_err-sum.result c.from_residual-in_err-sum.ensures.1 in
-          refused_with c.from_residual-in_err-sum.result _ _ c.in_err-sum.field-0.0 p.0 p.1 p.2
-          (cause_up (λ missing. no_sum c.in-Some-behind_word.ensures.read missing)
-          c.in_err-sum.field-0.0 c.in_err-sum.ensures.read);
-    }
+factor-returns-in_err-sum t c = record {
+  read =
+      refused_up _ _ _ c.from_residual-in_err-sum.ensures.1
+      (λ missing. no_sum c.in-Some-behind_word.ensures.read missing) c.in_err-sum.ensures.read;
+}
 
 pub factor-returns-in-Some-behind_word : goal.factor-returns-in-Some-behind_word
 factor-returns-in-Some-behind_word t c = record {
@@ -175,29 +149,21 @@ factor-returns-in-Some-behind_word t c = record {
 }
 
 pub factor-returns-in_err-name : goal.factor-returns-in_err-name
-factor-returns-in_err-name t c =
-    record {
-      read =
-          let p = err_from_is_err_and c.from_residual-in_err-name.result c.from_residual-in_err-name.ensures.1 in
-          refused_with c.from_residual-in_err-name.result _ _ c.in_err-name.field-0.0 p.0 p.1 p.2
-          (cause_up (λ missing. no_factor c.in_default.ensures.read c.in_default-behind_mark.ensures.read
-          c.in_default-behind_word.ensures.read missing)
-          c.in_err-name.field-0.0 c.in_err-name.ensures.read);
-    }
+factor-returns-in_err-name t c = record {
+  read =
+      refused_up _ _ _ c.from_residual-in_err-name.ensures.1 (λ missing. no_factor c.in_default.ensures.read
+      c.in_default-behind_mark.ensures.read c.in_default-behind_word.ensures.read missing) c.in_err-name.ensures.read;
+}
 
 pub factor-returns : goal.factor-returns
 factor-returns t c =
     record { read = read_as (sym (ref_is c.in_ok-name.name)) (factor_of_ref _ c.in_ok-name.ensures.read) }
 
 pub closed-returns-in_err-inner : goal.closed-returns-in_err-inner
-closed-returns-in_err-inner t c =
-    record {
-      read =
-          let p = err_from_is_err_and c.from_residual.result c.from_residual.ensures.1 in
-          refused_with c.from_residual.result _ _ c.in_err-inner.field-0.0 p.0 p.1 p.2
-          (cause_up (λ missing. nothing_closed missing)
-          c.in_err-inner.field-0.0 c.in_err-inner.ensures.read);
-    }
+closed-returns-in_err-inner t c = record {
+  read =
+      refused_up _ _ _ c.from_residual.ensures.1 (λ missing. nothing_closed missing) c.in_err-inner.ensures.read;
+}
 
 pub closed-returns-in-Some : goal.closed-returns-in-Some
 closed-returns-in-Some t c = record { read = closed_read c.in_ok-inner.ensures.read c.in-Some.ensures.read }
@@ -209,14 +175,11 @@ pub summed-returns-in_default : goal.summed-returns-in_default
 summed-returns-in_default t c = record { read = not_summed c.in_default.ensures.read }
 
 pub summed-returns-in_err-range : goal.summed-returns-in_err-range
-summed-returns-in_err-range t c =
-    record {
-      read =
-          let p = err_from_is_err_and c.from_residual.result c.from_residual.ensures.1 in
-          refused_with c.from_residual.result _ _ c.in_err-range.field-0.0 p.0 p.1 p.2
-          (cause_up (λ missing. no_range_inside c.in-Some.ensures.read missing)
-          c.in_err-range.field-0.0 c.in_err-range.ensures.read);
-    }
+summed-returns-in_err-range t c = record {
+  read =
+      refused_up _ _ _ c.from_residual.ensures.1 (λ missing. no_range_inside c.in-Some.ensures.read missing)
+      c.in_err-range.ensures.read;
+}
 
 pub summed-returns-in_default-behind_mark : goal.summed-returns-in_default-behind_mark
 summed-returns-in_default-behind_mark t c = record {
@@ -224,15 +187,11 @@ summed-returns-in_default-behind_mark t c = record {
 }
 
 pub summed-returns-in_err-inner : goal.summed-returns-in_err-inner
-summed-returns-in_err-inner t c =
-    record {
-      read =
-          let p = err_from_is_err_and c.from_residual-in_err-inner.result c.from_residual-in_err-inner.ensures.1 in
-          refused_with c.from_residual-in_err-inner.result _ _ c.in_err-inner.field-0.0 p.0 p.1 p.2
-          (cause_up (λ missing. no_summand c.in-Some.ensures.read c.in_ok-range.ensures.read
-          c.in-Some-behind_mark.ensures.read missing)
-          c.in_err-inner.field-0.0 c.in_err-inner.ensures.read);
-    }
+summed-returns-in_err-inner t c = record {
+  read =
+      refused_up _ _ _ c.from_residual-in_err-inner.ensures.1 (λ missing. no_summand c.in-Some.ensures.read
+      c.in_ok-range.ensures.read c.in-Some-behind_mark.ensures.read missing) c.in_err-inner.ensures.read;
+}
 
 pub summed-returns : goal.summed-returns
 summed-returns t c = record {

@@ -1,18 +1,13 @@
-use Rattle.std.proofs.lemmas.Result.{err_from_is_err_and}
-use Rattle.rob_syntax.proofs.Fronts.PartLemmas.{cause_up, refused_with}
+use Rattle.rob_syntax.proofs.Fronts.PartLemmas.{refused_up}
 use Rattle.rob_syntax.proofs.Seeing.{seen_empty, seen_some}
 use Rattle.rob_syntax.proofs.Fronts.LineLemmas.{empty_over, last_found, not_last, last_missing}
 use Rattle.rob_syntax.proofs.indexed.line.last_over.Goals as goal
 
 pub returns-in_err-set : goal.returns-in_err-set
-returns-in_err-set c =
-    record {
-      read =
-          let p = err_from_is_err_and c.from_residual.result c.from_residual.ensures.1 in
-          refused_with c.from_residual.result _ _ c.in_err-set.field-0.0 p.0 p.1 p.2
-          (cause_up (λ missing. last_missing empty_over missing)
-          c.in_err-set.field-0.0 c.in_err-set.ensures.read);
-    }
+returns-in_err-set c = record {
+  read =
+      refused_up _ _ _ c.from_residual.ensures.1 (λ missing. last_missing empty_over missing) c.in_err-set.ensures.read;
+}
 
 pub returns-then-is_empty : goal.returns-then-is_empty
 returns-then-is_empty c = record {

@@ -1,5 +1,4 @@
-use Rattle.std.proofs.lemmas.Result.{err_from_is_err_and}
-use Rattle.rob_syntax.proofs.Fronts.PartLemmas.{cause_up, refused_with}
+use Rattle.rob_syntax.proofs.Fronts.PartLemmas.{refused_up}
 use Rattle.rob_syntax.proofs.Fronts.OptionLemmas.{over_optional, nothing_found, something_found, something_missing}
 use Rattle.rob_syntax.proofs.indexed.line.over.Goals as goal
 
@@ -7,14 +6,11 @@ pub returns-in_default : goal.returns-in_default
 returns-in_default c = record { read = nothing_found over_optional c.in_default.ensures.read }
 
 pub returns-in_err-set : goal.returns-in_err-set
-returns-in_err-set c =
-    record {
-      read =
-          let p = err_from_is_err_and c.from_residual.result c.from_residual.ensures.1 in
-          refused_with c.from_residual.result _ _ c.in_err-set.field-0.0 p.0 p.1 p.2
-          (cause_up (λ missing. something_missing over_optional c.in-Some.ensures.read missing)
-          c.in_err-set.field-0.0 c.in_err-set.ensures.read);
-    }
+returns-in_err-set c = record {
+  read =
+      refused_up _ _ _ c.from_residual.ensures.1
+      (λ missing. something_missing over_optional c.in-Some.ensures.read missing) c.in_err-set.ensures.read;
+}
 
 pub returns : goal.returns
 returns c = record { read = something_found over_optional c.in-Some.ensures.read c.in_ok-set.ensures.read }

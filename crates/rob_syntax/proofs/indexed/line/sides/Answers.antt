@@ -1,32 +1,24 @@
-use Rattle.std.proofs.lemmas.Result.{err_from_is_err_and}
-use Rattle.rob_syntax.proofs.Fronts.PartLemmas.{cause_up, refused_with}
+use Rattle.rob_syntax.proofs.Fronts.PartLemmas.{refused_up}
 use Rattle.rob_syntax.specs.Seen.{seen_rel}
 use Rattle.rob_syntax.proofs.Fronts.LineLemmas.{no_sides, no_relation, no_right, sides_read}
 use Rattle.rob_syntax.proofs.indexed.line.sides.Goals as goal
 
 pub returns-in_err-left : goal.returns-in_err-left
-returns-in_err-left c =
-    record {
-      read =
-          let p = err_from_is_err_and c.from_residual.result c.from_residual.ensures.1 in
-          refused_with c.from_residual.result _ _ c.in_err-left.field-0.0 p.0 p.1 p.2
-          (cause_up (λ missing. no_sides missing)
-          c.in_err-left.field-0.0 c.in_err-left.ensures.read);
-    }
+returns-in_err-left c = record {
+  read =
+      refused_up _ _ _ c.from_residual.ensures.1 (λ missing. no_sides missing) c.in_err-left.ensures.read;
+}
 
 pub returns-in_default : goal.returns-in_default
 returns-in_default c = record { read = no_relation c.in_ok-left.ensures.read c.in_default.ensures.read }
 
 pub returns-in_err-right : goal.returns-in_err-right
-returns-in_err-right c =
-    record {
-      read =
-          let p = err_from_is_err_and c.from_residual-in_err-right.result c.from_residual-in_err-right.ensures.1 in
-          refused_with c.from_residual-in_err-right.result _ _ c.in_err-right.field-0.0 p.0 p.1 p.2
-          (cause_up (λ missing. no_right c.in_ok-left.ensures.read (seen_rel c.in-Some.rel)
-          c.in-Some.ensures.read missing)
-          c.in_err-right.field-0.0 c.in_err-right.ensures.read);
-    }
+returns-in_err-right c = record {
+  read =
+      refused_up _ _ _ c.from_residual-in_err-right.ensures.1
+      (λ missing. no_right c.in_ok-left.ensures.read (seen_rel c.in-Some.rel) c.in-Some.ensures.read missing)
+      c.in_err-right.ensures.read;
+}
 
 pub returns : goal.returns
 returns c =

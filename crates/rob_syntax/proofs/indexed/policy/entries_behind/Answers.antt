@@ -1,10 +1,9 @@
 use Rattle.std.proofs.Common.{refl}
-use Rattle.std.proofs.lemmas.Result.{err_from_is_err_and}
 use Rattle.rob_syntax.specs.Seen.{seen_ranged, seen_ref}
 use Rattle.rob_syntax.proofs.Fronts.ChainLemmas.{front_start, front_push, front_end, front_refused}
 use Rattle.rob_syntax.proofs.Fronts.IndexLemmas.{comma_stuck}
 use Rattle.rob_syntax.proofs.Fronts.ListLemmas.{entry_chain}
-use Rattle.rob_syntax.proofs.Fronts.PartLemmas.{pushed, led_found, led_missing, cause_up, refused_with, first_pushed}
+use Rattle.rob_syntax.proofs.Fronts.PartLemmas.{pushed, led_found, led_missing, first_pushed, refused_up}
 use Rattle.rob_syntax.proofs.indexed.policy.entries_behind.Goals as goal
 
 pub loop-behind-init : goal.loop-behind-init
@@ -12,15 +11,12 @@ loop-behind-init c =
     front_start (first_pushed (seen_ranged seen_ref) _ c.new-list.ensures.empty c.in_ok-push.ensures.appended)
 
 pub returns-in_err-next : goal.returns-in_err-next
-returns-in_err-next c =
-    record {
-      read =
-          let p = err_from_is_err_and c.from_residual-in_err-next.result c.from_residual-in_err-next.ensures.1 in
-          refused_with c.from_residual-in_err-next.result _ _ c.in_err-next.field-0.0 p.0 p.1 p.2
-          (cause_up (λ missing. front_refused entry_chain c.loop-behind.invariant
-          (led_missing c.in-Some.ensures.read missing) (comma_stuck c.in-Some.ensures.read))
-          c.in_err-next.field-0.0 c.in_err-next.ensures.read);
-    }
+returns-in_err-next c = record {
+  read =
+      refused_up _ _ _ c.from_residual-in_err-next.ensures.1 (λ missing. front_refused entry_chain
+      c.loop-behind.invariant (led_missing c.in-Some.ensures.read missing) (comma_stuck c.in-Some.ensures.read))
+      c.in_err-next.ensures.read;
+}
 
 pub loop-behind-preserved : goal.loop-behind-preserved
 loop-behind-preserved c =

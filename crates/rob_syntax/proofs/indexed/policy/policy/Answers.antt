@@ -1,30 +1,22 @@
-use Rattle.std.proofs.lemmas.Result.{err_from_is_err_and}
-use Rattle.rob_syntax.proofs.Fronts.PartLemmas.{cause_up, refused_with}
+use Rattle.rob_syntax.proofs.Fronts.PartLemmas.{refused_up}
 use Rattle.rob_syntax.proofs.Fronts.KindLemmas.{no_policy, no_opening, no_entries, no_closing, no_policy_bounds, policy_found}
 use Rattle.rob_syntax.proofs.indexed.policy.policy.Goals as goal
 
 pub returns-in_err-name : goal.returns-in_err-name
-returns-in_err-name c =
-    record {
-      read =
-          let p = err_from_is_err_and c.from_residual.result c.from_residual.ensures.1 in
-          refused_with c.from_residual.result _ _ c.in_err-name.field-0.0 p.0 p.1 p.2
-          (cause_up (λ missing. no_policy missing)
-          c.in_err-name.field-0.0 c.in_err-name.ensures.read);
-    }
+returns-in_err-name c = record {
+  read =
+      refused_up _ _ _ c.from_residual.ensures.1 (λ missing. no_policy missing) c.in_err-name.ensures.read;
+}
 
 pub returns-in_default : goal.returns-in_default
 returns-in_default c = record { read = no_opening c.in_ok-name.ensures.read c.in_default.ensures.read }
 
 pub returns-in_err-on : goal.returns-in_err-on
-returns-in_err-on c =
-    record {
-      read =
-          let p = err_from_is_err_and c.from_residual-in_err-on.result c.from_residual-in_err-on.ensures.1 in
-          refused_with c.from_residual-in_err-on.result _ _ c.in_err-on.field-0.0 p.0 p.1 p.2
-          (cause_up (λ missing. no_entries c.in_ok-name.ensures.read c.in-Some.ensures.read missing)
-          c.in_err-on.field-0.0 c.in_err-on.ensures.read);
-    }
+returns-in_err-on c = record {
+  read =
+      refused_up _ _ _ c.from_residual-in_err-on.ensures.1
+      (λ missing. no_entries c.in_ok-name.ensures.read c.in-Some.ensures.read missing) c.in_err-on.ensures.read;
+}
 
 pub returns-in_default-behind_mark : goal.returns-in_default-behind_mark
 returns-in_default-behind_mark c =
@@ -34,15 +26,12 @@ returns-in_default-behind_mark c =
     }
 
 pub returns-in_err-bounds : goal.returns-in_err-bounds
-returns-in_err-bounds c =
-    record {
-      read =
-          let p = err_from_is_err_and c.from_residual-in_err-bounds.result c.from_residual-in_err-bounds.ensures.1 in
-          refused_with c.from_residual-in_err-bounds.result _ _ c.in_err-bounds.field-0.0 p.0 p.1 p.2
-          (cause_up (λ missing. no_policy_bounds c.in_ok-name.ensures.read c.in-Some.ensures.read
-          c.in_ok-on.ensures.read c.in-Some-behind_mark.ensures.read missing)
-          c.in_err-bounds.field-0.0 c.in_err-bounds.ensures.read);
-    }
+returns-in_err-bounds c = record {
+  read =
+      refused_up _ _ _ c.from_residual-in_err-bounds.ensures.1 (λ missing. no_policy_bounds c.in_ok-name.ensures.read
+      c.in-Some.ensures.read c.in_ok-on.ensures.read c.in-Some-behind_mark.ensures.read missing)
+      c.in_err-bounds.ensures.read;
+}
 
 pub returns : goal.returns
 returns c =

@@ -1,5 +1,4 @@
-use Rattle.std.proofs.lemmas.Result.{err_from_is_err_and}
-use Rattle.rob_syntax.proofs.Fronts.PartLemmas.{cause_up, refused_with}
+use Rattle.rob_syntax.proofs.Fronts.PartLemmas.{refused_up}
 use Rattle.rob_syntax.proofs.Fronts.RangeLemmas.{no_range, no_equal, no_from, no_to, no_upto, range_found}
 use Rattle.rob_syntax.proofs.indexed.range.range.Goals as goal
 
@@ -11,15 +10,12 @@ returns-in_default-behind_mark c =
     record { read = no_equal c.in-Some.name c.in-Some.ensures.read c.in_default-behind_mark.ensures.read }
 
 pub returns-in_err-from : goal.returns-in_err-from
-returns-in_err-from c =
-    record {
-      read =
-          let p = err_from_is_err_and c.from_residual.result c.from_residual.ensures.1 in
-          refused_with c.from_residual.result _ _ c.in_err-from.field-0.0 p.0 p.1 p.2
-          (cause_up (λ missing. no_from c.in-Some.name c.in-Some.ensures.read
-          c.in-Some-behind_mark.ensures.read missing)
-          c.in_err-from.field-0.0 c.in_err-from.ensures.read);
-    }
+returns-in_err-from c = record {
+  read =
+      refused_up _ _ _ c.from_residual.ensures.1
+      (λ missing. no_from c.in-Some.name c.in-Some.ensures.read c.in-Some-behind_mark.ensures.read missing)
+      c.in_err-from.ensures.read;
+}
 
 pub returns-in_default-behind_word : goal.returns-in_default-behind_word
 returns-in_default-behind_word c =
@@ -29,15 +25,12 @@ returns-in_default-behind_word c =
     }
 
 pub returns-in_err-upto : goal.returns-in_err-upto
-returns-in_err-upto c =
-    record {
-      read =
-          let p = err_from_is_err_and c.from_residual-in_err-upto.result c.from_residual-in_err-upto.ensures.1 in
-          refused_with c.from_residual-in_err-upto.result _ _ c.in_err-upto.field-0.0 p.0 p.1 p.2
-          (cause_up (λ missing. no_upto c.in-Some.name c.in-Some.ensures.read c.in-Some-behind_mark.ensures.read
-          c.in_ok-from.ensures.read c.in-Some-behind_word.ensures.read missing)
-          c.in_err-upto.field-0.0 c.in_err-upto.ensures.read);
-    }
+returns-in_err-upto c = record {
+  read =
+      refused_up _ _ _ c.from_residual-in_err-upto.ensures.1 (λ missing. no_upto c.in-Some.name c.in-Some.ensures.read
+      c.in-Some-behind_mark.ensures.read c.in_ok-from.ensures.read c.in-Some-behind_word.ensures.read missing)
+      c.in_err-upto.ensures.read;
+}
 
 pub returns : goal.returns
 returns c =

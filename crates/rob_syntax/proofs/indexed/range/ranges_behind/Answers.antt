@@ -1,24 +1,20 @@
 use Rattle.std.proofs.Common.{refl}
-use Rattle.std.proofs.lemmas.Result.{err_from_is_err_and}
 use Rattle.rob_syntax.specs.Seen.{seen_range}
 use Rattle.rob_syntax.proofs.Fronts.ChainLemmas.{front_start, front_push, front_end, front_refused}
 use Rattle.rob_syntax.proofs.Fronts.RangeLemmas.{range_chain, range_stuck, no_range_item}
-use Rattle.rob_syntax.proofs.Fronts.PartLemmas.{pushed, led_shorter, led_found, led_missing, cause_up, refused_with, first_pushed}
+use Rattle.rob_syntax.proofs.Fronts.PartLemmas.{pushed, led_shorter, led_found, led_missing, first_pushed, refused_up}
 use Rattle.rob_syntax.proofs.indexed.range.ranges_behind.Goals as goal
 
 pub loop-behind-init : goal.loop-behind-init
 loop-behind-init c = front_start (first_pushed seen_range _ c.new-list.ensures.empty c.in_ok-push.ensures.appended)
 
 pub returns-in_err-next : goal.returns-in_err-next
-returns-in_err-next c =
-    record {
-      read =
-          let p = err_from_is_err_and c.from_residual-in_err-next.result c.from_residual-in_err-next.ensures.1 in
-          refused_with c.from_residual-in_err-next.result _ _ c.in_err-next.field-0.0 p.0 p.1 p.2
-          (cause_up (λ missing. front_refused range_chain c.loop-behind.invariant
-          (led_missing c.in-Some.ensures.read.comma missing) (range_stuck c.in-Some.ensures.read))
-          c.in_err-next.field-0.0 c.in_err-next.ensures.read);
-    }
+returns-in_err-next c = record {
+  read =
+      refused_up _ _ _ c.from_residual-in_err-next.ensures.1 (λ missing. front_refused range_chain
+      c.loop-behind.invariant (led_missing c.in-Some.ensures.read.comma missing) (range_stuck c.in-Some.ensures.read))
+      c.in_err-next.ensures.read;
+}
 
 pub loop-behind-preserved : goal.loop-behind-preserved
 loop-behind-preserved c =

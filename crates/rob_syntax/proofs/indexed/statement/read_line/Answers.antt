@@ -1,189 +1,137 @@
 use Rattle.std.proofs.Common.{ap}
-use Rattle.std.proofs.lemmas.Result.{err_from_is_err_and}
-use Rattle.rob_syntax.proofs.Fronts.PartLemmas.{refused_with}
 use Rattle.rob_syntax.specs.Seen.{seen_sense}
-use Rattle.rob_syntax.proofs.Fronts.StatementLemmas.{line_cause, keyword_first, no_keyword, is_goal_of, is_uncertain, no_uncertain, is_variable, no_variable, is_over, no_over, is_set, no_set, is_budget, no_budget, is_adaptive, no_adaptive, is_minimise, no_minimise, is_maximise, no_maximise, is_row, no_row, no_within, no_at, no_by, no_sum, no_for, no_to, no_model, no_unused}
+use Rattle.rob_syntax.proofs.Fronts.StatementLemmas.{line_refused, no_keyword, is_goal_of, is_uncertain, no_uncertain, is_variable, no_variable, is_over, no_over, is_set, no_set, is_budget, no_budget, is_adaptive, no_adaptive, is_minimise, no_minimise, is_maximise, no_maximise, is_row, no_row, no_within, no_at, no_by, no_sum, no_for, no_to, no_model, no_unused}
 use Rattle.rob_syntax.proofs.indexed.statement.read_line.Goals as goal
 
 pub returns-in_err-declared-in-Uncertain : goal.returns-in_err-declared-in-Uncertain
-returns-in_err-declared-in-Uncertain c =
-    record {
-      read =
-          let p = err_from_is_err_and c.from_residual.result c.from_residual.ensures.1 in
-          refused_with c.from_residual.result _ _ c.in_err-declared-in-Uncertain.field-0.0 p.0 p.1 p.2
-          (line_cause (λ missing. no_uncertain (keyword_first c.in-Some.ensures.read c.in-Uncertain.is) missing)
-          c.in_err-declared-in-Uncertain.field-0.0 c.in_err-declared-in-Uncertain.ensures.read);
-    }
+returns-in_err-declared-in-Uncertain c = record {
+  read =
+      line_refused _ _ _ c.from_residual.ensures.1
+      (λ missing. no_uncertain c.in-Some.ensures.read c.in-Uncertain.is missing)
+      c.in_err-declared-in-Uncertain.ensures.read;
+}
 
 pub returns-in_ok-declared-in-Uncertain : goal.returns-in_ok-declared-in-Uncertain
-returns-in_ok-declared-in-Uncertain c = record {
-  read =
-      is_uncertain (keyword_first c.in-Some.ensures.read c.in-Uncertain.is) c.in_ok-declared-in-Uncertain.ensures.read;
-}
+returns-in_ok-declared-in-Uncertain c =
+    record { read = is_uncertain c.in-Some.ensures.read c.in-Uncertain.is c.in_ok-declared-in-Uncertain.ensures.read }
 
 pub returns-in_err-declared-in-Var : goal.returns-in_err-declared-in-Var
-returns-in_err-declared-in-Var c =
-    record {
-      read =
-          let p = err_from_is_err_and c.from_residual-in_err-declared-in-Var.result
-          c.from_residual-in_err-declared-in-Var.ensures.1 in
-          refused_with c.from_residual-in_err-declared-in-Var.result _ _ c.in_err-declared-in-Var.field-0.0 p.0 p.1 p.2
-          (line_cause (λ missing. no_variable (keyword_first c.in-Some.ensures.read c.in-Var.is) missing)
-          c.in_err-declared-in-Var.field-0.0 c.in_err-declared-in-Var.ensures.read);
-    }
+returns-in_err-declared-in-Var c = record {
+  read =
+      line_refused _ _ _ c.from_residual-in_err-declared-in-Var.ensures.1
+      (λ missing. no_variable c.in-Some.ensures.read c.in-Var.is missing) c.in_err-declared-in-Var.ensures.read;
+}
 
 pub returns-in_ok-declared-in-Var : goal.returns-in_ok-declared-in-Var
-returns-in_ok-declared-in-Var c = record {
-  read =
-      is_variable (keyword_first c.in-Some.ensures.read c.in-Var.is) c.in_ok-declared-in-Var.ensures.read;
-}
+returns-in_ok-declared-in-Var c =
+    record { read = is_variable c.in-Some.ensures.read c.in-Var.is c.in_ok-declared-in-Var.ensures.read }
 
 pub returns-in_err-named-in-Over : goal.returns-in_err-named-in-Over
-returns-in_err-named-in-Over c =
-    record {
-      read =
-          let p = err_from_is_err_and c.from_residual-in_err-named-in-Over.result
-          c.from_residual-in_err-named-in-Over.ensures.1 in
-          refused_with c.from_residual-in_err-named-in-Over.result _ _ c.in_err-named-in-Over.field-0.0 p.0 p.1 p.2
-          (line_cause (λ missing. no_over (keyword_first c.in-Some.ensures.read c.in-Over.is) missing)
-          c.in_err-named-in-Over.field-0.0 c.in_err-named-in-Over.ensures.read);
-    }
+returns-in_err-named-in-Over c = record {
+  read =
+      line_refused _ _ _ c.from_residual-in_err-named-in-Over.ensures.1
+      (λ missing. no_over c.in-Some.ensures.read c.in-Over.is missing) c.in_err-named-in-Over.ensures.read;
+}
 
 pub returns-in_ok-named-in-Over : goal.returns-in_ok-named-in-Over
-returns-in_ok-named-in-Over c = record {
-  read =
-      is_over (keyword_first c.in-Some.ensures.read c.in-Over.is) c.in_ok-named-in-Over.ensures.read;
-}
+returns-in_ok-named-in-Over c =
+    record { read = is_over c.in-Some.ensures.read c.in-Over.is c.in_ok-named-in-Over.ensures.read }
 
 pub returns-in_err-related-in-Set : goal.returns-in_err-related-in-Set
-returns-in_err-related-in-Set c =
-    record {
-      read =
-          let p = err_from_is_err_and c.from_residual-in_err-related-in-Set.result
-          c.from_residual-in_err-related-in-Set.ensures.1 in
-          refused_with c.from_residual-in_err-related-in-Set.result _ _ c.in_err-related-in-Set.field-0.0 p.0 p.1 p.2
-          (line_cause (λ missing. no_set (keyword_first c.in-Some.ensures.read c.in-Set.is) missing)
-          c.in_err-related-in-Set.field-0.0 c.in_err-related-in-Set.ensures.read);
-    }
+returns-in_err-related-in-Set c = record {
+  read =
+      line_refused _ _ _ c.from_residual-in_err-related-in-Set.ensures.1
+      (λ missing. no_set c.in-Some.ensures.read c.in-Set.is missing) c.in_err-related-in-Set.ensures.read;
+}
 
 pub returns-in_ok-related-in-Set : goal.returns-in_ok-related-in-Set
-returns-in_ok-related-in-Set c = record {
-  read =
-      is_set (keyword_first c.in-Some.ensures.read c.in-Set.is) c.in_ok-related-in-Set.ensures.read;
-}
+returns-in_ok-related-in-Set c =
+    record { read = is_set c.in-Some.ensures.read c.in-Set.is c.in_ok-related-in-Set.ensures.read }
 
 pub returns-in_err-budget-in-Budget : goal.returns-in_err-budget-in-Budget
-returns-in_err-budget-in-Budget c =
-    record {
-      read =
-          let p = err_from_is_err_and c.from_residual-in_err-budget-in-Budget.result
-          c.from_residual-in_err-budget-in-Budget.ensures.1 in
-          refused_with c.from_residual-in_err-budget-in-Budget.result _ _
-          c.in_err-budget-in-Budget.field-0.0 p.0 p.1 p.2
-          (line_cause (λ missing. no_budget (keyword_first c.in-Some.ensures.read c.in-Budget.is) missing)
-          c.in_err-budget-in-Budget.field-0.0 c.in_err-budget-in-Budget.ensures.read);
-    }
+returns-in_err-budget-in-Budget c = record {
+  read =
+      line_refused _ _ _ c.from_residual-in_err-budget-in-Budget.ensures.1
+      (λ missing. no_budget c.in-Some.ensures.read c.in-Budget.is missing) c.in_err-budget-in-Budget.ensures.read;
+}
 
 pub returns-in_ok-budget-in-Budget : goal.returns-in_ok-budget-in-Budget
-returns-in_ok-budget-in-Budget c = record {
-  read =
-      is_budget (keyword_first c.in-Some.ensures.read c.in-Budget.is) c.in_ok-budget-in-Budget.ensures.read;
-}
+returns-in_ok-budget-in-Budget c =
+    record { read = is_budget c.in-Some.ensures.read c.in-Budget.is c.in_ok-budget-in-Budget.ensures.read }
 
 pub returns-in_err-policy-in-Adaptive : goal.returns-in_err-policy-in-Adaptive
-returns-in_err-policy-in-Adaptive c =
-    record {
-      read =
-          let p = err_from_is_err_and c.from_residual-in_err-policy-in-Adaptive.result
-          c.from_residual-in_err-policy-in-Adaptive.ensures.1 in
-          refused_with c.from_residual-in_err-policy-in-Adaptive.result _ _
-          c.in_err-policy-in-Adaptive.field-0.0 p.0 p.1 p.2
-          (line_cause (λ missing. no_adaptive (keyword_first c.in-Some.ensures.read c.in-Adaptive.is) missing)
-          c.in_err-policy-in-Adaptive.field-0.0 c.in_err-policy-in-Adaptive.ensures.read);
-    }
-
-pub returns-in_ok-policy-in-Adaptive : goal.returns-in_ok-policy-in-Adaptive
-returns-in_ok-policy-in-Adaptive c = record {
+returns-in_err-policy-in-Adaptive c = record {
   read =
-      is_adaptive (keyword_first c.in-Some.ensures.read c.in-Adaptive.is) c.in_ok-policy-in-Adaptive.ensures.read;
+      line_refused _ _ _ c.from_residual-in_err-policy-in-Adaptive.ensures.1
+      (λ missing. no_adaptive c.in-Some.ensures.read c.in-Adaptive.is missing) c.in_err-policy-in-Adaptive.ensures.read;
 }
 
+pub returns-in_ok-policy-in-Adaptive : goal.returns-in_ok-policy-in-Adaptive
+returns-in_ok-policy-in-Adaptive c =
+    record { read = is_adaptive c.in-Some.ensures.read c.in-Adaptive.is c.in_ok-policy-in-Adaptive.ensures.read }
+
 pub returns-in_err-goal-in-Minimise : goal.returns-in_err-goal-in-Minimise
-returns-in_err-goal-in-Minimise c =
-    record {
-      read =
-          let p = err_from_is_err_and c.from_residual-in_err-goal-in-Minimise.result
-          c.from_residual-in_err-goal-in-Minimise.ensures.1 in
-          refused_with c.from_residual-in_err-goal-in-Minimise.result _ _
-          c.in_err-goal-in-Minimise.field-0.0 p.0 p.1 p.2
-          (line_cause (λ missing. no_minimise (keyword_first c.in-Some.ensures.read c.in-Minimise.is) missing)
-          c.in_err-goal-in-Minimise.field-0.0 c.in_err-goal-in-Minimise.ensures.read);
-    }
+returns-in_err-goal-in-Minimise c = record {
+  read =
+      line_refused _ _ _ c.from_residual-in_err-goal-in-Minimise.ensures.1
+      (λ missing. no_minimise c.in-Some.ensures.read c.in-Minimise.is missing) c.in_err-goal-in-Minimise.ensures.read;
+}
 
 pub returns-in_ok-goal-in-Minimise : goal.returns-in_ok-goal-in-Minimise
 returns-in_ok-goal-in-Minimise c = record {
   read =
       is_goal_of (ap seen_sense c.in_ok-goal-in-Minimise.ensures.read.1)
-      (is_minimise (keyword_first c.in-Some.ensures.read c.in-Minimise.is) c.in_ok-goal-in-Minimise.ensures.read.0);
+      (is_minimise c.in-Some.ensures.read c.in-Minimise.is c.in_ok-goal-in-Minimise.ensures.read.0);
 }
 
 pub returns-in_err-goal-in-Maximise : goal.returns-in_err-goal-in-Maximise
-returns-in_err-goal-in-Maximise c =
-    record {
-      read =
-          let p = err_from_is_err_and c.from_residual-in_err-goal-in-Maximise.result
-          c.from_residual-in_err-goal-in-Maximise.ensures.1 in
-          refused_with c.from_residual-in_err-goal-in-Maximise.result _ _
-          c.in_err-goal-in-Maximise.field-0.0 p.0 p.1 p.2
-          (line_cause (λ missing. no_maximise (keyword_first c.in-Some.ensures.read c.in-Maximise.is) missing)
-          c.in_err-goal-in-Maximise.field-0.0 c.in_err-goal-in-Maximise.ensures.read);
-    }
+returns-in_err-goal-in-Maximise c = record {
+  read =
+      line_refused _ _ _ c.from_residual-in_err-goal-in-Maximise.ensures.1
+      (λ missing. no_maximise c.in-Some.ensures.read c.in-Maximise.is missing) c.in_err-goal-in-Maximise.ensures.read;
+}
 
 pub returns-in_ok-goal-in-Maximise : goal.returns-in_ok-goal-in-Maximise
 returns-in_ok-goal-in-Maximise c = record {
   read =
       is_goal_of (ap seen_sense c.in_ok-goal-in-Maximise.ensures.read.1)
-      (is_maximise (keyword_first c.in-Some.ensures.read c.in-Maximise.is) c.in_ok-goal-in-Maximise.ensures.read.0);
+      (is_maximise c.in-Some.ensures.read c.in-Maximise.is c.in_ok-goal-in-Maximise.ensures.read.0);
 }
 
 pub returns-in_err-name-in-Row : goal.returns-in_err-name-in-Row
-returns-in_err-name-in-Row c =
-    record {
-      read =
-          let p = err_from_is_err_and c.from_residual-in_err-name-in-Row.result
-          c.from_residual-in_err-name-in-Row.ensures.1 in
-          refused_with c.from_residual-in_err-name-in-Row.result _ _ c.in_err-name-in-Row.field-0.0 p.0 p.1 p.2
-          (line_cause (λ missing. no_row (keyword_first c.in-Some.ensures.read c.in-Row.is) missing)
-          c.in_err-name-in-Row.field-0.0 c.in_err-name-in-Row.ensures.read);
-    }
+returns-in_err-name-in-Row c = record {
+  read =
+      line_refused _ _ _ c.from_residual-in_err-name-in-Row.ensures.1
+      (λ missing. no_row c.in-Some.ensures.read c.in-Row.is missing) c.in_err-name-in-Row.ensures.read;
+}
 
 pub returns-in_ok-name-in-Row : goal.returns-in_ok-name-in-Row
 returns-in_ok-name-in-Row c =
-    record { read = is_row (keyword_first c.in-Some.ensures.read c.in-Row.is) c.in_ok-name-in-Row.ensures.read }
+    record { read = is_row c.in-Some.ensures.read c.in-Row.is c.in_ok-name-in-Row.ensures.read }
 
 pub returns-in-In : goal.returns-in-In
-returns-in-In c = record { read = no_within (keyword_first c.in-Some.ensures.read c.in-In.is) }
+returns-in-In c = record { read = no_within c.in-Some.ensures.read c.in-In.is }
 
 pub returns-in-At : goal.returns-in-At
-returns-in-At c = record { read = no_at (keyword_first c.in-Some.ensures.read c.in-At.is) }
+returns-in-At c = record { read = no_at c.in-Some.ensures.read c.in-At.is }
 
 pub returns-in-By : goal.returns-in-By
-returns-in-By c = record { read = no_by (keyword_first c.in-Some.ensures.read c.in-By.is) }
+returns-in-By c = record { read = no_by c.in-Some.ensures.read c.in-By.is }
 
 pub returns-in-Sum : goal.returns-in-Sum
-returns-in-Sum c = record { read = no_sum (keyword_first c.in-Some.ensures.read c.in-Sum.is) }
+returns-in-Sum c = record { read = no_sum c.in-Some.ensures.read c.in-Sum.is }
 
 pub returns-in-For : goal.returns-in-For
-returns-in-For c = record { read = no_for (keyword_first c.in-Some.ensures.read c.in-For.is) }
+returns-in-For c = record { read = no_for c.in-Some.ensures.read c.in-For.is }
 
 pub returns-in-To : goal.returns-in-To
-returns-in-To c = record { read = no_to (keyword_first c.in-Some.ensures.read c.in-To.is) }
+returns-in-To c = record { read = no_to c.in-Some.ensures.read c.in-To.is }
 
 pub returns-in-Model : goal.returns-in-Model
-returns-in-Model c = record { read = no_model (keyword_first c.in-Some.ensures.read c.in-Model.is) }
+returns-in-Model c = record { read = no_model c.in-Some.ensures.read c.in-Model.is }
 
 pub returns-in-Unused : goal.returns-in-Unused
-returns-in-Unused c = record { read = no_unused (keyword_first c.in-Some.ensures.read c.in-Unused.is) }
+returns-in-Unused c = record { read = no_unused c.in-Some.ensures.read c.in-Unused.is }
 
 pub returns-in_default : goal.returns-in_default
 returns-in_default c = record { read = no_keyword c.in_default.ensures.read }

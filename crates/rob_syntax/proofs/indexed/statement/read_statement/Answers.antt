@@ -1,18 +1,15 @@
 use Rattle.std.proofs.Common.{sym, ◌∙◌}
-use Rattle.std.proofs.lemmas.Result.{err_from_is_err_and}
 use Rattle.rob_syntax.specs.Seen.{seen_line}
 use Rattle.rob_syntax.proofs.Fronts.PartLemmas.{refused_with}
 use Rattle.rob_syntax.proofs.Fronts.StatementLemmas.{statement_read, statement_cause, not_line, not_few}
 use Rattle.rob_syntax.proofs.indexed.statement.read_statement.Goals as goal
 
 pub returns-in_err-statement : goal.returns-in_err-statement
-returns-in_err-statement c =
-    record {
-      read =
-          let p = err_from_is_err_and c.from_residual.result c.from_residual.ensures.1 in
-          refused_with c.from_residual.result _ _ c.in_err-statement.field-0.0 p.0 p.1 p.2
-          (statement_cause (seen_line c.args.symbols.now) c.in_err-statement.field-0.0 c.in_err-statement.ensures.read);
-    }
+returns-in_err-statement c = record {
+  read =
+      refused_with _ _ _ _ c.from_residual.ensures.1
+      (statement_cause (seen_line c.args.symbols.now) c.in_err-statement.field-0.0 c.in_err-statement.ensures.read);
+}
 
 pub returns-else-is_line : goal.returns-else-is_line
 returns-else-is_line c = record { read = not_line c.in_ok-statement.ensures.read c.if-is_line.ensures.line }
