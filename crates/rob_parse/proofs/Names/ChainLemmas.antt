@@ -1,6 +1,7 @@
 -- The statements of a model's text are one behind another, each as a reader makes it.
-use Rattle.std.proofs.Common.{ℕ, List, length}
+use Rattle.std.proofs.Common.{◌≡◌, ◌≤◌, ◌-◌, ◌^◌, ℕ, ℤ, pos, nat_abs, to_z, of_z, w64, List, length, subst}
 use Rattle.rob_meaning.specs.RobustModel.{RobustModel}
+use Rattle.rob_number.proofs.CastLemmas.{limit_seen}
 use Rattle.rob_syntax.specs.declared.syntax.Statement.{Statement}
 use Rattle.rob_rules.specs.Chains.{Chain}
 use Rattle.rob_rules.specs.Scopes.{Earlier, start}
@@ -19,3 +20,10 @@ model_chain limit text m read = text_chain limit text read.words read.list read.
 -- its words are different words
 pub model_words : (limit : ℕ) (text : List ℕ) (m : RobustModel) (read : ReadsModel limit text m) → AreWords read.words
 model_words limit text m read = text_words limit text read.words read.list read.known read.reads
+
+-- what is read within a limit as code has it is read within the limit
+pub read_within : {bound : ℤ} {limit : ℕ} {text : List ℕ} {words : List (List ℕ)} {list : List Statement}
+    {known : Earlier} → bound ≡ pos limit → limit ≤ 2 ^ 62 - 1
+    → Reads (nat_abs (to_z w64 (of_z w64 bound))) text words list known → Reads limit text words list known
+read_within {bound} {limit} {text} {words} {list} {known} is high read =
+    subst (λ k. Reads k text words list known) (limit_seen bound limit is high) read

@@ -6,7 +6,6 @@ use Rattle.rob_parse.specs.Building.{FitsStatement}
 use Rattle.rob_syntax.specs.Known.{texts}
 use Rattle.rob_parse.specs.Models.{goal_in, model_of, parameters}
 use Rattle.std.specs.List.{flat_map}
-use Rattle.rob_rules.specs.Texts.{Reads}
 use Rattle.rob_rules.specs.Scopes.{earlier_of, start}
 use Rattle.rob_parse.proofs.Degrees.FitLemmas.{all_fit, goal_there}
 use Rattle.rob_model.specs.View.{robust}
@@ -14,18 +13,13 @@ use Rattle.rob_parse.specs.Modelled.{ReadsModel}
 use Rattle.rob_parse.proofs.Sizes.LimitLemmas.{within_limits}
 use Rattle.rob_parse.proofs.Building.PlacedLemmas.{well_formed}
 use Rattle.rob_parse.proofs.Sets.RoomLemmas.{has_room, written_count_is}
-use Rattle.rob_parse.proofs.Names.ChainLemmas.{reads_chain}
+use Rattle.rob_parse.proofs.Names.ChainLemmas.{read_within, reads_chain}
 use Rattle.rob_parse.proofs.Names.WellNamed.{well_named}
-use Rattle.rob_number.proofs.CastLemmas.{limit_seen}
 use Rattle.rob_parse.proofs.model.read_model.Goals as goal
 
 pub model-requires-clause-fits : goal.model-requires-clause-fits
 model-requires-clause-fits g c =
-    let read =
-    subst (λ k. Reads k c.args.text.now (texts c.in-Ok.found.words.keys) c.in-Ok.found.list
-    (earlier_of c.in-Ok.found.scope))
-    (limit_seen _ g.N.Exact.limit (c.LIMIT.ensures ∙ g.met.N.Exact.limit_told) g.met.N.Exact.limit_high)
-    c.in-Ok.ensures.read in
+    let read = read_within (c.LIMIT.ensures ∙ g.met.N.Exact.limit_told) g.met.N.Exact.limit_high c.in-Ok.ensures.read in
     let words = texts c.in-Ok.found.words.keys in
     let known = earlier_of c.in-Ok.found.scope in
     subst (Each (FitsStatement g.N.Exact.limit)) (sym c.items-list.ensures.list)
@@ -34,11 +28,7 @@ model-requires-clause-fits g c =
 
 pub model-requires-clause-goal : goal.model-requires-clause-goal
 model-requires-clause-goal g c =
-    let read =
-    subst (λ k. Reads k c.args.text.now (texts c.in-Ok.found.words.keys) c.in-Ok.found.list
-    (earlier_of c.in-Ok.found.scope))
-    (limit_seen _ g.N.Exact.limit (c.LIMIT.ensures ∙ g.met.N.Exact.limit_told) g.met.N.Exact.limit_high)
-    c.in-Ok.ensures.read in
+    let read = read_within (c.LIMIT.ensures ∙ g.met.N.Exact.limit_told) g.met.N.Exact.limit_high c.in-Ok.ensures.read in
     let words = texts c.in-Ok.found.words.keys in
     let known = earlier_of c.in-Ok.found.scope in
     subst (λ (l : List Statement). IsSome (goal_in l)) (sym c.items-list.ensures.list)
@@ -47,21 +37,13 @@ model-requires-clause-goal g c =
 
 pub model-requires-clause-room : goal.model-requires-clause-room
 model-requires-clause-room g c =
-    let read =
-    subst (λ k. Reads k c.args.text.now (texts c.in-Ok.found.words.keys) c.in-Ok.found.list
-    (earlier_of c.in-Ok.found.scope))
-    (limit_seen _ g.N.Exact.limit (c.LIMIT.ensures ∙ g.met.N.Exact.limit_told) g.met.N.Exact.limit_high)
-    c.in-Ok.ensures.read in
+    let read = read_within (c.LIMIT.ensures ∙ g.met.N.Exact.limit_told) g.met.N.Exact.limit_high c.in-Ok.ensures.read in
     has_room g.N.Exact.limit c.args.text.now (texts c.in-Ok.found.words.keys) c.in-Ok.found.list c.in-Ok.found.scope
     read
 
 pub model-requires-clause-count : goal.model-requires-clause-count
 model-requires-clause-count g c =
-    let read =
-    subst (λ k. Reads k c.args.text.now (texts c.in-Ok.found.words.keys) c.in-Ok.found.list
-    (earlier_of c.in-Ok.found.scope))
-    (limit_seen _ g.N.Exact.limit (c.LIMIT.ensures ∙ g.met.N.Exact.limit_told) g.met.N.Exact.limit_high)
-    c.in-Ok.ensures.read in
+    let read = read_within (c.LIMIT.ensures ∙ g.met.N.Exact.limit_told) g.met.N.Exact.limit_high c.in-Ok.ensures.read in
     subst (λ (l : List Statement).
     c.in-Ok.found.scope.sizes.parameters ≡ length (flat_map (parameters (texts c.in-Ok.found.words.keys)) l))
     (sym c.items-list.ensures.list)
@@ -70,11 +52,7 @@ model-requires-clause-count g c =
 
 pub returns-in-Ok-model-clause-read : goal.returns-in-Ok-model-clause-read
 returns-in-Ok-model-clause-read g c =
-    let read =
-    subst (λ k. Reads k c.args.text.now (texts c.in-Ok.found.words.keys) c.in-Ok.found.list
-    (earlier_of c.in-Ok.found.scope))
-    (limit_seen _ g.N.Exact.limit (c.LIMIT.ensures ∙ g.met.N.Exact.limit_told) g.met.N.Exact.limit_high)
-    c.in-Ok.ensures.read in
+    let read = read_within (c.LIMIT.ensures ∙ g.met.N.Exact.limit_told) g.met.N.Exact.limit_high c.in-Ok.ensures.read in
     record {
       words = texts c.in-Ok.found.words.keys;
       list = c.in-Ok.found.list;
