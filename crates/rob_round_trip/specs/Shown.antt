@@ -1,55 +1,23 @@
 -- A statement of the reader as a plain statement of rob_index: each name is the bytes of its word.
 use Rattle.std.specs.Prelude.{◌≡◌, ℕ, List, map, Option, Some, None}
+use Rattle.std.specs.Option.{option_map}
 use Rattle.rob_index.specs.Statements as plain
 use Rattle.rob_parse.specs.Models.{word_of}
 use Rattle.rob_syntax.specs.Trees.{Tree, number, name, sum, product, Summands, no_summands, summand, Operands, no_operands, operand, tree_of}
+use Rattle.rob_syntax.specs.Seen.{seen_numeral, seen_signed, seen_bounds, seen_rel, seen_sense}
 use Rattle.rob_syntax.specs.Symbols.{number_of}
 use Rattle.rob_syntax.specs.declared.symbol.Symbol.{Symbol}
 use Rattle.rob_syntax.specs.declared.symbol.Symbol.TheVariants.{Name}
-use Rattle.rob_syntax.specs.declared.syntax.Bounds.{Bounds}
-use Rattle.rob_syntax.specs.declared.syntax.Bounds.TheVariants.{Between, AtLeast, AtMost}
 use Rattle.rob_syntax.specs.declared.syntax.Member.{Member}
-use Rattle.rob_syntax.specs.declared.syntax.Numeral.{Numeral}
-use Rattle.rob_syntax.specs.declared.syntax.Rel.{Rel}
-use Rattle.rob_syntax.specs.declared.syntax.Rel.TheVariants as rel
 use Rattle.rob_syntax.specs.declared.syntax.Relation.{Relation}
-use Rattle.rob_syntax.specs.declared.syntax.Sense.{Sense}
-use Rattle.rob_syntax.specs.declared.syntax.Sense.TheVariants as sense
-use Rattle.rob_syntax.specs.declared.syntax.Signed.{Signed}
 use Rattle.rob_syntax.specs.declared.syntax.Statement.{Statement}
 use Rattle.rob_syntax.specs.declared.syntax.Statement.TheVariants as parsed
-
--- digits, and the digits behind `/`
-abbrev pub shown_number : Numeral → plain.Numeral
-shown_number n = record { numerator = n.numerator; divisor = n.divisor }
-
--- a number with its sign
-abbrev pub shown_signed : Signed → plain.Signed
-shown_signed s = record { minus = s.minus; number = shown_number s.number }
-
--- bounds, where there are any
-abbrev pub shown_bounds : Option Bounds → Option plain.Bounds
-shown_bounds None = None
-shown_bounds (Some (Between both)) = Some (plain.between (shown_signed both.lower) (shown_signed both.upper))
-shown_bounds (Some (AtLeast a)) = Some (plain.at_least (shown_signed a))
-shown_bounds (Some (AtMost b)) = Some (plain.at_most (shown_signed b))
-
--- a relation
-abbrev pub shown_rel : Rel → plain.Rel
-shown_rel rel.AtMost = plain.at_most
-shown_rel rel.AtLeast = plain.at_least
-shown_rel rel.Equal = plain.equal
-
--- the sense of a goal
-abbrev pub shown_sense : Sense → plain.Sense
-shown_sense sense.Minimise = plain.minimise
-shown_sense sense.Maximise = plain.maximise
 
 module _ (words : List (List ℕ)) where
   abbrev mutual
     -- an expression
     pub shown_tree : Tree → plain.Plain
-    shown_tree (number n) = plain.number (shown_number n)
+    shown_tree (number n) = plain.number (seen_numeral n)
     shown_tree (name k) = plain.name (word_of words k)
     shown_tree (sum ts) = plain.sum (shown_parts ts)
     shown_tree (product fs) = plain.product (shown_factors fs)
@@ -71,25 +39,26 @@ module _ (words : List (List ℕ)) where
   abbrev pub shown_member : Member → plain.Member
   shown_member m = record {
     name = word_of words m.name;
-    centre = shown_signed m.spread.centre;
-    deviation = shown_number m.spread.deviation;
+    centre = seen_signed m.spread.centre;
+    deviation = seen_numeral m.spread.deviation;
   }
 
   -- two expressions and their relation, behind what a statement on the set and a row have in front
   abbrev pub shown_relation : (plain.Plain → plain.Rel → plain.Plain → Option plain.Name → plain.Statement)
       → Relation → plain.Statement
   shown_relation make r =
-      make (shown_tree (tree_of r.left)) (shown_rel r.rel) (shown_tree (tree_of r.right)) (shown_over r.over)
+      make (shown_tree (tree_of r.left)) (seen_rel r.rel) (shown_tree (tree_of r.right)) (shown_over r.over)
 
   -- a statement
   abbrev pub shown : Statement → plain.Statement
-  shown (parsed.Uncertain d) = plain.uncertain (word_of words d.name) (shown_bounds d.bounds)
+  shown (parsed.Uncertain d) = plain.uncertain (word_of words d.name) (option_map seen_bounds d.bounds)
   shown (parsed.Over k) = plain.over (word_of words k)
   shown (parsed.Set r) = shown_relation plain.set r
-  shown (parsed.Budget b) = plain.budget (shown_number b.limit) (map shown_member b.members) (shown_over b.over)
-  shown (parsed.Var d) = plain.variable (word_of words d.name) (shown_bounds d.bounds)
-  shown (parsed.Adaptive p) = plain.adaptive (word_of words p.name) (map (word_of words) p.on) (shown_bounds p.bounds)
-  shown (parsed.Goal g) = plain.goal (shown_sense g.sense) (shown_tree (tree_of g.objective)) (shown_over g.over)
+  shown (parsed.Budget b) = plain.budget (seen_numeral b.limit) (map shown_member b.members) (shown_over b.over)
+  shown (parsed.Var d) = plain.variable (word_of words d.name) (option_map seen_bounds d.bounds)
+  shown (parsed.Adaptive p) =
+      plain.adaptive (word_of words p.name) (map (word_of words) p.on) (option_map seen_bounds p.bounds)
+  shown (parsed.Goal g) = plain.goal (seen_sense g.sense) (shown_tree (tree_of g.objective)) (shown_over g.over)
   shown (parsed.Row r) = shown_relation (plain.row (word_of words r.name)) r.relation
 
 -- the symbol, where it is a name, is found again by the word of its number

@@ -17,28 +17,29 @@ use Rattle.rob_round_trip.proofs.Lengths.CountedLines.{line_counted}
 use Rattle.rob_round_trip.proofs.Lengths.LowLines.{line_shallow}
 use Rattle.rob_round_trip.specs.Lines.{AreReadable, CountsSetsFromOne, canonical_line}
 use Rattle.rob_round_trip.specs.Pages.{IsShallow, ended}
-use Rattle.rob_round_trip.specs.Shown.{shown, shown_bounds, shown_factors, shown_member, shown_over, shown_parts, shown_rel, shown_sense, shown_tree}
+use Rattle.rob_round_trip.specs.Shown.{shown, shown_factors, shown_member, shown_over, shown_parts, shown_tree}
 use Rattle.rob_rules.proofs.WalkLemmas.{part_is}
 use Rattle.rob_rules.specs.declared.sort.Sort.{Sort}
 use Rattle.rob_syntax.proofs.TreeLemmas.{name_is, number_is, product_is, sum_is}
 use Rattle.rob_syntax.specs.Numbered.{numbered, numbered_factors, numbered_member, numbered_over, numbered_parts, numbered_tree, own_bounds, own_numeral, own_rel, own_sense}
+use Rattle.rob_syntax.specs.Seen.{seen_bounds, seen_rel, seen_sense}
 use Rattle.rob_syntax.specs.Symbols.{number_of}
 use Rattle.rob_syntax.specs.Trees.{Part, operands_of, part_of, summand, summands_of, tree_of}
 use Rattle.rob_write.specs.Canonical.{Naming, Written, line_end}
 
 -- ---- with names for numbers again it is the plain statement, each name renamed
-bounds_again : (b : Option plain.Bounds) → shown_bounds (option_map own_bounds b) ≡ b
+bounds_again : (b : Option plain.Bounds) → option_map seen_bounds (option_map own_bounds b) ≡ b
 bounds_again None = refl
 bounds_again (Some (plain.between a b)) = refl
 bounds_again (Some (plain.at_least a)) = refl
 bounds_again (Some (plain.at_most b)) = refl
 
-rel_again : (r : plain.Rel) → shown_rel (own_rel r) ≡ r
+rel_again : (r : plain.Rel) → seen_rel (own_rel r) ≡ r
 rel_again plain.at_most = refl
 rel_again plain.at_least = refl
 rel_again plain.equal = refl
 
-sense_again : (s : plain.Sense) → shown_sense (own_sense s) ≡ s
+sense_again : (s : plain.Sense) → seen_sense (own_sense s) ≡ s
 sense_again plain.minimise = refl
 sense_again plain.maximise = refl
 

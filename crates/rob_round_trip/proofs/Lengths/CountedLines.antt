@@ -1,6 +1,7 @@
 -- The canonical line of a statement has as many tokens as rob_index counts for it, its line end among them.
 use Rattle.std.proofs.Common.{◌≡◌, ℕ, zero, suc, ◌+◌, ◌<◌, Bool, true, false, List, [], ◌∷◌, ◌++◌, length, map, refl, ap, ◌∙◌, arith, length-append}
 use Rattle.std.specs.Prelude.{Option, Some, None, if◌then◌else◌}
+use Rattle.std.specs.Option.{option_map}
 use Rattle.rob_index.specs.Counting.{bounds_tokens, factors_tokens, line_tokens, lines_tokens, member_tokens, members_tokens, names_tokens, over_tokens, parts_tokens, plain_tokens}
 use Rattle.rob_index.specs.Counting as counted
 use Rattle.rob_meaning.specs.Expressions as meaning
@@ -12,11 +13,12 @@ use Rattle.rob_round_trip.proofs.Lengths.CountedNumbers.{number_counted, signed_
 use Rattle.rob_round_trip.specs.Lines.{AreReadable, AreReadableSides, CountsSetsFromOne, canonical_line}
 use Rattle.rob_round_trip.specs.Pages.{ended}
 use Rattle.rob_round_trip.specs.Readable.{FactorsReadable, IsReadable, TermsReadable}
-use Rattle.rob_round_trip.specs.Shown.{shown, shown_bounds, shown_factors, shown_member, shown_over, shown_parts, shown_tree}
+use Rattle.rob_round_trip.specs.Shown.{shown, shown_factors, shown_member, shown_over, shown_parts, shown_tree}
 use Rattle.rob_rules.specs.Degrees.{sort_at}
 use Rattle.rob_rules.specs.declared.sort.Sort.{Sort}
 use Rattle.rob_rules.specs.declared.sort.Sort.TheVariants as sort
 use Rattle.rob_rules.specs.declared.sort.Sort.TheVariants.{Decision, Parameter, Policy, RowName}
+use Rattle.rob_syntax.specs.Seen.{seen_bounds}
 use Rattle.rob_syntax.specs.Trees.{Operands, Summands, Tree, name, no_operands, no_summands, number, operand, product, sum, summand, tree_of}
 use Rattle.rob_syntax.specs.declared.symbol.Keyword.TheVariants as word
 use Rattle.rob_syntax.specs.declared.symbol.Mark.TheVariants as mark
@@ -49,7 +51,7 @@ module _ (limit : ℕ) where
   comma_length false = refl
 
   bounds_counted : (b : Option Bounds) → FitsBounds limit b
-      → length (bound_words (lower_bound b) (upper_bound b)) ≡ bounds_tokens limit (shown_bounds b)
+      → length (bound_words (lower_bound b) (upper_bound b)) ≡ bounds_tokens limit (option_map seen_bounds b)
   bounds_counted None h = refl
   bounds_counted (Some (AtLeast a)) h = omega (arith, signed_counted limit a h)
   bounds_counted (Some (AtMost b)) h = omega (arith, signed_counted limit b h)

@@ -11,7 +11,7 @@ use Rattle.rob_meaning.specs.Values.{signed as with_sign}
 use Rattle.rob_parse.specs.Building.{FitsNumber}
 use Rattle.rob_parse.specs.Models.{fraction, signed_fraction}
 use Rattle.rob_round_trip.proofs.Written.ReadableLemmas.{pair_plain}
-use Rattle.rob_round_trip.specs.Shown.{shown_number, shown_signed}
+use Rattle.rob_syntax.specs.Seen.{seen_numeral, seen_signed}
 use Rattle.rob_syntax.specs.declared.symbol.Mark.TheVariants as mark
 use Rattle.rob_syntax.specs.declared.syntax.Numeral.{Numeral}
 use Rattle.rob_syntax.specs.declared.syntax.Signed.{Signed}
@@ -120,13 +120,13 @@ divisor_within limit (Some d) h some = grind (arith, nat_tests)
 both_true : (a b : Bool) → a ≡ true → b ≡ true → (a && b) ≡ true
 both_true a b h k = cc
 
-pub does_fit : (limit : ℕ) (n : Numeral) → FitsNumber limit n → fits limit (shown_number n) ≡ true
+pub does_fit : (limit : ℕ) (n : Numeral) → FitsNumber limit n → fits limit (seen_numeral n) ≡ true
 does_fit limit n h =
     both_true _ _ (within limit n.numerator h.numerator) (divisor_within limit n.divisor h.divisor h.positive)
 
 -- the digits and what stands behind them
 digits_counted : (limit : ℕ) (n : Numeral) → FitsNumber limit n
-    → 1 + length (divisor_words (fraction n).den) ≡ number_tokens limit (shown_number n)
+    → 1 + length (divisor_words (fraction n).den) ≡ number_tokens limit (seen_numeral n)
 digits_counted limit n h = go n.divisor (does_fit limit n h) h.positive
   where
     go : (d : Option ℕ) → fits limit (record { numerator = n.numerator; divisor = d }) ≡ true → 0 < unwrap_or d 1
@@ -139,7 +139,7 @@ digits_counted limit n h = go n.divisor (does_fit limit n h) h.positive
         ∙ sym (ap (λ (b : Bool). if b && (n.numerator % d == 0) then 1 else 3) f)
 
 pub number_counted : (limit : ℕ) (n : Numeral) → FitsNumber limit n
-    → length (number_words (fraction n)) ≡ number_tokens limit (shown_number n)
+    → length (number_words (fraction n)) ≡ number_tokens limit (seen_numeral n)
 number_counted limit n h =
     let q = fraction n in
     let none = ap (λ (b : Bool). length (minus_words b)) (pair_plain n.numerator (unwrap_or n.divisor 1)) in
@@ -162,7 +162,7 @@ opposite (suc m) = grind (arith, nat_tests)
 
 minus_counted : (limit : ℕ) (n : Numeral) → FitsNumber limit n
     → length (minus_words (int_lt (neg_ℚ (fraction n)).num (pos 0)))
-    ≡ minus_tokens limit (record { minus = true; number = shown_number n })
+    ≡ minus_tokens limit (record { minus = true; number = seen_numeral n })
 minus_counted limit n h =
     let q = fraction n in
     let size = nat_abs q.num in
@@ -174,11 +174,11 @@ minus_counted limit n h =
     ∙ sym (ap (λ (b : Bool). if not (b && (n.numerator == 0)) then 1 else 0) (does_fit limit n h))
 
 pub signed_counted : (limit : ℕ) (s : Signed) → FitsNumber limit s.number
-    → length (number_words (signed_fraction s)) ≡ signed_tokens limit (shown_signed s)
+    → length (number_words (signed_fraction s)) ≡ signed_tokens limit (seen_signed s)
 signed_counted limit s h = go s.minus
   where
     go : (minus : Bool) → length (number_words (with_sign minus (fraction s.number)))
-        ≡ signed_tokens limit (record { minus = minus; number = shown_number s.number })
+        ≡ signed_tokens limit (record { minus = minus; number = seen_numeral s.number })
     go true =
         let q = neg_ℚ (fraction s.number) in
         omega (
