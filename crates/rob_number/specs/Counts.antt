@@ -37,3 +37,13 @@ pub record CountsWide {S T E : Type 0} (ops_of wides_of : S → ℕ) (before now
 pub record NeverFell {S : Type 0} (ops_of wides_of : S → ℕ) (before now : S) : Type 0 where
   pub ops : ops_of before ≤ ops_of now
   pub wides : wides_of before ≤ wides_of now
+
+-- of the two counts, the operations never fell, and the wide results stand
+pub record CountsOnly {S : Type 0} (ops_of wides_of : S → ℕ) (before now : S) : Type 0 where
+  pub ops : ops_of before ≤ ops_of now
+  pub wides : wides_of now ≡ wides_of before
+
+-- of the two counts, neither fell, and the wide results rose where the call refused
+pub record CountsTold {S T E : Type 0} (ops_of wides_of : S → ℕ) (before now : S) (result : Result T E) : Type 0 where
+  pub ops : ops_of before ≤ ops_of now
+  pub told : Told (wides_of before) (wides_of now) result
