@@ -4,7 +4,6 @@ pub mod BoundRowLemmas
 pub mod BudgetLemmas
 pub mod CellLemmas
 pub mod ClearingSteps
-pub mod CountLemmas
 pub mod DegreeLemmas
 pub mod DifferenceLemmas
 pub mod EntryLemmas

@@ -4,7 +4,7 @@ use Rattle.std.specs.Prelude.{◌<◌, zero, length, refl}
 use Rattle.rob_meaning.specs.WellFormed.{IsExpression}
 use Rattle.rob_model.specs.View.{adaptive_of, robust}
 use Rattle.rob_model.specs.declared.expr.Expr.TheVariants as Is
-use Rattle.rob_sets.proofs.CountLemmas.{later}
+use Rattle.rob_number.proofs.CountLemmas.{later}
 use Rattle.rob_sets.proofs.ItemLemmas.{drop_item, drop_over, item_inside}
 use Rattle.rob_sets.proofs.LeafLemmas.{adaptive_is}
 use Rattle.rob_sets.proofs.ProgressLemmas.{begins, so_many}

@@ -9,7 +9,7 @@ use Rattle.rob_meaning.specs.Places.{Each, tabulate}
 use Rattle.rob_meaning.proofs.EachLemmas.{each_push}
 use Rattle.rob_sets.specs.FirstWide.{Some_of}
 use Rattle.rob_sets.specs.Tables.{numbers_of}
-use Rattle.rob_sets.proofs.CountLemmas.{later}
+use Rattle.rob_number.proofs.CountLemmas.{later}
 use Rattle.rob_sets.proofs.StopLemmas.{stops_more}
 use Rattle.rob_elab.specs.Forms.{MatrixFits, rows_of}
 use Rattle.rob_elab.proofs.RowLemmas.{mapped_more, some_row}

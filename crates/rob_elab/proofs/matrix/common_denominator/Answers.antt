@@ -3,7 +3,7 @@ use Rattle.std.specs.Prelude.{◌≡◌}
 use Rattle.rob_meaning.proofs.ClearingLemmas.{denominator_pos}
 use Rattle.rob_meaning.specs.Clearing.{denominator, entries}
 use Rattle.rob_sets.specs.Tables.{numbers_of}
-use Rattle.rob_sets.proofs.CountLemmas.{later}
+use Rattle.rob_number.proofs.CountLemmas.{later}
 use Rattle.rob_elab.specs.Forms.{rows_of}
 use Rattle.rob_elab.proofs.RowLemmas.{rows_more, rows_wide}
 use Rattle.rob_elab.proofs.matrix.common_denominator.Goals as goal

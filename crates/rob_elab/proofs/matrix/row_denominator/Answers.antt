@@ -6,7 +6,7 @@ use Rattle.rob_meaning.specs.Clearing.{denominator}
 use Rattle.rob_meaning.specs.Places.{tabulate}
 use Rattle.rob_sets.specs.Tables.{numbers_of}
 use Rattle.rob_sets.proofs.ClearingSteps.{common_first}
-use Rattle.rob_sets.proofs.CountLemmas.{later}
+use Rattle.rob_number.proofs.CountLemmas.{later}
 use Rattle.rob_elab.proofs.RowLemmas.{number_more, number_wide}
 use Rattle.rob_elab.proofs.matrix.row_denominator.Goals as goal
 

@@ -2,7 +2,7 @@ use Rattle.std.proofs.Common.{arith}
 use Rattle.rob_meaning.specs.RobustModel.{Row}
 use Rattle.rob_meaning.specs.WellFormed.{IsExpression}
 use Rattle.rob_model.specs.View.{robust, row_of}
-use Rattle.rob_sets.proofs.CountLemmas.{later}
+use Rattle.rob_number.proofs.CountLemmas.{later}
 use Rattle.rob_sets.proofs.ItemLemmas.{drop_item, drop_over, item_inside, item_is}
 use Rattle.rob_sets.proofs.ProgressLemmas.{begins, so_many}
 use Rattle.rob_elab.proofs.AppendLemmas.{forms_end, forms_go_on, forms_stop}

@@ -5,7 +5,7 @@ use Rattle.rob_model.specs.View.{robust}
 use Rattle.rob_sets.specs.SetForm.{judged_rows}
 use Rattle.rob_sets.specs.declared.set_form.SetRow.{SetRow}
 use Rattle.rob_sets.proofs.BoundRowLemmas.{bounds_at, bounds_end, bounds_many, length-declared, upper_at}
-use Rattle.rob_sets.proofs.CountLemmas.{later}
+use Rattle.rob_number.proofs.CountLemmas.{later}
 use Rattle.rob_sets.proofs.ItemLemmas.{drop_item, drop_over}
 use Rattle.rob_sets.proofs.AppendingLemmas.{appended_length}
 use Rattle.rob_sets.proofs.ProgressLemmas.{begins, ends, so_many}

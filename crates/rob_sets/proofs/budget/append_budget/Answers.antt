@@ -8,7 +8,7 @@ use Rattle.rob_model.specs.View.{member_of, parameter_of, robust}
 use Rattle.rob_sets.specs.Appending.{Appends}
 use Rattle.rob_sets.specs.SetForm.{judged_row, judged_rows}
 use Rattle.rob_sets.proofs.BudgetLemmas.{budget_many, down_at, members_at, members_end}
-use Rattle.rob_sets.proofs.CountLemmas.{later}
+use Rattle.rob_number.proofs.CountLemmas.{later}
 use Rattle.rob_sets.proofs.AppendingLemmas.{appended_length}
 use Rattle.rob_sets.proofs.ProgressLemmas.{begins, ends_with, so_many}
 use Rattle.rob_sets.proofs.RowSteps.{rows_go_on, rows_stop}

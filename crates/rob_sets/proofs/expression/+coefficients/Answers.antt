@@ -7,7 +7,7 @@ use Rattle.rob_meaning.specs.WellFormed.{IsInside}
 use Rattle.rob_model.specs.View.{robust, expression_of, signed_of, terms_of, factors_of, adaptive_of}
 use Rattle.rob_model.proofs.PartLemmas.{terms_at, factors_at, terms_inside, factors_inside}
 use Rattle.rob_sets.specs.Tables.{numbers_of}
-use Rattle.rob_sets.proofs.CountLemmas.{later}
+use Rattle.rob_number.proofs.CountLemmas.{later}
 use Rattle.rob_sets.proofs.DegreeLemmas.{apart, degree_left}
 use Rattle.rob_sets.proofs.JudgingLemmas.{judging_begins}
 use Rattle.rob_sets.proofs.LeafLemmas.{number_is, parameter_is, variable_is, adaptive_is, adaptive_in_is, sum_is, product_is, parameter_table, variable_table, few_variables}

@@ -5,7 +5,7 @@ use Rattle.rob_meaning.specs.WellFormed.{IsSetLine}
 use Rattle.rob_model.specs.View.{robust, set_line_of}
 use Rattle.rob_model.specs.declared.model.SetLine.{SetLine as SetLineData}
 use Rattle.rob_sets.specs.SetForm.{judged_statements}
-use Rattle.rob_sets.proofs.CountLemmas.{later}
+use Rattle.rob_number.proofs.CountLemmas.{later}
 use Rattle.rob_sets.proofs.ItemLemmas.{drop_item, drop_over, item_inside, item_is}
 use Rattle.rob_sets.proofs.AppendingLemmas.{appended_length}
 use Rattle.rob_sets.proofs.ProgressLemmas.{begins, ends, goes_on, so_many, stops}
