@@ -1,6 +1,5 @@
 pub mod Tables
 pub mod Dictionaries
-pub mod Counting
 pub mod Judging
 pub mod Pivots
 pub mod Phases

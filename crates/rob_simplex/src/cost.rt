@@ -5,7 +5,7 @@ ghost use Rattle.rob_linear.specs.Vectors.{at};
 ghost use Rattle.rob_linear.specs.Programs.{Program, with_cost};
 ghost use Rattle.rob_linear.specs.Stages.{truncated, unit_row};
 ghost use Rattle.rob_linear.specs.WideRows.{IsOwnWideAt, HasWideRowFrom};
-ghost use Rattle.rob_simplex.specs.Counting.{CountsRows};
+ghost use Rattle.rob_number.specs.Counts.{CountsOnly};
 ghost use Rattle.rob_rows.specs.PrimitiveParts.{IsWithin};
 ghost use Rattle.rob_simplex.specs.Dictionaries.{positions, width_of, columns_of, rows_of, IsAlone, IsSized};
 ghost use Rattle.rob_simplex.specs.Lowering.{IsLowered, IsWideLowered, amount_of, HasCleared, HasRefusedCost, HasWay};
@@ -56,7 +56,7 @@ impl<E: Entry> Dictionary<E> {
             ≡ rows_of self.old i c }
         ensures basis { self.new.basis ≡ self.old.basis }
         ensures sized { IsSized self.old self.new }
-        ensures counted { CountsRows L.ops L.wides ledger.old ledger.new }
+        ensures counted { CountsOnly L.ops L.wides ledger.old ledger.new }
     {
         let m = self.basis.len();
         let place = self.places[column];
@@ -95,7 +95,7 @@ impl<E: Entry> Dictionary<E> {
         ensures wide { OnErr result (HasRefusedCost self.old.limit self.old i column factor) }
         ensures basis { self.new.basis ≡ self.old.basis }
         ensures sized { IsSized self.old self.new }
-        ensures counted { CountsRows L.ops L.wides ledger.old ledger.new }
+        ensures counted { CountsOnly L.ops L.wides ledger.old ledger.new }
     {
         self.lower(column, factor, ledger)?;
         let m = self.basis.len();
@@ -123,7 +123,7 @@ impl<E: Entry> Dictionary<E> {
             → OnErr result (IsOwnWideAt self.old.limit P (columns_of self.old.basis) P.m) }
         ensures basis { self.new.basis ≡ self.old.basis }
         ensures sized { IsSized self.old self.new }
-        ensures counted { CountsRows L.ops L.wides ledger.old ledger.new }
+        ensures counted { CountsOnly L.ops L.wides ledger.old ledger.new }
     {
         let n = self.columns();
         let m = self.positions();
@@ -145,7 +145,7 @@ impl<E: Entry> Dictionary<E> {
             → OnErr result (IsOwnWideAt self.old.limit P (columns_of self.old.basis) P.m) }
         ensures basis { self.new.basis ≡ self.old.basis }
         ensures sized { IsSized self.old self.new }
-        ensures counted { CountsRows L.ops L.wides ledger.old ledger.new }
+        ensures counted { CountsOnly L.ops L.wides ledger.old ledger.new }
     {
         if factor == 0 {
             return Ok(());
@@ -168,7 +168,7 @@ impl<E: Entry> Dictionary<E> {
             → OnErr result (IsOwnWideAt self.old.limit (with_cost P (at cost.now)) (columns_of self.old.basis) P.m) }
         ensures basis { self.new.basis ≡ self.old.basis }
         ensures sized { IsSized self.old self.new }
-        ensures counted { CountsRows L.ops L.wides ledger.old ledger.new }
+        ensures counted { CountsOnly L.ops L.wides ledger.old ledger.new }
     {
         self.drop_cost();
         for k in 0..cost.len() {
@@ -204,7 +204,7 @@ impl<E: Entry> Dictionary<E> {
             halt.position) }
         ensures position { IfErr result (λ halt. halt.position ≤ positions self.old) }
         ensures sized { IsSized self.old self.new }
-        ensures counted { CountsRows L.ops L.wides ledger.old ledger.new }
+        ensures counted { CountsOnly L.ops L.wides ledger.old ledger.new }
     {
         match self.put_on(cost, ledger) {
             Ok(()) => self.improve_and_judge::<N, L>(ledger),

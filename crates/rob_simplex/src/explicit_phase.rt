@@ -3,7 +3,7 @@
 
 ghost use Rattle.std.specs.Prelude.{◌≡◌, ◌≤◌, IfOk, IfErr, MatchResult};
 ghost use Rattle.rob_linear.specs.Programs.{Program};
-ghost use Rattle.rob_simplex.specs.Counting.{CountsRows};
+ghost use Rattle.rob_number.specs.Counts.{CountsOnly};
 ghost use Rattle.rob_simplex.specs.Dictionaries.{positions, columns_of, IsSized};
 ghost use Rattle.rob_simplex.specs.Phases.{IsOpenBeside};
 ghost use Rattle.rob_simplex.specs.Explicit.{InExplicit, HasTurnedExplicit, FirstTurns, StopsFirst, turn_after};
@@ -39,7 +39,7 @@ impl<E: Entry> Dictionary<E> {
             (λ i. StopsFirst self.old.limit P (columns_of self.new.basis) i) }
         ensures position { IfErr result (λ i. i ≤ positions self.old) }
         ensures sized { IsSized self.old self.new }
-        ensures counted { CountsRows L.ops L.wides ledger.old ledger.new }
+        ensures counted { CountsOnly L.ops L.wides ledger.old ledger.new }
     {
         match self.bring_in(q, ledger) {
             Ok(()) => self.drive_out(ledger),
@@ -58,7 +58,7 @@ impl<E: Entry> Dictionary<E> {
             (λ i. StopsFirst self.old.limit P (columns_of self.new.basis) i) }
         ensures position { IfErr result (λ i. i ≤ positions self.old) }
         ensures sized { IsSized self.old self.new }
-        ensures counted { CountsRows L.ops L.wides ledger.old ledger.new }
+        ensures counted { CountsOnly L.ops L.wides ledger.old ledger.new }
     {
         let n = self.columns();
         let m = self.positions();
@@ -81,7 +81,7 @@ impl<E: Entry> Dictionary<E> {
             (λ i. StopsFirst self.old.limit P (columns_of self.new.basis) i) }
         ensures position { IfErr result (λ i. i ≤ positions self.old) }
         ensures sized { IsSized self.old self.new }
-        ensures counted { CountsRows L.ops L.wides ledger.old ledger.new }
+        ensures counted { CountsOnly L.ops L.wides ledger.old ledger.new }
     {
         'turns: loop {
             match self.turn_explicit(ledger) {
@@ -108,7 +108,7 @@ impl<E: Entry> Dictionary<E> {
             → StopsFirst self.old.limit P (columns_of self.new.basis) i) }
         ensures position { IfErr result (λ i. i ≤ positions self.old) }
         ensures sized { IsSized self.old self.new }
-        ensures counted { CountsRows L.ops L.wides ledger.old ledger.new }
+        ensures counted { CountsOnly L.ops L.wides ledger.old ledger.new }
     {
         let m = self.basis.len();
         let Some(column) = self.first_negative(m) else {

@@ -3,7 +3,7 @@
 
 ghost use Rattle.std.specs.Prelude.{◌≤◌, ◌+◌, IfOk, IfErr, MatchResult};
 ghost use Rattle.rob_linear.specs.Programs.{Program};
-ghost use Rattle.rob_simplex.specs.Counting.{CountsRows};
+ghost use Rattle.rob_number.specs.Counts.{CountsOnly};
 ghost use Rattle.rob_simplex.specs.Dictionaries.{positions, columns_of, rows_of, FirstNegative, IsSized};
 ghost use Rattle.rob_simplex.specs.Phases.{InBeside, HasTurnedBeside, IsOpenBeside, EndsBeside};
 ghost use Rattle.rob_simplex.specs.Starts.{IsStartingTable};
@@ -44,7 +44,7 @@ impl<E: Entry> Dictionary<E> {
             (λ i. StopsFirst self.old.limit P (columns_of self.new.basis) i) }
         ensures position { IfErr result (λ i. i ≤ positions self.old) }
         ensures sized { IsSized self.old self.new }
-        ensures counted { CountsRows L.ops L.wides ledger.old ledger.new }
+        ensures counted { CountsOnly L.ops L.wides ledger.old ledger.new }
     {
         match self.first_turns(ledger) {
             Ok(FirstEnding::Feasible) => {
@@ -67,7 +67,7 @@ impl<E: Entry> Dictionary<E> {
             (λ i. StopsFirst self.old.limit P (columns_of self.new.basis) i) }
         ensures position { IfErr result (λ i. i ≤ positions self.old) }
         ensures sized { IsSized self.old self.new }
-        ensures counted { CountsRows L.ops L.wides ledger.old ledger.new }
+        ensures counted { CountsOnly L.ops L.wides ledger.old ledger.new }
     {
         let Some(q) = self.least() else {
             return Ok(FirstEnding::Feasible);
@@ -84,7 +84,7 @@ impl<E: Entry> Dictionary<E> {
         requires stands { (P : Program) × InBeside P q self.old }
         ensures ended { (P : Program) → InBeside P q self.old → EndsBeside P q result self.new }
         ensures sized { IsSized self.old self.new }
-        ensures counted { CountsRows L.ops L.wides ledger.old ledger.new }
+        ensures counted { CountsOnly L.ops L.wides ledger.old ledger.new }
     {
         'turns: loop {
             let Some(column) = self.first_negative(q) else {
@@ -114,7 +114,7 @@ impl<E: Entry> Dictionary<E> {
         ensures opened { IfErr result (λ i. (P : Program) → InBeside P q self.old
             → IsOpenBeside P q self.new) }
         ensures sized { IsSized self.old self.new }
-        ensures counted { CountsRows L.ops L.wides ledger.old ledger.new }
+        ensures counted { CountsOnly L.ops L.wides ledger.old ledger.new }
     {
         let m = self.basis.len();
         self.negate(q);

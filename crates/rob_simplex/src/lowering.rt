@@ -6,7 +6,7 @@
 ghost use Rattle.std.specs.Prelude.{◌≡◌, ◌≢◌, ◌⊎◌, ◌<◌, ◌≤◌, ◌+◌, ◌*◌, ◌^◌, ◌*ℤ◌, ℕ, suc, nat_abs, length, OnOk, OnErr};
 ghost use Rattle.rob_linear.specs.Vectors.{at};
 ghost use Rattle.rob_entries.specs.Updates.{IsMultipleOf};
-ghost use Rattle.rob_simplex.specs.Counting.{CountsRows};
+ghost use Rattle.rob_number.specs.Counts.{CountsOnly};
 ghost use Rattle.rob_simplex.specs.Tables.{row_at, HasBounds, IsUnchangedBut};
 ghost use Rattle.rob_simplex.specs.Lowering.{CanLower, IsLowered, IsWideLowered, step_row};
 
@@ -146,7 +146,7 @@ pub fn lower_row<E: Entry, L: Ledger>(
     ensures wide { OnErr result (IsWideLowered E.top (there.n + 4) there.place
         (factor *ℤ row_at rows.old (there.n + 4) there.row (there.n + 3)) (row_at rows.old (there.n + 4) there.row)) }
     ensures size { length pivot_row.new.entries ≡ there.n + 4 }
-    ensures counted { CountsRows L.ops L.wides ledger.old ledger.new }
+    ensures counted { CountsOnly L.ops L.wides ledger.old ledger.new }
 {
     let width = there.n + 4;
     let _ = rows.len();

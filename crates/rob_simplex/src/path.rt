@@ -4,7 +4,7 @@ ghost use Rattle.std.specs.Prelude.{◌<◌, ◌≤◌, IfErr, MatchResult};
 ghost use Rattle.rob_linear.specs.Programs.{Program};
 ghost use Rattle.rob_linear.specs.Paths.{Last};
 ghost use Rattle.rob_linear.specs.WideRows.{HasWideRow};
-ghost use Rattle.rob_simplex.specs.Counting.{CountsRows};
+ghost use Rattle.rob_number.specs.Counts.{CountsOnly};
 ghost use Rattle.rob_simplex.specs.Dictionaries.{positions, columns_of, IsSized};
 ghost use Rattle.rob_simplex.specs.Starts.{IsStartingTable};
 ghost use Rattle.rob_simplex.specs.Phases.{InSecond};
@@ -45,7 +45,7 @@ impl<E: Entry> Dictionary<E> {
             (λ halt. HaltsAt (Last P) (InSecond P) N.limit P halt.position halt.cause self.new) }
         ensures position { IfErr result (λ halt. halt.position ≤ positions self.old) }
         ensures sized { IsSized self.old self.new }
-        ensures counted { CountsRows L.ops L.wides ledger.old ledger.new }
+        ensures counted { CountsOnly L.ops L.wides ledger.old ledger.new }
     {
         match self.first_phase(ledger) {
             Ok(FirstEnding::Feasible) => self.improve_to_end::<N, L>(ledger),
@@ -73,7 +73,7 @@ impl<E: Entry> Dictionary<E> {
             → IfErr result (λ halt. PathStops N.limit P self.new halt.position) }
         ensures position { IfErr result (λ halt. halt.position ≤ positions self.old) }
         ensures sized { IsSized self.old self.new }
-        ensures counted { CountsRows L.ops L.wides ledger.old ledger.new }
+        ensures counted { CountsOnly L.ops L.wides ledger.old ledger.new }
     {
         match cause {
             Cause::Turn(row) => self.follow_second::<N, L>(row, ledger),
@@ -100,7 +100,7 @@ impl<E: Entry> Dictionary<E> {
             → IfErr result (λ halt. PathStops N.limit P self.new halt.position) }
         ensures position { IfErr result (λ halt. halt.position ≤ positions self.old) }
         ensures sized { IsSized self.old self.new }
-        ensures counted { CountsRows L.ops L.wides ledger.old ledger.new }
+        ensures counted { CountsOnly L.ops L.wides ledger.old ledger.new }
     {
         match self.end_turn(row, ledger) {
             Ok(()) => self.improve_to_end::<N, L>(ledger),
@@ -125,7 +125,7 @@ impl<E: Entry> Dictionary<E> {
             (λ halt. HaltsAt (Last P) (InSecond P) N.limit P halt.position halt.cause self.new) }
         ensures position { IfErr result (λ halt. halt.position ≤ positions self.old) }
         ensures sized { IsSized self.old self.new }
-        ensures counted { CountsRows L.ops L.wides ledger.old ledger.new }
+        ensures counted { CountsOnly L.ops L.wides ledger.old ledger.new }
     {
         match self.improve_and_judge::<N, L>(ledger) {
             Ok(None) => Ok(Ending::Optimal),

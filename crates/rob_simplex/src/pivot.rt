@@ -2,7 +2,7 @@
 
 ghost use Rattle.std.specs.Prelude.{◌≡◌, ◌≤◌, ℕ, nat_abs, set, OnOk, IfErr};
 ghost use Rattle.rob_simplex.specs.Begun.{IsBroken};
-ghost use Rattle.rob_simplex.specs.Counting.{CountsRows};
+ghost use Rattle.rob_number.specs.Counts.{CountsOnly};
 ghost use Rattle.rob_simplex.specs.Dictionaries.{positions, rows_of, IsBegunPivot, ClearsTable, StopsTable, IsSized};
 ghost use Rattle.rob_simplex.specs.Pivots.{CanClear, CanPivot, HasPivoted, RefusesPivot};
 
@@ -27,7 +27,7 @@ impl<E: Entry> Dictionary<E> {
             column i) }
         ensures basis { self.new.basis ≡ self.old.basis }
         ensures sized { IsSized self.old self.new }
-        ensures counted { CountsRows L.ops L.wides ledger.old ledger.new }
+        ensures counted { CountsOnly L.ops L.wides ledger.old ledger.new }
     {
         let width = self.columns + 4;
         let start = row * width;
@@ -61,7 +61,7 @@ impl<E: Entry> Dictionary<E> {
         ensures refused { IfErr result (RefusesPivot self.old.limit count self.old row column) }
         ensures begun { IfErr result (λ i. IsBegunPivot self.old self.new row column) }
         ensures sized { IsSized self.old self.new }
-        ensures counted { CountsRows L.ops L.wides ledger.old ledger.new }
+        ensures counted { CountsOnly L.ops L.wides ledger.old ledger.new }
     {
         self.make_primitive(row);
         let spare = self.columns + self.basis.len() + 3;
@@ -92,7 +92,7 @@ impl<E: Entry> Dictionary<E> {
             ≤ self.new.limit }
         ensures basis { self.new.basis ≡ set self.old.basis row column }
         ensures sized { IsSized self.old self.new }
-        ensures counted { CountsRows L.ops L.wides ledger.old ledger.new }
+        ensures counted { CountsOnly L.ops L.wides ledger.old ledger.new }
     {
         match self.pivot_or_open(row, column, count, ledger) {
             Ok(()) => Ok(()),

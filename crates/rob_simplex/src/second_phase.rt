@@ -5,7 +5,7 @@ ghost use Rattle.rob_linear.specs.Programs.{Program};
 ghost use Rattle.rob_linear.specs.Paths.{LastFrom};
 ghost use Rattle.rob_linear.specs.WideRows.{HasWideRowFrom};
 ghost use Rattle.rob_simplex.specs.Dictionaries.{positions, columns_of, IsSized};
-ghost use Rattle.rob_simplex.specs.Counting.{CountsRows};
+ghost use Rattle.rob_number.specs.Counts.{CountsOnly};
 ghost use Rattle.rob_simplex.specs.Phases.{StandsFor, HasTurned, HasRefused, EndsFrom};
 ghost use Rattle.rob_simplex.specs.Judging.{Tells};
 ghost use Rattle.rob_simplex.specs.PathEnds.{PathStopsFrom};
@@ -39,7 +39,7 @@ impl<E: Entry> Dictionary<E> {
         ensures begun { IfErr result (λ halt. HasBegunAt (λ t. t ≡ self.old) halt.cause self.new) }
         ensures position { IfErr result (λ halt. halt.position ≤ positions self.old) }
         ensures sized { IsSized self.old self.new }
-        ensures counted { CountsRows L.ops L.wides ledger.old ledger.new }
+        ensures counted { CountsOnly L.ops L.wides ledger.old ledger.new }
     {
         let m = self.basis.len();
         let Some(column) = self.first_negative(m) else {
@@ -71,7 +71,7 @@ impl<E: Entry> Dictionary<E> {
             (λ halt. HasBegunAt (StandsFrom P (columns_of self.old.basis)) halt.cause self.new) }
         ensures position { IfErr result (λ halt. halt.position ≤ positions self.old) }
         ensures sized { IsSized self.old self.new }
-        ensures counted { CountsRows L.ops L.wides ledger.old ledger.new }
+        ensures counted { CountsOnly L.ops L.wides ledger.old ledger.new }
     {
         'turns: loop {
             match self.advance(ledger) {
@@ -102,7 +102,7 @@ impl<E: Entry> Dictionary<E> {
             N.limit P halt.position halt.cause self.new) }
         ensures position { IfErr result (λ halt. halt.position ≤ positions self.old) }
         ensures sized { IsSized self.old self.new }
-        ensures counted { CountsRows L.ops L.wides ledger.old ledger.new }
+        ensures counted { CountsOnly L.ops L.wides ledger.old ledger.new }
     {
         match self.improve(ledger) {
             Ok(growing) => match self.judge::<N>(growing) {

@@ -4,7 +4,7 @@ ghost use Rattle.std.specs.Prelude.{◌≡◌, ◌≢◌, ◌<◌, ◌+◌, ◌-
 ghost use Rattle.rob_linear.specs.Vectors.{at, Matrix};
 ghost use Rattle.rob_linear.specs.Multiples.{IsClearedBy};
 ghost use Rattle.rob_entries.specs.Updates.{AreOwn, IsWideCleared};
-ghost use Rattle.rob_simplex.specs.Counting.{CountsRows};
+ghost use Rattle.rob_number.specs.Counts.{CountsOnly};
 ghost use Rattle.rob_simplex.specs.Tables.{row_at, HasBounds, AreCleared, CanClearRows, IsStopped, IsUnchangedBut};
 
 use rob_entries::{Cells, Entry, PivotRow};
@@ -68,7 +68,7 @@ fn clear_other<E: Entry, L: Ledger>(
         × IsWideCleared E.top pivot.width pivot.place (row_at rows.old pivot.width i) (at pivot_row.old.entries)) }
     ensures unchanged { OnErr result (rows.new ≡ rows.old) }
     ensures same { pivot_row.new ≡ pivot_row.old }
-    ensures counted { CountsRows L.ops L.wides ledger.old ledger.new }
+    ensures counted { CountsOnly L.ops L.wides ledger.old ledger.new }
 {
     if i == pivot.row {
         return Ok(());
@@ -102,7 +102,7 @@ pub fn clear_rows<E: Entry, L: Ledger>(
         (at pivot_row.old.entries) (row_at rows.old pivot.width) (row_at rows.new pivot.width) i) }
     ensures bounded { HasBounds E.top pivot.width rows.new bounds.new }
     ensures same { pivot_row.new ≡ pivot_row.old }
-    ensures counted { CountsRows L.ops L.wides ledger.old ledger.new }
+    ensures counted { CountsOnly L.ops L.wides ledger.old ledger.new }
 {
     for i in 0..count {
         if let Err(_) = clear_other(rows, bounds, pivot_row, pivot, i, ledger) {

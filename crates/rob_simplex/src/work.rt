@@ -8,7 +8,7 @@ ghost use Rattle.rob_simplex.specs.Solutions.{point_of, ray_of, dual_of, value_o
 ghost use Rattle.rob_linear.specs.Vectors.{at};
 ghost use Rattle.rob_rows.specs.PrimitiveParts.{IsWithin};
 ghost use Rattle.rob_linear.specs.Programs.{Program, with_cost};
-ghost use Rattle.rob_simplex.specs.Counting.{CountsRows};
+ghost use Rattle.rob_number.specs.Counts.{CountsOnly};
 ghost use Rattle.rob_simplex.specs.Dictionaries.{width_of, columns_of, rows_of};
 ghost use Rattle.rob_algebra.specs.Width.{Fits};
 ghost use Rattle.rob_simplex.specs.Judging.{ratio_of, objective_column};
@@ -103,7 +103,7 @@ impl<N: Exact, E: Entry> Work<N, E> {
         ensures columns { self.new.columns ≡ self.old.columns }
         ensures positions { positions self.new ≡ positions self.old }
         ensures limit { self.new.limit ≡ self.old.limit }
-        ensures counted { CountsRows L.ops L.wides ledger.old ledger.new }
+        ensures counted { CountsOnly L.ops L.wides ledger.old ledger.new }
     {
         let ended = self.dictionary.follow::<N, L>(ledger);
         self.tell(ended)
@@ -123,7 +123,7 @@ impl<N: Exact, E: Entry> Work<N, E> {
         ensures columns { self.new.columns ≡ self.old.columns }
         ensures positions { positions self.new ≡ positions self.old }
         ensures limit { self.new.limit ≡ self.old.limit }
-        ensures counted { CountsRows L.ops L.wides ledger.old ledger.new }
+        ensures counted { CountsOnly L.ops L.wides ledger.old ledger.new }
     {
         let cause = self.cause();
         let ended = self.dictionary.follow_on::<N, L>(cause, ledger);
@@ -196,7 +196,7 @@ impl<N: Exact, E: Entry> Work<N, E> {
         ensures columns { self.new.columns ≡ self.old.columns }
         ensures positions { positions self.new ≡ positions self.old }
         ensures limit { self.new.limit ≡ self.old.limit }
-        ensures counted { CountsRows L.ops L.wides ledger.old ledger.new }
+        ensures counted { CountsOnly L.ops L.wides ledger.old ledger.new }
     {
         match self.dictionary.go_on::<N, L>(cost, ledger) {
             Ok(None) => {

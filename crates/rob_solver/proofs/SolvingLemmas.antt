@@ -14,8 +14,7 @@ use Rattle.rob_simplex.specs.Endings.{HasBegun, HasHalted, HasSolved, HasAnswere
 use Rattle.rob_simplex.specs.Explicit.{StopsFirst}
 use Rattle.rob_simplex.specs.Resuming.{CanResume}
 use Rattle.rob_simplex.specs.Solvers.{Solver, positions, HasPoint, HasWeights, IsMadeFor, StandsAs, has_stopped}
-use Rattle.rob_number.specs.Counts.{raised}
-use Rattle.rob_simplex.specs.Counting.{CountsRows}
+use Rattle.rob_number.specs.Counts.{CountsOnly, raised}
 use Rattle.rob_solver.specs.declared.solving.Stopped.{Stopped as Unsolved}
 use Rattle.rob_solver.specs.declared.solving.Stopped.TheVariants as unsolved
 use Rattle.rob_solver.specs.Depths.{narrow_limit, deep_limit}
@@ -113,7 +112,7 @@ pub caused_told : (limit : ℕ) (P : Program) (stop : LpStop) (s : Solver) → T
 caused_told limit P (Wide i) s w = inr w
 
 -- a refusal is counted once
-pub counts_refused : {S N : Type 0} (ops_of wides_of : S → ℕ) (a b c : S) → CountsRows ops_of wides_of a b
+pub counts_refused : {S N : Type 0} (ops_of wides_of : S → ℕ) (a b c : S) → CountsOnly ops_of wides_of a b
     → (r : Unsolved N) (solver : Solver) (stop : LpStop) → r ≡ unsolved.Wide solver stop
     → ops_of b ≤ ops_of c → wides_of c ≡ raised (wides_of b) → CountsSolving {N = N} ops_of wides_of a c (Err r)
 counts_refused ops_of wides_of a b c h r solver stop e up one = record {

@@ -6,7 +6,7 @@ ghost use Rattle.rob_linear.specs.Programs.{Program, with_cost};
 ghost use Rattle.rob_linear.specs.Vectors.{at};
 ghost use Rattle.rob_rows.specs.LinearPrograms.{HasNumbersWithin, program_of};
 ghost use Rattle.rob_rows.specs.PrimitiveParts.{IsWithin};
-ghost use Rattle.rob_simplex.specs.Counting.{CountsRows};
+ghost use Rattle.rob_number.specs.Counts.{CountsOnly};
 ghost use Rattle.rob_simplex.specs.Dictionaries.{columns_of};
 ghost use Rattle.rob_simplex.specs.Endings.{IsFresh, HasAnswered, HasBegun, HasHalted, HasSolved, HasStopped, IsCaused};
 ghost use Rattle.rob_simplex.specs.declared.state.State.TheVariants.{Stopped as At};
@@ -139,7 +139,7 @@ impl<N: Exact> Solver<N> {
         ensures columns { self.new.columns ≡ self.old.columns }
         ensures positions { positions self.new ≡ positions self.old }
         ensures limit { self.new.limit ≡ self.old.limit }
-        ensures counted { CountsRows L.ops L.wides ledger.old ledger.new }
+        ensures counted { CountsOnly L.ops L.wides ledger.old ledger.new }
     {
         match &mut self.depth {
             Depth::Narrow(work) => work.solve(ledger),
@@ -161,7 +161,7 @@ impl<N: Exact> Solver<N> {
         ensures columns { self.new.columns ≡ self.old.columns }
         ensures positions { positions self.new ≡ positions self.old }
         ensures limit { self.new.limit ≡ self.old.limit }
-        ensures counted { CountsRows L.ops L.wides ledger.old ledger.new }
+        ensures counted { CountsOnly L.ops L.wides ledger.old ledger.new }
     {
         match &mut self.depth {
             Depth::Narrow(work) => work.go_on(ledger),
@@ -186,7 +186,7 @@ impl<N: Exact> Solver<N> {
         ensures columns { self.new.columns ≡ self.old.columns }
         ensures positions { positions self.new ≡ positions self.old }
         ensures limit { self.new.limit ≡ self.old.limit }
-        ensures counted { CountsRows L.ops L.wides ledger.old ledger.new }
+        ensures counted { CountsOnly L.ops L.wides ledger.old ledger.new }
     {
         match &mut self.depth {
             Depth::Narrow(work) => work.resume(cost, ledger),

@@ -3,9 +3,8 @@
 ghost use Rattle.std.specs.Prelude.{◌≡◌, ◌+◌, ◌^◌, ◌<◌, ◌≤◌, length, IfOk, IfErr};
 ghost use Rattle.rob_linear.specs.Programs.{Program};
 ghost use Rattle.rob_rows.specs.LinearPrograms.{HasNumbersWithin, program_of};
-ghost use Rattle.rob_simplex.specs.Counting.{CountsRows};
 ghost use Rattle.rob_simplex.specs.Solvers.{StandsAs};
-ghost use Rattle.rob_number.specs.Counts.{raised};
+ghost use Rattle.rob_number.specs.Counts.{CountsOnly, raised};
 ghost use Rattle.rob_solver.specs.declared.solving.Stopped.TheVariants.{Memory as OutOfMemory, Wide};
 ghost use Rattle.rob_solver.specs.Depths.{deep_limit};
 ghost use Rattle.rob_solver.specs.Solving.{IsSolved, IsStopped, IsCausedDeep, IsBegun, ComesTo, CountsSolving};
@@ -88,7 +87,7 @@ fn solve_narrow<N: Exact, R: Rows, L: Ledger>(
     requires few { length (R.lp source.now).c + length (R.lp source.now).b < 2 ^ 31 }
     requires numbers { HasNumbersWithin N.limit (R.lp source.now) }
     ensures comes { IfOk result (ComesTo N.limit (program_of (R.lp source.now))) }
-    ensures counted { CountsRows L.ops L.wides ledger.old ledger.new }
+    ensures counted { CountsOnly L.ops L.wides ledger.old ledger.new }
 {
     let mut solver = Solver::narrow(alloc, source)?;
     match solver.solve(ledger) {

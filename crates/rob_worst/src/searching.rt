@@ -4,9 +4,8 @@ ghost use Rattle.std.specs.Prelude.{◌≡◌, ◌<◌, ℕ, Bool, List, length,
 ghost use Rattle.rob_algebra.specs.Fraction.{Fraction};
 ghost use Rattle.rob_meaning.specs.Forms.{matrices, form_columns};
 ghost use Rattle.rob_meaning.specs.RobustModel.{RobustModel};
-ghost use Rattle.rob_number.specs.Counts.{NeverFell};
+ghost use Rattle.rob_number.specs.Counts.{CountsOnly, NeverFell};
 ghost use Rattle.rob_sets.specs.SetForm.{IsSetForm};
-ghost use Rattle.rob_simplex.specs.Counting.{CountsRows};
 ghost use Rattle.rob_simplex.specs.Solvers.{positions};
 ghost use Rattle.rob_dualize.specs.SetSolving.{program_of_set, IsFewSet, IsSetOfModel, IsSolved};
 ghost use Rattle.rob_dualize.specs.Solving.{CountsStop};
@@ -44,7 +43,7 @@ pub fn go_on<N: Exact, L: Ledger>(
     ensures columns { solver.new.columns ≡ solver.old.columns }
     ensures positions { positions solver.new ≡ positions solver.old }
     ensures limit { solver.new.limit ≡ solver.old.limit }
-    ensures counted { CountsRows L.ops L.wides ledger.old ledger.new }
+    ensures counted { CountsOnly L.ops L.wides ledger.old ledger.new }
 {
     match solver.resume(task.cost.items(), ledger) {
         Ok(kind) => Ok(Ok(told(alloc, set, task, kind, solver)?)),

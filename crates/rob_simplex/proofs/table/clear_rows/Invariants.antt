@@ -1,7 +1,7 @@
 -- The rows before i are cleared, and the others are as they were.
 use Rattle.std.specs.Prelude.{◌≡◌}
 use Rattle.rob_linear.specs.Vectors.{at}
-use Rattle.rob_simplex.specs.Counting.{CountsRows}
+use Rattle.rob_number.specs.Counts.{CountsOnly}
 use Rattle.rob_simplex.specs.Tables.{row_at, HasBounds, AreCleared}
 use Rattle.rob_simplex.proofs.table.clear_rows.Given as goal
 
@@ -11,5 +11,5 @@ invariant-loop-i g l = record {
       (row_at l.fn.rows l.fn.pivot.width) (row_at l.rows l.fn.pivot.width);
   bounded : HasBounds g.E.Entry.top l.fn.pivot.width l.rows l.bounds;
   same : l.pivot_row ≡ l.fn.pivot_row;
-  counted : CountsRows g.L.Ledger.ops g.L.Ledger.wides l.fn.ledger l.ledger;
+  counted : CountsOnly g.L.Ledger.ops g.L.Ledger.wides l.fn.ledger l.ledger;
 }

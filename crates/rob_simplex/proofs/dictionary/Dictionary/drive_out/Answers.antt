@@ -1,8 +1,9 @@
 use Rattle.std.proofs.Common.{◌∙◌, subst, inr}
+use Rattle.rob_number.proofs.CountLemmas.{only_later}
 use Rattle.rob_simplex.specs.Dictionaries.{columns_of}
 use Rattle.rob_simplex.specs.Explicit.{HasTurnedExplicit, StopsFirst}
 use Rattle.rob_simplex.proofs.FirstTurns.{explicit_leaves}
-use Rattle.rob_simplex.proofs.Sizes.{sized_after, counted_after}
+use Rattle.rob_simplex.proofs.Sizes.{sized_after}
 use Rattle.rob_simplex.proofs.dictionary.Dictionary.drive_out.Goals as goal
 
 pub turn_explicit-requires : goal.turn_explicit-requires
@@ -31,7 +32,7 @@ turns-preserved g c = record {
       λ P h. (subst (λ v. HasTurnedExplicit P v c.turns.self c.turn_explicit.new.self) c.in-Ok-Stays.field-0-is
       (c.in-Ok-Stays.ensures.turned P (c.turns.invariant.stands P h))).0;
   sized = sized_after c.turns.invariant.sized c.turn_explicit.ensures.sized;
-  counted = counted_after c.turns.invariant.counted c.turn_explicit.ensures.counted;
+  counted = only_later c.turns.invariant.counted c.turn_explicit.ensures.counted;
 }
 
 pub turns-smaller : goal.turns-smaller

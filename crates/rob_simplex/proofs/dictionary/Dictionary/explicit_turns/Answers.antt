@@ -1,7 +1,8 @@
 use Rattle.std.proofs.Common.{ℕ, ◌≤◌, IfErr, MatchResult, subst}
+use Rattle.rob_number.proofs.CountLemmas.{only_later}
 use Rattle.rob_simplex.specs.Dictionaries.{columns_of}
 use Rattle.rob_simplex.specs.Explicit.{FirstTurns, StopsFirst}
-use Rattle.rob_simplex.proofs.Sizes.{counted_after, sized_after}
+use Rattle.rob_simplex.proofs.Sizes.{sized_after}
 use Rattle.rob_simplex.proofs.dictionary.Dictionary.explicit_turns.Goals as goal
 
 pub drive_out-requires : goal.drive_out-requires
@@ -20,7 +21,7 @@ returns-in-Ok-clause-position g c =
     c.drive_out.ensures.position
 
 pub returns-in-Ok-clause-counted : goal.returns-in-Ok-clause-counted
-returns-in-Ok-clause-counted g c = counted_after c.bring_in.ensures.counted c.drive_out.ensures.counted
+returns-in-Ok-clause-counted g c = only_later c.bring_in.ensures.counted c.drive_out.ensures.counted
 
 pub returns-in-Ok-clause-sized : goal.returns-in-Ok-clause-sized
 returns-in-Ok-clause-sized g c = sized_after c.bring_in.ensures.sized c.drive_out.ensures.sized

@@ -1,8 +1,9 @@
 use Rattle.std.proofs.Common.{ℕ, ◌≤◌, IfErr, MatchResult, subst, inl}
+use Rattle.rob_number.proofs.CountLemmas.{only_later}
 use Rattle.rob_simplex.specs.Dictionaries.{columns_of}
 use Rattle.rob_simplex.specs.Explicit.{FirstTurns, StopsFirst}
 use Rattle.rob_simplex.proofs.FirstTurns.{starts_left, starts_beside}
-use Rattle.rob_simplex.proofs.Sizes.{counted_after, sized_after}
+use Rattle.rob_simplex.proofs.Sizes.{sized_after}
 use Rattle.rob_simplex.proofs.dictionary.Dictionary.first_turns.Goals as goal
 
 pub returns-in_default-clause-ended : goal.returns-in_default-clause-ended
@@ -48,7 +49,7 @@ returns-in-Open-clause-position g c =
     c.explicit_turns.ensures.position
 
 pub returns-in-Open-clause-counted : goal.returns-in-Open-clause-counted
-returns-in-Open-clause-counted g c = counted_after c.go_beside.ensures.counted c.explicit_turns.ensures.counted
+returns-in-Open-clause-counted g c = only_later c.go_beside.ensures.counted c.explicit_turns.ensures.counted
 
 pub returns-in-Open-clause-sized : goal.returns-in-Open-clause-sized
 returns-in-Open-clause-sized g c = sized_after c.go_beside.ensures.sized c.explicit_turns.ensures.sized

@@ -1,7 +1,8 @@
 use Rattle.std.proofs.Common.{◌∙◌, subst}
+use Rattle.rob_number.proofs.CountLemmas.{only_later}
 use Rattle.rob_simplex.specs.Phases.{HasTurnedBeside}
 use Rattle.rob_simplex.proofs.BesideRows.{row_own}
-use Rattle.rob_simplex.proofs.Sizes.{sized_after, counted_after}
+use Rattle.rob_simplex.proofs.Sizes.{sized_after}
 use Rattle.rob_simplex.proofs.dictionary.Dictionary.go_beside.Goals as goal
 
 pub first_negative-requires-clause-own : goal.first_negative-requires-clause-own
@@ -20,7 +21,7 @@ turns-preserved g c = record {
       λ P h. (subst (λ v. HasTurnedBeside P c.args.q v c.turns.self c.turn_beside.new.self) c.in-Ok-true.field-0-test
       (c.in-Ok-true.ensures.turned P (c.turns.invariant.stands P h))).0;
   sized = sized_after c.turns.invariant.sized c.turn_beside.ensures.sized;
-  counted = counted_after c.turns.invariant.counted c.turn_beside.ensures.counted;
+  counted = only_later c.turns.invariant.counted c.turn_beside.ensures.counted;
 }
 
 pub returns-in-Ok-false-clause-ended : goal.returns-in-Ok-false-clause-ended

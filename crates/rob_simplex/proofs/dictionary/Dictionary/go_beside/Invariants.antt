@@ -1,6 +1,6 @@
 -- The rows stand beside, and less turns are left with each turn.
 use Rattle.rob_linear.specs.Programs.{Program}
-use Rattle.rob_simplex.specs.Counting.{CountsRows}
+use Rattle.rob_number.specs.Counts.{CountsOnly}
 use Rattle.rob_simplex.specs.Dictionaries.{IsSized}
 use Rattle.rob_simplex.specs.Phases.{InBeside, turns_left_beside}
 use Rattle.rob_simplex.proofs.dictionary.Dictionary.go_beside.Given as goal
@@ -9,7 +9,7 @@ abbrev pub invariant-turns : goal.invariant-turns
 invariant-turns g l = record {
   stands : (P : Program) → InBeside P l.fn.q l.fn.self → InBeside P l.fn.q l.self;
   sized : IsSized l.fn.self l.self;
-  counted : CountsRows g.L.Ledger.ops g.L.Ledger.wides l.fn.ledger l.ledger;
+  counted : CountsOnly g.L.Ledger.ops g.L.Ledger.wides l.fn.ledger l.ledger;
 }
 
 abbrev pub decreases-turns : goal.decreases-turns

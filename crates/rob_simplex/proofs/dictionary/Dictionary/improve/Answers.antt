@@ -1,11 +1,12 @@
 use Rattle.std.proofs.Common.{◌≡◌, ◌∙◌, sym, subst, Some, None}
+use Rattle.rob_number.proofs.CountLemmas.{only_later, only_same}
 use Rattle.rob_linear.specs.WideRows.{HasWideRowFrom}
 use Rattle.rob_simplex.specs.Dictionaries.{columns_of}
 use Rattle.rob_simplex.specs.Begun.{StandsFrom}
 use Rattle.rob_simplex.specs.Phases.{HasTurned}
 use Rattle.rob_simplex.proofs.BegunTurns.{begun_where}
 use Rattle.rob_simplex.proofs.PathsFrom.{from_here, one_turn, ends_from, refused_from}
-use Rattle.rob_simplex.proofs.Sizes.{sized_same, sized_after, counted_same, counted_after}
+use Rattle.rob_simplex.proofs.Sizes.{sized_same, sized_after}
 use Rattle.rob_simplex.proofs.dictionary.Dictionary.improve.Goals as goal
 
 pub returns-in-Ok-Optimal-clause-told : goal.returns-in-Ok-Optimal-clause-told
@@ -29,7 +30,7 @@ pub turns-init : goal.turns-init
 turns-init g c = record {
   stands = λ P h. (h, from_here P c.args.self.now h);
   sized = sized_same;
-  counted = counted_same;
+  counted = only_same;
 }
 
 pub turns-preserved : goal.turns-preserved
@@ -41,7 +42,7 @@ turns-preserved g c = record {
       (c.in-Ok-Replaced.ensures.turned P i.0) in
       (told.0, one_turn P (columns_of c.args.self.now.basis) c.turns.self c.advance.new.self i.1 told.1);
   sized = sized_after c.turns.invariant.sized c.advance.ensures.sized;
-  counted = counted_after c.turns.invariant.counted c.advance.ensures.counted;
+  counted = only_later c.turns.invariant.counted c.advance.ensures.counted;
 }
 
 pub turns-smaller : goal.turns-smaller

@@ -1,5 +1,6 @@
 use Rattle.std.proofs.Common.{◌≡◌, ℕ, ◌-◌, ◌^◌, ◌≤◌, ◌∙◌, sym, subst, arith, List, nat_abs, get_or, add-one, to_z, of_z, w64}
 use lib.IntN.{pos}
+use Rattle.rob_number.proofs.CountLemmas.{only_later, only_same}
 use Rattle.rob_linear.specs.Vectors.{at}
 use Rattle.rob_linear.specs.Programs.{with_cost}
 use Rattle.rob_linear.specs.Stages.{truncated}
@@ -8,7 +9,7 @@ use Rattle.rob_simplex.specs.Dictionaries.{columns_of}
 use Rattle.rob_simplex.specs.Phases.{StandsFor}
 use Rattle.rob_number.proofs.CastLemmas.{seen_within}
 use Rattle.rob_simplex.proofs.NewCosts.{cost_dropped, all_put}
-use Rattle.rob_simplex.proofs.Sizes.{sized_after, counted_same, counted_after}
+use Rattle.rob_simplex.proofs.Sizes.{sized_after}
 use Rattle.rob_simplex.proofs.dictionary.Dictionary.put_on.Goals as goal
 
 pub loop-k-init : goal.loop-k-init
@@ -18,7 +19,7 @@ loop-k-init g c = record {
       c.drop_cost.ensures.sized.columns c.drop_cost.ensures.objective c.drop_cost.ensures.rows;
   basis = c.drop_cost.ensures.basis;
   sized = c.drop_cost.ensures.sized;
-  counted = counted_same;
+  counted = only_same;
 }
 
 pub put_in-requires-clause-stands : goal.put_in-requires-clause-stands
@@ -41,7 +42,7 @@ loop-k-preserved g c =
           (c.in-Ok.ensures.put (with_cost P (at c.args.cost.now)) (sym seen) (c.loop-k.invariant.stands P h));
       basis = c.put_in.ensures.basis ∙ c.loop-k.invariant.basis;
       sized = sized_after c.loop-k.invariant.sized c.put_in.ensures.sized;
-      counted = counted_after c.loop-k.invariant.counted c.put_in.ensures.counted;
+      counted = only_later c.loop-k.invariant.counted c.put_in.ensures.counted;
     }
 
 pub returns-in-Err-clause-wide : goal.returns-in-Err-clause-wide
