@@ -1,8 +1,8 @@
 //! Which set conditions hold: admission of a scenario, and the first condition that a vector breaks.
 
-ghost use Rattle.std.specs.Prelude.{◌≡◌, ◌≤◌, ◌↔◌, length, map, IfOk, IsTrue};
+ghost use Rattle.std.specs.Prelude.{◌≡◌, ◌↔◌, length, map, IfOk, IsTrue};
 ghost use Rattle.std.specs.Result.{result_ok};
-ghost use Rattle.rob_number.specs.Counts.{Told};
+ghost use Rattle.rob_number.specs.Counts.{CountsTold};
 ghost use Rattle.rob_meaning.specs.UncertaintySet.{Admits};
 ghost use Rattle.rob_model.specs.FirstBroken.{IsFirstBroken};
 ghost use Rattle.rob_model.specs.Valid.{IsValid};
@@ -29,8 +29,7 @@ pub fn admits<N: Exact, L: Ledger>(
         (scenario_of N.value scenario.now) }
     ensures admitted { IfOk result (λ yes. IsTrue yes
         ↔ Admits (robust N.value model.now) (scenario_of N.value scenario.now)) }
-    ensures told { Told (L.wides ledger.old) (L.wides ledger.new) result }
-    ensures ops { L.ops ledger.old ≤ L.ops ledger.new }
+    ensures counted { CountsTold L.ops L.wides ledger.old ledger.new result }
 {
     let once = one(ledger);
     let broken = first_broken(model, once, scenario.values.items(), ledger)?;
@@ -53,8 +52,7 @@ pub fn first_broken<N: Exact, L: Ledger>(
     ensures exact { result_ok result ≡ first_broken_within N.limit (robust N.value model.now)
         (N.value base) (map N.value vector.now) }
     ensures first { IfOk result (IsFirstBroken (robust N.value model.now) (N.value base) (map N.value vector.now)) }
-    ensures told { Told (L.wides ledger.old) (L.wides ledger.new) result }
-    ensures ops { L.ops ledger.old ≤ L.ops ledger.new }
+    ensures counted { CountsTold L.ops L.wides ledger.old ledger.new result }
 {
     search(model, base, vector, ledger)
 }
@@ -69,8 +67,7 @@ fn search<N: Exact, L: Ledger>(
     requires valid { IsValid N.value model.now }
     ensures exact { result_ok result ≡ first_broken_within N.limit (robust N.value model.now)
         (N.value base) (map N.value vector.now) }
-    ensures told { Told (L.wides ledger.old) (L.wides ledger.new) result }
-    ensures ops { L.ops ledger.old ≤ L.ops ledger.new }
+    ensures counted { CountsTold L.ops L.wides ledger.old ledger.new result }
 {
     match broken_bound(model.params.items(), base, vector, ledger)? {
         Some(index) => Ok(Some(index)),

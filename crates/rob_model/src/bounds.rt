@@ -2,7 +2,7 @@
 
 ghost use Rattle.std.specs.Prelude.{◌≡◌, ◌≤◌, ◌*◌, length, map, option_map, option_to_list};
 ghost use Rattle.std.specs.Result.{result_ok};
-ghost use Rattle.rob_number.specs.Counts.{Told};
+ghost use Rattle.rob_number.specs.Counts.{CountsTold};
 ghost use Rattle.rob_model.specs.GroupNames.{parameter_bound_names};
 ghost use Rattle.rob_meaning.specs.RobustModel.{RobustModel};
 ghost use Rattle.rob_meaning.specs.SetConditions.{lower_bound, upper_bound, bounds_from};
@@ -25,8 +25,7 @@ pub fn broken_bound<N: Exact, L: Ledger>(
     ensures exact { (m : RobustModel) → result_ok result
         ≡ first_within N.limit m (N.value base) (map N.value vector.now)
         (bounds_from 0 (map (parameter_of N.value) params.now)) 0 }
-    ensures told { Told (L.wides ledger.old) (L.wides ledger.new) result }
-    ensures ops { L.ops ledger.old ≤ L.ops ledger.new }
+    ensures counted { CountsTold L.ops L.wides ledger.old ledger.new result }
 {
     let mut index = 0u32;
     for (k, param) in params.iter().enumerate() {
@@ -76,8 +75,7 @@ pub fn keeps_lower<N: Exact, L: Ledger>(
     ensures exact { (m : RobustModel) → result_ok result
         ≡ declared_within N.limit m (N.value base) (map N.value vector.now)
         (lower_bound k) (option_map N.value bound.now) }
-    ensures told { Told (L.wides ledger.old) (L.wides ledger.new) result }
-    ensures ops { L.ops ledger.old ≤ L.ops ledger.new }
+    ensures counted { CountsTold L.ops L.wides ledger.old ledger.new result }
 {
     match bound {
         Some(lower) => {
@@ -99,8 +97,7 @@ pub fn keeps_upper<N: Exact, L: Ledger>(
     ensures exact { (m : RobustModel) → result_ok result
         ≡ declared_within N.limit m (N.value base) (map N.value vector.now)
         (upper_bound k) (option_map N.value bound.now) }
-    ensures told { Told (L.wides ledger.old) (L.wides ledger.new) result }
-    ensures ops { L.ops ledger.old ≤ L.ops ledger.new }
+    ensures counted { CountsTold L.ops L.wides ledger.old ledger.new result }
 {
     match bound {
         Some(upper) => {

@@ -1,6 +1,7 @@
 //! Small whole numbers, the number at a place of a list, sizes, and the order.
 
-ghost use Rattle.std.specs.Prelude.{◌≡◌, ◌≤◌, map};
+ghost use Rattle.std.specs.Prelude.{◌≡◌, map};
+ghost use Rattle.rob_number.specs.Counts.{NeverFell};
 ghost use Rattle.rob_meaning.specs.Places.{0ℚ, 1ℚ, at};
 ghost use Rattle.rob_meaning.specs.UncertaintySet.{abs_ℚ};
 ghost use Rattle.rob_model.specs.Within.{is_at_most};
@@ -10,8 +11,7 @@ use rob_number::{Exact, Ledger};
 /// 0, which fits every limit.
 pub fn zero<N: Exact, L: Ledger>(ledger: &mut L) -> N
     ensures value { N.value result ≡ 0ℚ }
-    ensures ops { L.ops ledger.old ≤ L.ops ledger.new }
-    ensures wides { L.wides ledger.old ≤ L.wides ledger.new }
+    ensures counted { NeverFell L.ops L.wides ledger.old ledger.new }
 {
     match N::from_parts(0, 1, ledger) {
         Ok(zero) => zero,
@@ -22,8 +22,7 @@ pub fn zero<N: Exact, L: Ledger>(ledger: &mut L) -> N
 /// 1, which fits every limit.
 pub fn one<N: Exact, L: Ledger>(ledger: &mut L) -> N
     ensures value { N.value result ≡ 1ℚ }
-    ensures ops { L.ops ledger.old ≤ L.ops ledger.new }
-    ensures wides { L.wides ledger.old ≤ L.wides ledger.new }
+    ensures counted { NeverFell L.ops L.wides ledger.old ledger.new }
 {
     match N::from_parts(1, 1, ledger) {
         Ok(one) => one,
@@ -34,8 +33,7 @@ pub fn one<N: Exact, L: Ledger>(ledger: &mut L) -> N
 /// The number at a place, from 0. What the list lacks counts as 0.
 pub fn number_at<N: Exact, L: Ledger>(numbers: &[N], place: usize, ledger: &mut L) -> N
     ensures value { N.value result ≡ at (map N.value numbers.now) place }
-    ensures ops { L.ops ledger.old ≤ L.ops ledger.new }
-    ensures wides { L.wides ledger.old ≤ L.wides ledger.new }
+    ensures counted { NeverFell L.ops L.wides ledger.old ledger.new }
 {
     if place < numbers.len() {
         numbers[place]

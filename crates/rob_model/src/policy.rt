@@ -2,7 +2,7 @@
 
 ghost use Rattle.std.specs.Prelude.{◌≡◌, ◌≤◌, ◌<◌, ◌+◌, ◌^◌, length, map, drop, IfOk};
 ghost use Rattle.rob_number.specs.Answer.{answer};
-ghost use Rattle.rob_number.specs.Counts.{Told};
+ghost use Rattle.rob_number.specs.Counts.{CountsTold};
 ghost use Rattle.rob_meaning.specs.Places.{at};
 ghost use Rattle.rob_meaning.specs.RobustModel.{column_of as column_of_rule, column_count, set_count as set_count_of, written_count as count_of_written};
 ghost use Rattle.rob_meaning.specs.Values.{rule_value as value_of_rule};
@@ -33,8 +33,7 @@ pub fn policy_at<N: Exact, L: Ledger>(
         (plan_of N.value plan.now) (scenario_of N.value scenario.now) adaptive }
     ensures value { IfOk result (λ x. N.value x ≡ value_of_rule (robust N.value model.now)
         (plan_of N.value plan.now) (scenario_of N.value scenario.now) adaptive) }
-    ensures told { Told (L.wides ledger.old) (L.wides ledger.new) result }
-    ensures ops { L.ops ledger.old ≤ L.ops ledger.new }
+    ensures counted { CountsTold L.ops L.wides ledger.old ledger.new result }
 {
     rule_value(
         model,
@@ -57,8 +56,7 @@ pub fn rule_value<N: Exact, L: Ledger>(
     requires few { column_count (robust N.value model.now) ≤ most_columns }
     ensures exact { answer N.value result ≡ policy_within N.limit (robust N.value model.now)
         (map N.value columns.now) (map N.value values.now) adaptive }
-    ensures told { Told (L.wides ledger.old) (L.wides ledger.new) result }
-    ensures ops { L.ops ledger.old ≤ L.ops ledger.new }
+    ensures counted { CountsTold L.ops L.wides ledger.old ledger.new result }
 {
     let on = model.adaptives.items()[adaptive as usize].on.items();
     let column = column_of(model, adaptive);
@@ -79,8 +77,7 @@ pub fn rule_value_in<N: Exact, L: Ledger>(
     requires few { column_count (robust N.value model.now) ≤ most_columns }
     ensures exact { answer N.value result ≡ policy_in_within N.limit (robust N.value model.now)
         (map N.value columns.now) (map N.value values.now) set adaptive }
-    ensures told { Told (L.wides ledger.old) (L.wides ledger.new) result }
-    ensures ops { L.ops ledger.old ≤ L.ops ledger.new }
+    ensures counted { CountsTold L.ops L.wides ledger.old ledger.new result }
 {
     let on = model.adaptives.items()[adaptive as usize].on.items();
     let column = column_of(model, adaptive);
@@ -126,8 +123,7 @@ fn rule<N: Exact, L: Ledger>(
     requires few { column + 1 + length on.now ≤ most_columns }
     ensures exact { answer N.value result ≡ rule_within N.limit (map N.value columns.now) (map N.value values.now)
         on.now (column + 1) (at (map N.value columns.now) column) }
-    ensures told { Told (L.wides ledger.old) (L.wides ledger.new) result }
-    ensures ops { L.ops ledger.old ≤ L.ops ledger.new }
+    ensures counted { CountsTold L.ops L.wides ledger.old ledger.new result }
 {
     let mut sum = number_at(columns, column, ledger);
     let mut place = column + 1;

@@ -4,7 +4,7 @@ ghost use Rattle.std.specs.Prelude.{◌≡◌, ◌≢◌, ◌≤◌, ◌+◌, le
 ghost use Rattle.std.specs.Result.{result_ok};
 ghost use Rattle.rob_algebra.specs.Fraction.{◌<ℚ◌};
 ghost use Rattle.rob_number.specs.Answer.{answer};
-ghost use Rattle.rob_number.specs.Counts.{Told};
+ghost use Rattle.rob_number.specs.Counts.{CountsTold};
 ghost use Rattle.rob_meaning.specs.Places.{0ℚ, Each};
 ghost use Rattle.rob_meaning.specs.RobustModel.{RobustModel, column_count};
 ghost use Rattle.rob_meaning.specs.SetConditions.{all_stated, stated};
@@ -33,8 +33,7 @@ pub fn broken_statement<N: Exact, L: Ledger>(
     ensures exact { result_ok result ≡ first_within N.limit (robust N.value model.now) (N.value base)
         (map N.value vector.now)
         (all_stated (map (set_line_of N.value) model.now.set_lines)) first }
-    ensures told { Told (L.wides ledger.old) (L.wides ledger.new) result }
-    ensures ops { L.ops ledger.old ≤ L.ops ledger.new }
+    ensures counted { CountsTold L.ops L.wides ledger.old ledger.new result }
 {
     let mut index = first;
     for line in model.set_lines.items() {
@@ -59,8 +58,7 @@ pub fn holds<N: Exact, L: Ledger>(
     ensures exact { result_ok result ≡ holds_within N.limit (robust N.value model.now) (N.value base)
         (map N.value vector.now)
         (stated (set_line_of N.value line.now)) }
-    ensures told { Told (L.wides ledger.old) (L.wides ledger.new) result }
-    ensures ops { L.ops ledger.old ≤ L.ops ledger.new }
+    ensures counted { CountsTold L.ops L.wides ledger.old ledger.new result }
 {
     match line {
         SetLine::Line { left, rel, right } => {
@@ -89,8 +87,7 @@ fn taken<N: Exact, L: Ledger>(
     ensures exact { answer N.value result
         ≡ taken_within N.limit (robust N.value model.now) (N.value base) (map N.value vector.now)
         (expression_of N.value e.now) }
-    ensures told { Told (L.wides ledger.old) (L.wides ledger.new) result }
-    ensures ops { L.ops ledger.old ≤ L.ops ledger.new }
+    ensures counted { CountsTold L.ops L.wides ledger.old ledger.new result }
 {
     let at_vector: N = evaluate(e, model, &[], vector, ledger)?;
     let constant = evaluate(e, model, &[], &[], ledger)?;
@@ -110,8 +107,7 @@ fn total_deviation<N: Exact, L: Ledger>(
     ensures exact { (m : RobustModel) → answer N.value result
         ≡ total_within N.limit m (N.value base) (map N.value vector.now)
         (map (member_of N.value) members.now) 0ℚ }
-    ensures told { Told (L.wides ledger.old) (L.wides ledger.new) result }
-    ensures ops { L.ops ledger.old ≤ L.ops ledger.new }
+    ensures counted { CountsTold L.ops L.wides ledger.old ledger.new result }
 {
     let mut sum: N = zero(ledger);
     for member in members {
@@ -132,8 +128,7 @@ fn deviation<N: Exact, L: Ledger>(
     ensures exact { (m : RobustModel) → answer N.value result
         ≡ deviation_within N.limit m (N.value base) (map N.value vector.now)
         (member_of N.value member.now) }
-    ensures told { Told (L.wides ledger.old) (L.wides ledger.new) result }
-    ensures ops { L.ops ledger.old ≤ L.ops ledger.new }
+    ensures counted { CountsTold L.ops L.wides ledger.old ledger.new result }
 {
     let centre = base.mul(member.centre, ledger)?;
     let number: N = number_at(vector, member.param as usize, ledger);

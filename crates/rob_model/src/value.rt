@@ -2,7 +2,7 @@
 
 ghost use Rattle.std.specs.Prelude.{◌≡◌, ◌≤◌, map, IfOk};
 ghost use Rattle.rob_number.specs.Answer.{answer};
-ghost use Rattle.rob_number.specs.Counts.{Told};
+ghost use Rattle.rob_number.specs.Counts.{CountsTold};
 ghost use Rattle.rob_algebra.specs.Width.{kept};
 ghost use Rattle.rob_meaning.specs.Places.{0ℚ, 1ℚ};
 ghost use Rattle.rob_meaning.specs.RobustModel.{column_count};
@@ -36,8 +36,7 @@ pub fn value_at<N: Exact, L: Ledger>(
         (plan_of N.value plan.now) (scenario_of N.value scenario.now) (expression_of N.value e.now) }
     ensures value { IfOk result (λ x. N.value x ≡ value_of (robust N.value model.now)
         (plan_of N.value plan.now) (scenario_of N.value scenario.now) (expression_of N.value e.now)) }
-    ensures told { Told (L.wides ledger.old) (L.wides ledger.new) result }
-    ensures ops { L.ops ledger.old ≤ L.ops ledger.new }
+    ensures counted { CountsTold L.ops L.wides ledger.old ledger.new result }
 {
     evaluate(
         e,
@@ -61,8 +60,7 @@ pub fn evaluate<N: Exact, L: Ledger>(
     requires few { column_count (robust N.value model.now) ≤ most_columns }
     ensures exact { answer N.value result ≡ value_within N.limit (robust N.value model.now)
         (map N.value columns.now) (map N.value values.now) (expression_of N.value e.now) }
-    ensures told { Told (L.wides ledger.old) (L.wides ledger.new) result }
-    ensures ops { L.ops ledger.old ≤ L.ops ledger.new }
+    ensures counted { CountsTold L.ops L.wides ledger.old ledger.new result }
 {
     match e {
         Expr::Number(x) => Ok(*x),
@@ -88,8 +86,7 @@ fn sum<N: Exact, L: Ledger>(
     requires few { column_count (robust N.value model.now) ≤ most_columns }
     ensures exact { answer N.value result ≡ sum_within N.limit (robust N.value model.now)
         (map N.value columns.now) (map N.value values.now) (terms_of (map (signed_of N.value) terms.now)) 0ℚ }
-    ensures told { Told (L.wides ledger.old) (L.wides ledger.new) result }
-    ensures ops { L.ops ledger.old ≤ L.ops ledger.new }
+    ensures counted { CountsTold L.ops L.wides ledger.old ledger.new result }
 {
     let mut so_far = zero(ledger);
     for term in terms {
@@ -112,8 +109,7 @@ fn product<N: Exact, L: Ledger>(
     requires few { column_count (robust N.value model.now) ≤ most_columns }
     ensures exact { answer N.value result ≡ product_within N.limit (robust N.value model.now)
         (map N.value columns.now) (map N.value values.now) (factors_of (map (expression_of N.value) factors.now)) 1ℚ }
-    ensures told { Told (L.wides ledger.old) (L.wides ledger.new) result }
-    ensures ops { L.ops ledger.old ≤ L.ops ledger.new }
+    ensures counted { CountsTold L.ops L.wides ledger.old ledger.new result }
 {
     let mut so_far: N = one(ledger);
     for factor in factors {
@@ -126,8 +122,7 @@ fn product<N: Exact, L: Ledger>(
 /// A sum so far, plus or minus a part.
 fn joined<N: Exact, L: Ledger>(so_far: N, minus: bool, part: N, ledger: &mut L) -> Result<N, Wide>
     ensures exact { answer N.value result ≡ kept N.limit (plus_or_minus minus (N.value so_far) (N.value part)) }
-    ensures told { Told (L.wides ledger.old) (L.wides ledger.new) result }
-    ensures ops { L.ops ledger.old ≤ L.ops ledger.new }
+    ensures counted { CountsTold L.ops L.wides ledger.old ledger.new result }
 {
     if minus {
         so_far.sub(part, ledger)

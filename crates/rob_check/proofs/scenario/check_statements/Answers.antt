@@ -42,7 +42,7 @@ loop-line-preserved g c =
           (omega (arith, some, same)) here c.loop-line.invariant.lines).1;
       number = omega (arith, c.loop-line.invariant.number);
       counted = record {
-        ops = omega (arith, c.loop-line.invariant.counted.ops, c.holds-test.ensures.ops);
-        wides = omega (arith, c.loop-line.invariant.counted.wides, c.holds-test.ensures.told.never_fell);
+        ops = omega (arith, c.loop-line.invariant.counted.ops, c.holds-test.ensures.counted.ops);
+        wides = omega (arith, c.loop-line.invariant.counted.wides, c.holds-test.ensures.counted.told.never_fell);
       };
     }

@@ -68,11 +68,18 @@ loop-k-preserved g c =
         few_declared d.lower,
         few_declared d.upper,
       );
-      ops = omega (arith, c.loop-k.invariant.ops, c.in_ok-keeps_lower.ensures.ops, c.in_ok-keeps_upper.ensures.ops);
-      wides = omega (
-        arith,
-        c.loop-k.invariant.wides,
-        c.in_ok-keeps_lower.ensures.told.never_fell,
-        c.in_ok-keeps_upper.ensures.told.never_fell,
-      );
+      counted = record {
+        ops = omega (
+          arith,
+          c.loop-k.invariant.counted.ops,
+          c.in_ok-keeps_lower.ensures.counted.ops,
+          c.in_ok-keeps_upper.ensures.counted.ops,
+        );
+        wides = omega (
+          arith,
+          c.loop-k.invariant.counted.wides,
+          c.in_ok-keeps_lower.ensures.counted.told.never_fell,
+          c.in_ok-keeps_upper.ensures.counted.told.never_fell,
+        );
+      };
     }

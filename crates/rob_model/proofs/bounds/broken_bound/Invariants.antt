@@ -1,6 +1,7 @@
 use Rattle.std.proofs.Common.{◌≡◌, ◌≤◌, ◌*◌}
 use Rattle.rob_meaning.specs.RobustModel.{RobustModel}
 use Rattle.std.proofs.Common.{map}
+use Rattle.rob_number.specs.Counts.{NeverFell}
 use Rattle.rob_model.proofs.ConditionLemmas.{bounds_left}
 use Rattle.rob_model.proofs.bounds.broken_bound.Given as goal
 
@@ -13,6 +14,5 @@ invariant-loop-k g l =
     record {
       rest : (m : RobustModel) → left m l.k l.index ≡ left m 0 0;
       small : l.index ≤ 2 * l.k;
-      ops : g.L.Ledger.ops l.fn.ledger ≤ g.L.Ledger.ops l.ledger;
-      wides : g.L.Ledger.wides l.fn.ledger ≤ g.L.Ledger.wides l.ledger;
+      counted : NeverFell g.L.Ledger.ops g.L.Ledger.wides l.fn.ledger l.ledger;
     }

@@ -1,4 +1,5 @@
-use Rattle.std.proofs.Common.{◌≡◌, ◌≤◌, ◌+◌, map, drop}
+use Rattle.std.proofs.Common.{◌≡◌, ◌+◌, map, drop}
+use Rattle.rob_number.specs.Counts.{NeverFell}
 use Rattle.rob_meaning.specs.Places.{at}
 use Rattle.rob_model.specs.Within.{rule_within}
 use Rattle.rob_model.proofs.policy.rule.Given as goal
@@ -12,6 +13,5 @@ invariant-loop-k g l =
     record {
       rest : go (drop l.k-index l.on) l.place (value l.sum) ≡ go l.on (l.column + 1) (at columns l.column);
       place : l.place ≡ l.column + 1 + l.k-index;
-      ops : g.L.Ledger.ops l.fn.ledger ≤ g.L.Ledger.ops l.ledger;
-      wides : g.L.Ledger.wides l.fn.ledger ≤ g.L.Ledger.wides l.ledger;
+      counted : NeverFell g.L.Ledger.ops g.L.Ledger.wides l.fn.ledger l.ledger;
     }

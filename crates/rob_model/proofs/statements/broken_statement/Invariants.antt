@@ -1,4 +1,5 @@
-use Rattle.std.proofs.Common.{◌≡◌, ◌≤◌, ◌+◌, map, drop}
+use Rattle.std.proofs.Common.{◌≡◌, ◌+◌, map, drop}
+use Rattle.rob_number.specs.Counts.{NeverFell}
 use Rattle.rob_meaning.specs.Places.{Each}
 use Rattle.rob_meaning.specs.WellFormed.{IsSetLine}
 use Rattle.rob_model.specs.View.{robust, set_line_of}
@@ -15,6 +16,5 @@ invariant-loop-line g l =
       rest : left l.line-index l.index ≡ left 0 l.first;
       lines : Each (IsSetLine m) (map (set_line_of value) (drop l.line-index l.model.set_lines));
       number : l.index ≡ l.first + l.line-index;
-      ops : g.L.Ledger.ops l.fn.ledger ≤ g.L.Ledger.ops l.ledger;
-      wides : g.L.Ledger.wides l.fn.ledger ≤ g.L.Ledger.wides l.ledger;
+      counted : NeverFell g.L.Ledger.ops g.L.Ledger.wides l.fn.ledger l.ledger;
     }

@@ -40,13 +40,20 @@ loop-member-preserved g c =
       positive = (each_at (λ (h : Member g.row.N.Denot). 0ℚ <ℚ value h.deviation) c.args.members.now
           c.loop-member.member-index c.member-item.result c.loop-member-test.true c.member-item.is
           c.loop-member.invariant.positive).1;
-      ops = omega (arith, c.loop-member.invariant.ops, c.in_ok-part.ensures.ops, c.in_ok-sum.ensures.counted.ops);
-      wides = omega (
-        arith,
-        c.loop-member.invariant.wides,
-        c.in_ok-part.ensures.told.never_fell,
-        c.in_ok-sum.ensures.counted.wides,
-      );
+      counted = record {
+        ops = omega (
+          arith,
+          c.loop-member.invariant.counted.ops,
+          c.in_ok-part.ensures.counted.ops,
+          c.in_ok-sum.ensures.counted.ops,
+        );
+        wides = omega (
+          arith,
+          c.loop-member.invariant.counted.wides,
+          c.in_ok-part.ensures.counted.told.never_fell,
+          c.in_ok-sum.ensures.counted.wides,
+        );
+      };
     }
 
 pub returns-clause-exact : goal.returns-clause-exact

@@ -1,4 +1,5 @@
-use Rattle.std.proofs.Common.{◌≡◌, ◌≤◌, map, drop}
+use Rattle.std.proofs.Common.{◌≡◌, map, drop}
+use Rattle.rob_number.specs.Counts.{NeverFell}
 use Rattle.rob_algebra.specs.Fraction.{◌<ℚ◌}
 use Rattle.rob_meaning.specs.Places.{0ℚ, Each}
 use Rattle.rob_meaning.specs.RobustModel.{RobustModel}
@@ -14,6 +15,5 @@ invariant-loop-member g l =
     record {
       rest : (m : RobustModel) → left m l.member-index (value l.sum) ≡ left m 0 0ℚ;
       positive : Each (λ (h : Member g.row.N.Denot). 0ℚ <ℚ value h.deviation) (drop l.member-index l.members);
-      ops : g.L.Ledger.ops l.fn.ledger ≤ g.L.Ledger.ops l.ledger;
-      wides : g.L.Ledger.wides l.fn.ledger ≤ g.L.Ledger.wides l.ledger;
+      counted : NeverFell g.L.Ledger.ops g.L.Ledger.wides l.fn.ledger l.ledger;
     }

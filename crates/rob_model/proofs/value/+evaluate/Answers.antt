@@ -38,13 +38,20 @@ sum-loop-term-preserved g t c =
           ∙ c.loop-term.invariant.rest;
       inside = (terms_inside value m c.args.terms.now c.loop-term.term-index c.term-item.result c.loop-term-test.true
           c.term-item.is c.loop-term.invariant.inside).1;
-      ops = omega (arith, c.loop-term.invariant.ops, c.in_ok-part.ensures.ops, c.in_ok-so_far.ensures.ops);
-      wides = omega (
-        arith,
-        c.loop-term.invariant.wides,
-        c.in_ok-part.ensures.told.never_fell,
-        c.in_ok-so_far.ensures.told.never_fell,
-      );
+      counted = record {
+        ops = omega (
+          arith,
+          c.loop-term.invariant.counted.ops,
+          c.in_ok-part.ensures.counted.ops,
+          c.in_ok-so_far.ensures.counted.ops,
+        );
+        wides = omega (
+          arith,
+          c.loop-term.invariant.counted.wides,
+          c.in_ok-part.ensures.counted.told.never_fell,
+          c.in_ok-so_far.ensures.counted.told.never_fell,
+        );
+      };
     }
 
 pub product-returns-in_err-so_far-clause-exact : goal.product-returns-in_err-so_far-clause-exact
@@ -70,11 +77,18 @@ product-loop-factor-preserved g t c =
           ∙ c.loop-factor.invariant.rest;
       inside = (factors_inside value m c.args.factors.now c.loop-factor.factor-index c.factor-item.result
           c.loop-factor-test.true c.factor-item.is c.loop-factor.invariant.inside).1;
-      ops = omega (arith, c.loop-factor.invariant.ops, c.in_ok-part.ensures.ops, c.in_ok-so_far.ensures.counted.ops);
-      wides = omega (
-        arith,
-        c.loop-factor.invariant.wides,
-        c.in_ok-part.ensures.told.never_fell,
-        c.in_ok-so_far.ensures.counted.wides,
-      );
+      counted = record {
+        ops = omega (
+          arith,
+          c.loop-factor.invariant.counted.ops,
+          c.in_ok-part.ensures.counted.ops,
+          c.in_ok-so_far.ensures.counted.ops,
+        );
+        wides = omega (
+          arith,
+          c.loop-factor.invariant.counted.wides,
+          c.in_ok-part.ensures.counted.told.never_fell,
+          c.in_ok-so_far.ensures.counted.wides,
+        );
+      };
     }

@@ -1,4 +1,5 @@
-use Rattle.std.proofs.Common.{◌≡◌, ◌≤◌, map, drop}
+use Rattle.std.proofs.Common.{◌≡◌, map, drop}
+use Rattle.rob_number.specs.Counts.{NeverFell}
 use Rattle.rob_meaning.specs.Places.{0ℚ, 1ℚ}
 use Rattle.rob_meaning.specs.WellFormed.{TermsInside, FactorsInside}
 use Rattle.rob_model.specs.View.{robust, expression_of, signed_of, terms_of, factors_of}
@@ -15,8 +16,7 @@ invariant-product-loop-factor g l =
     record {
       rest : go left (value l.so_far) ≡ go (factors_of (map (expression_of value) l.factors)) 1ℚ;
       inside : FactorsInside m left;
-      ops : g.L.Ledger.ops l.fn.ledger ≤ g.L.Ledger.ops l.ledger;
-      wides : g.L.Ledger.wides l.fn.ledger ≤ g.L.Ledger.wides l.ledger;
+      counted : NeverFell g.L.Ledger.ops g.L.Ledger.wides l.fn.ledger l.ledger;
     }
 
 -- the sum so far, with the terms that are left, gives what all terms give
@@ -29,6 +29,5 @@ invariant-sum-loop-term g l =
     record {
       rest : go left (value l.so_far) ≡ go (terms_of (map (signed_of value) l.terms)) 0ℚ;
       inside : TermsInside m left;
-      ops : g.L.Ledger.ops l.fn.ledger ≤ g.L.Ledger.ops l.ledger;
-      wides : g.L.Ledger.wides l.fn.ledger ≤ g.L.Ledger.wides l.ledger;
+      counted : NeverFell g.L.Ledger.ops g.L.Ledger.wides l.fn.ledger l.ledger;
     }

@@ -48,6 +48,6 @@ loop-k-preserved g c =
           (c.in-Ok.ensures.gathers (policy_within limit m plan u k) c.policy_at-value.ensures.exact))
           ∙ c.loop-k.invariant.rest;
       count = c.loop-k.invariant.count;
-      ops = omega (arith, c.loop-k.invariant.ops, c.policy_at-value.ensures.ops);
-      wides = omega (arith, c.loop-k.invariant.wides, c.policy_at-value.ensures.told.never_fell);
+      ops = omega (arith, c.loop-k.invariant.ops, c.policy_at-value.ensures.counted.ops);
+      wides = omega (arith, c.loop-k.invariant.wides, c.policy_at-value.ensures.counted.told.never_fell);
     }

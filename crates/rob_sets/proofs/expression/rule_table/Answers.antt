@@ -99,8 +99,8 @@ loop-parameter-preserved g c =
           c.loop-parameter-test.true (value c.one-number.result) c.one-number.ensures.value
           (numbers_of value c.add.new.self) c.in_ok-add.ensures.added;
       counted = record {
-        ops = omega (arith, so_far.counted.ops, c.one-number.ensures.ops, c.add.ensures.counted.ops);
-        wides = omega (arith, so_far.counted.wides, c.one-number.ensures.wides, c.add.ensures.counted.wides);
+        ops = omega (arith, so_far.counted.ops, c.one-number.ensures.counted.ops, c.add.ensures.counted.ops);
+        wides = omega (arith, so_far.counted.wides, c.one-number.ensures.counted.wides, c.add.ensures.counted.wides);
       };
     }
 
@@ -138,7 +138,7 @@ returns-in_err-add-clause-table g c =
     (stop_weaker c.in_err-add.field-0.0
     (λ (h : Rose before last × IsWide limit
     (numbers_of value c.loop-parameter.table (S * c.written_count.result + get_or items i 0 + 1) (column + 1) +ℚ x)). (
-      omega (arith, c.loop-parameter.invariant.counted.wides, c.one-number.ensures.wides, h.0),
+      omega (arith, c.loop-parameter.invariant.counted.wides, c.one-number.ensures.counted.wides, h.0),
       inl (rule_wide m S c.args.adaptive items i column (numbers_of value c.loop-parameter.table)
           c.loop-parameter.invariant.rest c.written_count.result c.written_count.ensures.count
           c.loop-parameter-test.true
