@@ -1,6 +1,7 @@
 //! What the model declares: demands, the budget's members, and orders.
 
 ghost use Rattle.std.specs.Prelude.{◌≡◌, ◌≤◌, ◌<◌, ◌^◌, ◌+◌, ◌-◌, [], ◌∷◌, map, IfOk};
+ghost use Rattle.rob_number.specs.Counts.{CountsOnly};
 ghost use Rattle.rob_meaning.specs.Places.{tabulate};
 ghost use Rattle.rob_meaning.specs.RobustModel.{budget};
 ghost use Rattle.rob_model.specs.View.{parameter_of, member_of, set_line_of, variable_of, adaptive_of};
@@ -21,8 +22,7 @@ fn demand<N: Exact, L: Ledger>(
     requires limit { 14 ≤ N.limit }
     requires place { place < 5 }
     ensures made { IfOk result (λ p. parameter_of N.value p ≡ defined.demand (defined.centre n) place) }
-    ensures ops { L.ops ledger.old ≤ L.ops ledger.new }
-    ensures wides { L.wides ledger.old ≡ L.wides ledger.new }
+    ensures counted { CountsOnly L.ops L.wides ledger.old ledger.new }
 {
     let middle = centre(n, place + 1);
     let name = numbered(alloc, b"d", place + 1)?;
@@ -46,8 +46,7 @@ pub fn demands<N: Exact, L: Ledger>(
     requires count { count ≤ 5 }
     ensures made { IfOk result (λ ps. map (parameter_of N.value) ps
         ≡ tabulate count (defined.demand (defined.centre n))) }
-    ensures ops { L.ops ledger.old ≤ L.ops ledger.new }
-    ensures wides { L.wides ledger.old ≡ L.wides ledger.new }
+    ensures counted { CountsOnly L.ops L.wides ledger.old ledger.new }
 {
     let mut list = List::new(alloc);
     for place in 0..count {
@@ -62,8 +61,7 @@ fn deviation<N: Exact, L: Ledger>(n: u32, place: u32, ledger: &mut L) -> Member<
     requires limit { 14 ≤ N.limit }
     requires place { place < 5 }
     ensures made { member_of N.value result ≡ defined.deviation (defined.centre n) place }
-    ensures ops { L.ops ledger.old ≤ L.ops ledger.new }
-    ensures wides { L.wides ledger.old ≡ L.wides ledger.new }
+    ensures counted { CountsOnly L.ops L.wides ledger.old ledger.new }
 {
     let middle = centre(n, place + 1);
     let centre: N = whole(middle, ledger);
@@ -86,8 +84,7 @@ fn deviations<N: Exact, L: Ledger>(
     requires count { count ≤ 5 }
     ensures made { IfOk result (λ hs. map (member_of N.value) hs
         ≡ tabulate count (defined.deviation (defined.centre n))) }
-    ensures ops { L.ops ledger.old ≤ L.ops ledger.new }
-    ensures wides { L.wides ledger.old ≡ L.wides ledger.new }
+    ensures counted { CountsOnly L.ops L.wides ledger.old ledger.new }
 {
     let mut list = List::new(alloc);
     for place in 0..count {
@@ -108,8 +105,7 @@ pub fn budgets<N: Exact, L: Ledger>(
     requires count { count ≤ 5 }
     ensures made { IfOk result (λ cs. map (set_line_of N.value) cs
         ≡ budget (defined.whole 1) (tabulate count (defined.deviation (defined.centre n))) ∷ []) }
-    ensures ops { L.ops ledger.old ≤ L.ops ledger.new }
-    ensures wides { L.wides ledger.old ≡ L.wides ledger.new }
+    ensures counted { CountsOnly L.ops L.wides ledger.old ledger.new }
 {
     let limit: N = whole(1, ledger);
     let members = deviations(alloc, n, count, ledger)?;
@@ -125,8 +121,7 @@ pub fn first_orders<N: Exact, L: Ledger>(
 ) -> Result<List<Var<N>>, Memory>
     requires limit { 14 ≤ N.limit }
     ensures made { IfOk result (λ xs. map (variable_of N.value) xs ≡ defined.first_order ∷ []) }
-    ensures ops { L.ops ledger.old ≤ L.ops ledger.new }
-    ensures wides { L.wides ledger.old ≡ L.wides ledger.new }
+    ensures counted { CountsOnly L.ops L.wides ledger.old ledger.new }
 {
     let mut name = Text::new(alloc);
     name.push(b"x")?;
@@ -149,8 +144,7 @@ fn later_order<N: Exact, L: Ledger>(
     requires limit { 14 ≤ N.limit }
     requires later { later < 4 }
     ensures made { IfOk result (λ y. adaptive_of N.value y ≡ defined.later_order later) }
-    ensures ops { L.ops ledger.old ≤ L.ops ledger.new }
-    ensures wides { L.wides ledger.old ≡ L.wides ledger.new }
+    ensures counted { CountsOnly L.ops L.wides ledger.old ledger.new }
 {
     let name = numbered(alloc, b"y", later + 2)?;
     let on = places(alloc, later + 1)?;
@@ -172,8 +166,7 @@ pub fn later_orders<N: Exact, L: Ledger>(
     requires limit { 14 ≤ N.limit }
     requires count { count ≤ 4 }
     ensures made { IfOk result (λ ys. map (adaptive_of N.value) ys ≡ tabulate count defined.later_order) }
-    ensures ops { L.ops ledger.old ≤ L.ops ledger.new }
-    ensures wides { L.wides ledger.old ≡ L.wides ledger.new }
+    ensures counted { CountsOnly L.ops L.wides ledger.old ledger.new }
 {
     let mut list = List::new(alloc);
     for later in 0..count {

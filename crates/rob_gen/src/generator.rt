@@ -3,7 +3,7 @@
 ghost use Rattle.std.specs.Prelude.{◌≡◌, ◌≤◌, IfOk};
 ghost use Rattle.rob_model.specs.Valid.{IsValid};
 ghost use Rattle.rob_model.specs.View.{robust};
-ghost use Rattle.rob_number.specs.Counts.{NeverFell};
+ghost use Rattle.rob_number.specs.Counts.{CountsOnly};
 ghost use Rattle.rob_gen.specs.Generated.{generated};
 
 use crate::declared::{budgets, demands, first_orders, later_orders};
@@ -25,9 +25,8 @@ pub fn generate<N: Exact, L: Ledger>(
     requires limit { 14 ≤ N.limit }
     ensures model { IfOk result (λ model. robust N.value model ≡ generated n) }
     ensures valid { IfOk result (λ model. IsValid N.value model) }
-    ensures counted { NeverFell L.ops L.wides ledger.old ledger.new }
     // No number is wide.
-    ensures told { L.wides ledger.old ≡ L.wides ledger.new }
+    ensures counted { CountsOnly L.ops L.wides ledger.old ledger.new }
 {
     let count = n % 4 + 2;
     let params = demands(alloc, n, count, ledger)?;

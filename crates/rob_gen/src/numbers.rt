@@ -1,6 +1,7 @@
 //! Small whole numbers, the centres of demands, numbered names and lists of places.
 
 ghost use Rattle.std.specs.Prelude.{◌≡◌, ◌≤◌, ◌<◌, ◌^◌, ◌+◌, ◌++◌, IfOk};
+ghost use Rattle.rob_number.specs.Counts.{CountsOnly};
 ghost use Rattle.rob_meaning.specs.Places.{tabulate};
 ghost use Rattle.rob_gen.specs.Generated as defined;
 
@@ -12,8 +13,7 @@ use std::alloc::Global;
 pub fn whole<N: Exact, L: Ledger>(number: u32, ledger: &mut L) -> N
     requires fits { number ≤ N.limit }
     ensures value { N.value result ≡ defined.whole number }
-    ensures ops { L.ops ledger.old ≤ L.ops ledger.new }
-    ensures wides { L.wides ledger.old ≡ L.wides ledger.new }
+    ensures counted { CountsOnly L.ops L.wides ledger.old ledger.new }
 {
     match N::from_parts(number as i64, 1, ledger) {
         Ok(whole) => whole,

@@ -1,4 +1,5 @@
 use Rattle.std.proofs.Common.{◌≡◌, ap, ◌∙◌, arith}
+use Rattle.rob_number.proofs.CountLemmas.{only_later}
 use Rattle.rob_meaning.specs.Places.{tabulate}
 use Rattle.rob_model.specs.View.{member_of}
 use Rattle.rob_gen.specs.Generated.{centre, deviation}
@@ -10,8 +11,7 @@ loop-place-preserved g c =
     record {
       made = more (member_of g.N.Exact.value) (deviation (centre c.args.n)) c.loop-place.list c.deviation-item.result
           c.loop-place.place c.in_ok-push.ensures.appended c.deviation-item.ensures.made c.loop-place.invariant.made;
-      ops = omega (arith, c.loop-place.invariant.ops, c.deviation-item.ensures.ops);
-      wides = c.loop-place.invariant.wides ∙ c.deviation-item.ensures.wides;
+      counted = only_later c.loop-place.invariant.counted c.deviation-item.ensures.counted;
     }
 
 pub returns-clause-made : goal.returns-clause-made

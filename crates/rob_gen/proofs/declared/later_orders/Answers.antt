@@ -1,4 +1,5 @@
 use Rattle.std.proofs.Common.{◌≡◌, ap, ◌∙◌, arith}
+use Rattle.rob_number.proofs.CountLemmas.{only_later}
 use Rattle.rob_meaning.specs.Places.{tabulate}
 use Rattle.rob_model.specs.View.{adaptive_of}
 use Rattle.rob_gen.specs.Generated.{later_order}
@@ -10,8 +11,7 @@ loop-later-preserved g c =
     record {
       made = more (adaptive_of g.N.Exact.value) later_order c.loop-later.list c.in_ok-item.item c.loop-later.later
           c.in_ok-push.ensures.appended c.in_ok-item.ensures.made c.loop-later.invariant.made;
-      ops = omega (arith, c.loop-later.invariant.ops, c.later_order.ensures.ops);
-      wides = c.loop-later.invariant.wides ∙ c.later_order.ensures.wides;
+      counted = only_later c.loop-later.invariant.counted c.later_order.ensures.counted;
     }
 
 pub returns-clause-made : goal.returns-clause-made

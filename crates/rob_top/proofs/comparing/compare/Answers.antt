@@ -18,7 +18,7 @@ returns-in-Ok-clause-compared g c =
     (robust g.N.Exact.value c.in_ok-model.model) c.in_ok-dual-in-Ok.dual.spot c.in_ok-cuts-in-Ok.cuts.spot
     c.in_ok-dual-in-Ok.dual.text
     c.in_ok-cuts-in-Ok.cuts.text c.summary.result c.in_ok-model.ensures.model c.in_ok-dual-in-Ok.ensures.told
-    c.in_ok-cuts-in-Ok.ensures.told (omega (arith, c.generate.ensures.told, c.written.ensures.counted.wides))
+    c.in_ok-cuts-in-Ok.ensures.told (omega (arith, c.generate.ensures.counted.wides, c.written.ensures.counted.wides))
     c.line_by.ensures.counted
     c.line_by-in-Ok.ensures.counted c.in_ok-dual-in-Ok.ensures.rose c.in_ok-cuts-in-Ok.ensures.rose
     c.summary.ensures.summary
