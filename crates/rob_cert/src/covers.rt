@@ -1,6 +1,7 @@
 //! The lines of covers.
 
 ghost use Rattle.std.specs.Prelude.{◌≡◌, ◌+◌, ◌^◌, ◌<◌, ◌≤◌, ◌==◌, if◌then◌else◌, ℕ, length, map, IfOk, IfErr, MatchOption, MatchResult};
+ghost use Rattle.rob_number.specs.Counts.{NeverFell};
 ghost use Rattle.rob_meaning.specs.Certificates.{Status as StatusOf};
 ghost use Rattle.rob_meaning.specs.Named.{AreDistinct};
 ghost use Rattle.rob_cert.specs.Causes.{HasCause};
@@ -85,8 +86,7 @@ fn read_cover<N: Exact, L: Ledger>(
         (λ c. IsCoverLine (naming names.now) N.limit which least.0 least.1 (words_in line.now) c.form c.set_row
         (N.value c.amount))
         (λ o. HasCoverFault (naming names.now) N.limit which least.0 least.1 (words_in line.now) o) }
-    ensures ops { L.ops ledger.old ≤ L.ops ledger.new }
-    ensures wides { L.wides ledger.old ≤ L.wides ledger.new }
+    ensures counted { NeverFell L.ops L.wides ledger.old ledger.new }
 {
     match four_words(line) {
         None => Err(Offence::NoLine),
@@ -126,8 +126,7 @@ pub fn read_covers<'a, N: Exact, L: Ledger>(
     ensures fault { IfErr result (λ e. (s : StatusOf) (stage : Stage)
         → StandsBehind s (multipliers_kind which) 0 0 stage
         → HasCause (naming names.now) N.limit stage at.entry.rest.now at.entry.line e) }
-    ensures ops { L.ops ledger.old ≤ L.ops ledger.new }
-    ensures wides { L.wides ledger.old ≤ L.wides ledger.new }
+    ensures counted { NeverFell L.ops L.wides ledger.old ledger.new }
 {
     let mut list = List::new(alloc);
     let mut form = 0usize;

@@ -1,6 +1,7 @@
 //! The lines of a vector's entries.
 
 ghost use Rattle.std.specs.Prelude.{◌≡◌, ◌+◌, ◌^◌, ◌<◌, ◌≤◌, ℕ, length, map, IfOk, IfErr};
+ghost use Rattle.rob_number.specs.Counts.{NeverFell};
 ghost use Rattle.rob_meaning.specs.Certificates.{Status as StatusOf};
 ghost use Rattle.rob_cert.specs.Causes.{HasCause};
 ghost use Rattle.rob_cert.specs.NamesView.{naming};
@@ -33,8 +34,7 @@ pub struct Entries<'a, N> {
 /// That many zeros.
 fn zeros<N: Exact, L: Ledger>(alloc: Global, count: usize, ledger: &mut L) -> Result<Vec<N>, Memory>
     ensures zeros { IfOk result (λ v. IsZeroVector count (map N.value v.items)) }
-    ensures ops { L.ops ledger.old ≤ L.ops ledger.new }
-    ensures wides { L.wides ledger.old ≤ L.wides ledger.new }
+    ensures counted { NeverFell L.ops L.wides ledger.old ledger.new }
 {
     let mut numbers = Vec::new(alloc);
     let nothing: N = zero(ledger);
@@ -61,8 +61,7 @@ pub fn read_entries<'a, N: Exact, L: Ledger>(
     ensures fault { IfErr result (λ e. (s : StatusOf) (form : ℕ) (stage : Stage)
         → StandsAt s (entries_kind vector) form 0 stage
         → HasCause (naming names.now) N.limit stage at.entry.rest.now at.entry.line e) }
-    ensures ops { L.ops ledger.old ≤ L.ops ledger.new }
-    ensures wides { L.wides ledger.old ≤ L.wides ledger.new }
+    ensures counted { NeverFell L.ops L.wides ledger.old ledger.new }
 {
     let mut numbers = zeros(alloc, count, ledger)?;
     let mut least = 0usize;

@@ -1,6 +1,7 @@
 //! A line of an entry: its kind, a name and a number.
 
-ghost use Rattle.std.specs.Prelude.{◌≡◌, ◌≤◌, ◌↔◌, codes, IsTrue, MatchOption, MatchResult};
+ghost use Rattle.std.specs.Prelude.{◌≡◌, ◌↔◌, codes, IsTrue, MatchOption, MatchResult};
+ghost use Rattle.rob_number.specs.Counts.{NeverFell};
 ghost use Rattle.rob_cert.specs.NamesView.{naming};
 ghost use Rattle.rob_cert.specs.Reading.{BeginsWithLine, words_in};
 ghost use Rattle.rob_cert.specs.Sections.{HasEntryFault, HasFirst, HasNoLineOf, IsEntry};
@@ -57,8 +58,7 @@ pub fn read_entry<N: Exact, L: Ledger>(
     ensures entry { MatchResult result
         (λ e. IsEntry (naming names.now) N.limit vector least (words_in line.now) e.place (N.value e.number))
         (λ o. HasEntryFault (naming names.now) N.limit vector least (words_in line.now) o) }
-    ensures ops { L.ops ledger.old ≤ L.ops ledger.new }
-    ensures wides { L.wides ledger.old ≤ L.wides ledger.new }
+    ensures counted { NeverFell L.ops L.wides ledger.old ledger.new }
 {
     match three_words(line) {
         None => Err(Offence::NoLine),

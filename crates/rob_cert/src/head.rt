@@ -1,6 +1,7 @@
 //! The first lines of a certificate's text.
 
-ghost use Rattle.std.specs.Prelude.{◌≡◌, ◌≢◌, ◌+◌, ◌^◌, ◌<◌, ◌≤◌, ◌++◌, ◌∷◌, [], ℕ, length, IfOk, IfErr, MatchOption, List};
+ghost use Rattle.std.specs.Prelude.{◌≡◌, ◌≢◌, ◌+◌, ◌^◌, ◌<◌, ◌≤◌, ◌++◌, ◌∷◌, [], ℕ, true, length, IfOk, IfErr, MatchOption, MatchResult, List};
+ghost use Rattle.rob_number.specs.Counts.{NeverFell};
 ghost use Rattle.rob_meaning.specs.Certificates.{Status as StatusOf, infeasible};
 ghost use Rattle.rob_meaning.specs.Places.{0ℚ, 1ℚ};
 ghost use Rattle.rob_cert.specs.Causes.{HasCause};
@@ -97,8 +98,7 @@ fn read_single<'a, N: Exact, L: Ledger>(
         (bound_line which (N.value r.number) ∷ []) r.at.rest.now r.at.line) }
     ensures small { IfOk result (λ r. r.at.line + length r.at.rest.now ≤ at.entry.line + length at.entry.rest.now) }
     ensures fault { IfErr result (λ o. HasBoundFault N.limit which at.entry.rest.now o) }
-    ensures ops { L.ops ledger.old ≤ L.ops ledger.new }
-    ensures wides { L.wides ledger.old ≤ L.wides ledger.new }
+    ensures counted { NeverFell L.ops L.wides ledger.old ledger.new }
 {
     match next_of(at.rest, which.word()) {
         None => Err(Offence::NoLine),
@@ -129,8 +129,7 @@ fn read_both<'a, N: Exact, L: Ledger>(
     ensures small { IfOk result (λ r. r.at.line + length r.at.rest.now ≤ at.entry.line + length at.entry.rest.now) }
     ensures fault { IfErr result (λ e. (names : Naming) (s : StatusOf) → s ≢ infeasible
         → HasCause names N.limit (behind s claims 0 0) at.entry.rest.now at.entry.line e) }
-    ensures ops { L.ops ledger.old ≤ L.ops ledger.new }
-    ensures wides { L.wides ledger.old ≤ L.wides ledger.new }
+    ensures counted { NeverFell L.ops L.wides ledger.old ledger.new }
 {
     match read_single(Bound::Value, at, ledger) {
         Err(offence) => Err(CertErr::Rule(offence.rule(), at.line)),
@@ -159,8 +158,7 @@ fn read_bounds<'a, N: Exact, L: Ledger>(
     ensures small { IfOk result (λ r. r.at.line + length r.at.rest.now ≤ at.entry.line + length at.entry.rest.now) }
     ensures fault { IfErr result (λ e. (names : Naming)
         → HasCause names N.limit (behind (status_of status) claims 0 0) at.entry.rest.now at.entry.line e) }
-    ensures ops { L.ops ledger.old ≤ L.ops ledger.new }
-    ensures wides { L.wides ledger.old ≤ L.wides ledger.new }
+    ensures counted { NeverFell L.ops L.wides ledger.old ledger.new }
 {
     match status {
         Status::Optimal => read_both(at, ledger),
@@ -186,8 +184,7 @@ pub fn read_front<'a, N: Exact, L: Ledger>(
         → (N.value r.value ≡ 0ℚ) × (N.value r.scale ≡ 1ℚ)) }
     ensures small { IfOk result (λ r. r.at.line + length r.at.rest.now ≤ 2 + length text.now) }
     ensures fault { IfErr result (λ e. (names : Naming) → HasCause names N.limit start text.now 1 e) }
-    ensures ops { L.ops ledger.old ≤ L.ops ledger.new }
-    ensures wides { L.wides ledger.old ≤ L.wides ledger.new }
+    ensures counted { NeverFell L.ops L.wides ledger.old ledger.new }
 {
     match read_status(text) {
         None => Err(CertErr::Rule(Offence::NoLine.rule(), 1)),

@@ -1,6 +1,7 @@
 //! The lines of items.
 
-ghost use Rattle.std.specs.Prelude.{◌≡◌, ◌+◌, ◌^◌, ◌<◌, ◌≤◌, ◌++◌, ◌∷◌, ℕ, codes, length, map, IfOk, IfErr, MatchResult};
+ghost use Rattle.std.specs.Prelude.{◌+◌, ◌^◌, ◌<◌, ◌≤◌, ◌++◌, ◌∷◌, ℕ, codes, length, map, IfOk, IfErr, MatchResult};
+ghost use Rattle.rob_number.specs.Counts.{NeverFell};
 ghost use Rattle.rob_meaning.specs.Certificates.{Status as StatusOf};
 ghost use Rattle.rob_cert.specs.Causes.{HasCause};
 ghost use Rattle.rob_cert.specs.NamesView.{naming};
@@ -55,8 +56,7 @@ fn read_head<N: Exact, L: Ledger>(
         (λ h. IsItemLine (naming names.now) N.limit least (words_in line.now) h.form (N.value h.weight)
         (N.value h.base))
         (λ o. HasItemFault (naming names.now) N.limit least (words_in line.now) o) }
-    ensures ops { L.ops ledger.old ≤ L.ops ledger.new }
-    ensures wides { L.wides ledger.old ≤ L.wides ledger.new }
+    ensures counted { NeverFell L.ops L.wides ledger.old ledger.new }
 {
     match four_words(line) {
         None => Err(Offence::NoLine),
@@ -96,8 +96,7 @@ fn read_item<'a, N: Exact, L: Ledger>(
     ensures fault { IfErr result (λ e. HasItemReadFault (naming names.now) N.limit least
         (words_in split.entry.front.now)
         split.entry.back.now (line + 1) line e) }
-    ensures ops { L.ops ledger.old ≤ L.ops ledger.new }
-    ensures wides { L.wides ledger.old ≤ L.wides ledger.new }
+    ensures counted { NeverFell L.ops L.wides ledger.old ledger.new }
 {
     match read_head(split.front, names, least, ledger) {
         Err(offence) => Err(CertErr::Rule(offence.rule(), line)),
@@ -137,8 +136,7 @@ pub fn read_items<'a, N: Exact, L: Ledger>(
     ensures small { IfOk result (λ r. r.at.line + length r.at.rest.now ≤ at.entry.line + length at.entry.rest.now) }
     ensures fault { IfErr result (λ e. (s : StatusOf) (stage : Stage) → StandsItem s 0 stage
         → HasCause (naming names.now) N.limit stage at.entry.rest.now at.entry.line e) }
-    ensures ops { L.ops ledger.old ≤ L.ops ledger.new }
-    ensures wides { L.wides ledger.old ≤ L.wides ledger.new }
+    ensures counted { NeverFell L.ops L.wides ledger.old ledger.new }
 {
     let mut list = List::new(alloc);
     let mut form = 0usize;

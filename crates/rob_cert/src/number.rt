@@ -1,7 +1,8 @@
 //! Numbers as they are spelled in a text.
 
 ghost use Rattle.std.specs.Fmt.{decimal, signed_decimal};
-ghost use Rattle.std.specs.Prelude.{◌≡◌, ◌-◌, ◌^◌, ◌<◌, ◌≤◌, ◌++◌, ◌∷◌, ◌<ℤ◌, ◌↔◌, ℕ, ℤ, List, Some, codes, pos, nat_abs, IfSome, IsTrue, MatchOption, if◌then◌else◌, ◌==◌, []};
+ghost use Rattle.std.specs.Prelude.{◌≡◌, ◌-◌, ◌^◌, ◌<◌, ◌++◌, ◌∷◌, ◌<ℤ◌, ◌↔◌, ℕ, ℤ, List, Some, codes, pos, nat_abs, length, IfSome, IsTrue, MatchOption, if◌then◌else◌, ◌==◌, []};
+ghost use Rattle.rob_number.specs.Counts.{NeverFell};
 ghost use Rattle.rob_algebra.specs.Fraction.{Fraction};
 ghost use Rattle.rob_algebra.specs.Width.{Fits};
 ghost use Rattle.rob_cert.specs.Spelling.{number_text};
@@ -21,8 +22,7 @@ struct Parts {
 pub fn read_number<N: Exact, L: Ledger>(word: &[u8], ledger: &mut L) -> Option<N>
     ensures number { MatchOption result ((q : Fraction) → Fits N.limit q → word.now ≡ number_text q → ⊥)
         (λ x. word.now ≡ number_text (N.value x)) }
-    ensures ops { L.ops ledger.old ≤ L.ops ledger.new }
-    ensures wides { L.wides ledger.old ≤ L.wides ledger.new }
+    ensures counted { NeverFell L.ops L.wides ledger.old ledger.new }
 {
     match read_parts(word) {
         None => None,

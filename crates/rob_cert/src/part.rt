@@ -1,6 +1,7 @@
 //! The parts of a certificate's text that a status uses, one behind another.
 
-ghost use Rattle.std.specs.Prelude.{◌≡◌, ◌≢◌, ◌+◌, ◌^◌, ◌<◌, ◌≤◌, ◌++◌, ◌∷◌, [], ℕ, suc, length, map, if◌then◌else◌, IfOk, IfErr, IsTrue, ◌↔◌, codes, OnOk, List as Items_of};
+ghost use Rattle.std.specs.Prelude.{◌≡◌, ◌≢◌, ◌+◌, ◌^◌, ◌<◌, ◌≤◌, ◌++◌, ◌∷◌, [], ℕ, suc, length, map, if◌then◌else◌, IfOk, IfErr, IsTrue, ◌↔◌, codes, OnOk, false, List as Items_of};
+ghost use Rattle.rob_number.specs.Counts.{NeverFell};
 ghost use Rattle.rob_algebra.specs.Fraction.{Fraction};
 ghost use Rattle.rob_meaning.specs.Named.{AreDistinct};
 ghost use Rattle.rob_cert.specs.Lines.{Line, cover_lines, end_line, entry_lines, item_lines};
@@ -43,8 +44,7 @@ pub fn entries_part<'a, N: Exact, L: Ledger>(
     ensures small { IfOk result (λ r. r.at.line + length r.at.rest.now ≤ at.entry.line + length at.entry.rest.now) }
     ensures fault { IfErr result (λ e. Fails (naming names.now) N.limit (status_of status) (rank (entries_kind vector))
         at.entry.rest.now at.entry.line e) }
-    ensures ops { L.ops ledger.old ≤ L.ops ledger.new }
-    ensures wides { L.wides ledger.old ≤ L.wides ledger.new }
+    ensures counted { NeverFell L.ops L.wides ledger.old ledger.new }
 {
     if vector.is_used(status) {
         let count = names.entry_count(vector);
@@ -80,8 +80,7 @@ pub fn covers_part<'a, N: Exact, L: Ledger>(
     ensures fault { IfErr result (λ e. Fails (naming names.now) N.limit (status_of status)
         (rank (multipliers_kind which))
         at.entry.rest.now at.entry.line e) }
-    ensures ops { L.ops ledger.old ≤ L.ops ledger.new }
-    ensures wides { L.wides ledger.old ≤ L.wides ledger.new }
+    ensures counted { NeverFell L.ops L.wides ledger.old ledger.new }
 {
     if which.is_used(status) {
         read_covers(alloc, which, names, at, ledger)
@@ -111,8 +110,7 @@ pub fn items_part<'a, N: Exact, L: Ledger>(
     ensures small { IfOk result (λ r. r.at.line + length r.at.rest.now ≤ at.entry.line + length at.entry.rest.now) }
     ensures fault { IfErr result (λ e. Fails (naming names.now) N.limit
         (status_of status) 8 at.entry.rest.now at.entry.line e) }
-    ensures ops { L.ops ledger.old ≤ L.ops ledger.new }
-    ensures wides { L.wides ledger.old ≤ L.wides ledger.new }
+    ensures counted { NeverFell L.ops L.wides ledger.old ledger.new }
 {
     if Vector::At.is_used(status) {
         read_items(alloc, names, at, ledger)

@@ -1,6 +1,7 @@
 //! The certificate that a text is.
 
-ghost use Rattle.std.specs.Prelude.{◌≡◌, ◌+◌, ◌^◌, ◌<◌, ◌≤◌, length, map, IfOk, IfErr, ℕ};
+ghost use Rattle.std.specs.Prelude.{◌≡◌, ◌+◌, ◌^◌, ◌<◌, ◌≤◌, length, map, IfOk, IfErr, List as Items_of, ℕ};
+ghost use Rattle.rob_number.specs.Counts.{NeverFell};
 ghost use Rattle.rob_meaning.specs.Certificates.{Certificate};
 ghost use Rattle.rob_meaning.specs.Named.{AreDistinct, IsNamed};
 ghost use Rattle.rob_model.specs.Valid.{IsValid};
@@ -71,8 +72,7 @@ fn read_vectors<'a, N: Exact, L: Ledger>(
     ensures small { IfOk result (λ r. r.at.line + length r.at.rest.now ≤ at.entry.line + length at.entry.rest.now) }
     ensures fault { IfErr result (λ e. Fails (naming names.now) N.limit
         (status_of status) 3 at.entry.rest.now at.entry.line e) }
-    ensures ops { L.ops ledger.old ≤ L.ops ledger.new }
-    ensures wides { L.wides ledger.old ≤ L.wides ledger.new }
+    ensures counted { NeverFell L.ops L.wides ledger.old ledger.new }
 {
     match entries_part(alloc, status, Vector::Inside, names, at, ledger) {
         Err(error) => Err(error),
@@ -109,8 +109,7 @@ fn read_lists<N: Exact, L: Ledger>(
         (map (cover_of N.value) r.covers) (map (cover_of N.value) r.holds) (map (item_of N.value) r.items)) }
     ensures fault { IfErr result (λ e. Fails (naming names.now) N.limit
         (status_of status) 6 at.entry.rest.now at.entry.line e) }
-    ensures ops { L.ops ledger.old ≤ L.ops ledger.new }
-    ensures wides { L.wides ledger.old ≤ L.wides ledger.new }
+    ensures counted { NeverFell L.ops L.wides ledger.old ledger.new }
 {
     match covers_part(alloc, status, Multipliers::Covers, names, at, ledger) {
         Err(error) => Err(error),
@@ -141,8 +140,7 @@ fn read_lists<N: Exact, L: Ledger>(
 /// A direction's numbers without the last, which is its bound; where there are none the bound is 0.
 fn split_bound<N: Exact, L: Ledger>(mut moved: Vec<N>, ledger: &mut L) -> Direction<N>
     ensures moved { IsMoved (map N.value moved.items) (map N.value result.step.items) (N.value result.bound) }
-    ensures ops { L.ops ledger.old ≤ L.ops ledger.new }
-    ensures wides { L.wides ledger.old ≤ L.wides ledger.new }
+    ensures counted { NeverFell L.ops L.wides ledger.old ledger.new }
 {
     match moved.pop() {
         None => Direction {
@@ -205,8 +203,7 @@ fn read_text<N: Exact, L: Ledger>(
         ≡ lines_text (naming names.now) (lines_of (certificate_of N.value cert))) }
     ensures shape { IfOk result (λ cert. IsWellRead (naming names.now) (certificate_of N.value cert)) }
     ensures fault { IfErr result (λ e. HasCause (naming names.now) N.limit start text.now 1 e) }
-    ensures ops { L.ops ledger.old ≤ L.ops ledger.new }
-    ensures wides { L.wides ledger.old ≤ L.wides ledger.new }
+    ensures counted { NeverFell L.ops L.wides ledger.old ledger.new }
 {
     match read_front(text, ledger) {
         Err(error) => Err(error),
@@ -242,8 +239,7 @@ pub fn read_cert<N: Exact, L: Ledger>(
     ensures exact { (c : Certificate) → IsNamedInWords (robust N.value model.now)
         → IsTextOf (robust N.value model.now) c text.now
         → FitsLines N.limit (robust N.value model.now) c → Reads N.value c result }
-    ensures ops { L.ops ledger.old ≤ L.ops ledger.new }
-    ensures wides { L.wides ledger.old ≤ L.wides ledger.new }
+    ensures counted { NeverFell L.ops L.wides ledger.old ledger.new }
 {
     match Names::of(alloc, model) {
         Err(memory) => Err(CertErr::from(memory)),

@@ -1,5 +1,6 @@
 use Rattle.std.proofs.Common.{◌+◌, ◌∷◌, [], arith, map, ap, sym, subst, ◌∙◌}
 use Rattle.std.proofs.lemmas.List.{map-append}
+use Rattle.rob_number.proofs.CountLemmas.{later}
 use Rattle.rob_cert.specs.NamesView.{naming}
 use Rattle.rob_cert.specs.Sections.{HasNoLineOf}
 use Rattle.rob_cert.specs.View.{cover_of}
@@ -39,8 +40,7 @@ loop-split-preserved g c =
         c.loop-split.invariant.small,
         shorter c.loop-split.rest.now c.in-Some.split.front.now c.in-Some.split.back.now begins,
       );
-      ops = omega (arith, c.loop-split.invariant.ops, c.in-Ok.ensures.ops);
-      wides = omega (arith, c.loop-split.invariant.wides, c.in-Ok.ensures.wides);
+      counted = later c.loop-split.invariant.counted c.in-Ok.ensures.counted;
     }
 
 pub returns-clause-read : goal.returns-clause-read

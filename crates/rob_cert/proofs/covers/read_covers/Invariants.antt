@@ -1,4 +1,5 @@
 use Rattle.std.proofs.Common.{◌+◌, ◌≤◌, map, length}
+use Rattle.rob_number.specs.Counts.{NeverFell}
 use Rattle.rob_cert.specs.NamesView.{naming}
 use Rattle.rob_cert.specs.View.{cover_of}
 use Rattle.rob_cert.proofs.CoverLemmas.{CoversSoFar}
@@ -9,8 +10,7 @@ invariant-loop-split g l = record {
   so : CoversSoFar (naming l.names) g.N.Exact.limit l.which l.at.rest.now l.at.line
       (map (cover_of g.N.Exact.value) l.list) l.form l.place l.rest l.line;
   small : l.line + length l.rest ≤ l.at.line + length l.at.rest.now;
-  ops : g.L.Ledger.ops l.fn.ledger ≤ g.L.Ledger.ops l.ledger;
-  wides : g.L.Ledger.wides l.fn.ledger ≤ g.L.Ledger.wides l.ledger;
+  counted : NeverFell g.L.Ledger.ops g.L.Ledger.wides l.fn.ledger l.ledger;
 }
 
 abbrev pub decreases-loop-split : goal.decreases-loop-split

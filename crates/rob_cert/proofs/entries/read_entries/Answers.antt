@@ -1,4 +1,5 @@
 use Rattle.std.proofs.Common.{◌+◌, ◌∷◌, arith, map, ap, sym, subst, ◌∙◌}
+use Rattle.rob_number.proofs.CountLemmas.{later}
 use Rattle.rob_cert.specs.NamesView.{naming}
 use Rattle.rob_cert.proofs.CauseLemmas.{entries_fault}
 use Rattle.rob_cert.proofs.SectionLemmas.{shorter, EntriesSoFar, entries_start, entries_more, map-set}
@@ -11,8 +12,7 @@ loop-split-init g c =
       so = entries_start (naming c.args.names.now) g.N.Exact.limit c.args.vector c.args.at.rest.now c.args.at.line
           c.args.count (map g.N.Exact.value c.in_ok-numbers.numbers.items) z.size z.zero_at;
       small = omega arith;
-      ops = omega (arith, c.in_ok-numbers.ensures.ops);
-      wides = omega (arith, c.in_ok-numbers.ensures.wides);
+      counted = c.in_ok-numbers.ensures.counted;
     }
 
 pub returns-in-Err-clause-fault : goal.returns-in-Err-clause-fault
@@ -46,6 +46,5 @@ loop-split-preserved g c =
         c.loop-split.invariant.small,
         shorter c.loop-split.rest.now c.in-Some.split.front.now c.in-Some.split.back.now begins,
       );
-      ops = omega (arith, c.loop-split.invariant.ops, c.in-Ok.ensures.ops);
-      wides = omega (arith, c.loop-split.invariant.wides, c.in-Ok.ensures.wides);
+      counted = later c.loop-split.invariant.counted c.in-Ok.ensures.counted;
     }

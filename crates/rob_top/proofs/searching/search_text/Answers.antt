@@ -8,7 +8,7 @@ returns-in-Ok-clause-answers g c =
     read_answers g.N.Exact.limit (robust g.N.Exact.value c.args.model.now) c.args.name.now
     (g.L.Ledger.wides c.args.ledger.now)
     (g.L.Ledger.wides c.read_cert.new.ledger) (g.L.Ledger.wides c.search_cert.new.ledger) c.args.certificate.now
-    (certificate_of g.N.Exact.value c.in-Ok.cert) c.search_cert.result c.read_cert.ensures.wides
+    (certificate_of g.N.Exact.value c.in-Ok.cert) c.search_cert.result c.read_cert.ensures.counted.wides
     c.in-Ok.ensures.read c.in-Ok.ensures.fits
     c.search_cert.ensures.answers
 
