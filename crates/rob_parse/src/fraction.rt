@@ -1,6 +1,7 @@
 //! From digits to numbers.
 
-ghost use Rattle.std.specs.Prelude.{◌≡◌, ◌≤◌, option_map};
+ghost use Rattle.std.specs.Prelude.{◌≡◌, option_map};
+ghost use Rattle.rob_number.specs.Counts.{CountsOnly};
 ghost use Rattle.rob_parse.specs.Building.{FitsNumber, FitsBounds};
 ghost use Rattle.rob_parse.specs.Models.{signed_fraction, lower_bound, upper_bound};
 ghost use Rattle.rob_parse.specs.Models as spec;
@@ -12,8 +13,7 @@ use rob_syntax::syntax::{Bounds, Numeral, Signed};
 pub fn fraction<N: Exact, L: Ledger>(numeral: Numeral, ledger: &mut L) -> N
     requires fits { FitsNumber N.limit numeral }
     ensures value { N.value result ≡ spec.fraction numeral }
-    ensures ops { L.ops ledger.old ≤ L.ops ledger.new }
-    ensures wides { L.wides ledger.old ≡ L.wides ledger.new }
+    ensures counted { CountsOnly L.ops L.wides ledger.old ledger.new }
 {
     let divisor = numeral.divisor.unwrap_or(1);
     match N::from_parts(numeral.numerator as i64, divisor as i64, ledger) {
@@ -26,8 +26,7 @@ pub fn fraction<N: Exact, L: Ledger>(numeral: Numeral, ledger: &mut L) -> N
 pub fn signed<N: Exact, L: Ledger>(signed: Signed, ledger: &mut L) -> N
     requires fits { FitsNumber N.limit signed.number }
     ensures value { N.value result ≡ signed_fraction signed }
-    ensures ops { L.ops ledger.old ≤ L.ops ledger.new }
-    ensures wides { L.wides ledger.old ≡ L.wides ledger.new }
+    ensures counted { CountsOnly L.ops L.wides ledger.old ledger.new }
 {
     let number: N = fraction(signed.number, ledger);
     if signed.minus { number.neg() } else { number }
@@ -37,8 +36,7 @@ pub fn signed<N: Exact, L: Ledger>(signed: Signed, ledger: &mut L) -> N
 pub fn lower<N: Exact, L: Ledger>(bounds: Option<Bounds>, ledger: &mut L) -> Option<N>
     requires fits { FitsBounds N.limit bounds }
     ensures value { option_map N.value result ≡ lower_bound bounds }
-    ensures ops { L.ops ledger.old ≤ L.ops ledger.new }
-    ensures wides { L.wides ledger.old ≡ L.wides ledger.new }
+    ensures counted { CountsOnly L.ops L.wides ledger.old ledger.new }
 {
     match bounds {
         Some(Bounds::Between(both)) => Some(signed(both.lower, ledger)),
@@ -51,8 +49,7 @@ pub fn lower<N: Exact, L: Ledger>(bounds: Option<Bounds>, ledger: &mut L) -> Opt
 pub fn upper<N: Exact, L: Ledger>(bounds: Option<Bounds>, ledger: &mut L) -> Option<N>
     requires fits { FitsBounds N.limit bounds }
     ensures value { option_map N.value result ≡ upper_bound bounds }
-    ensures ops { L.ops ledger.old ≤ L.ops ledger.new }
-    ensures wides { L.wides ledger.old ≡ L.wides ledger.new }
+    ensures counted { CountsOnly L.ops L.wides ledger.old ledger.new }
 {
     match bounds {
         Some(Bounds::Between(both)) => Some(signed(both.upper, ledger)),

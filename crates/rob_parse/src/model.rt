@@ -5,6 +5,7 @@ ghost use Rattle.rob_meaning.specs.Named.{IsNamed};
 ghost use Rattle.rob_meaning.specs.Places.{Each};
 ghost use Rattle.rob_meaning.specs.RobustModel.{in_set, joint_parameters};
 ghost use Rattle.std.specs.List.{flat_map};
+ghost use Rattle.rob_number.specs.Counts.{CountsOnly};
 ghost use Rattle.rob_model.specs.Valid.{IsValid};
 ghost use Rattle.rob_model.specs.View.{robust, parameter_of, variable_of, adaptive_of, set_line_of, row_of};
 ghost use Rattle.rob_parse.specs.Building.{FitsBounds, FitsRelation, FitsNumber, FitsMember, FitsStatement, HasAdded, HasRoom, HasRoomForAll};
@@ -39,9 +40,8 @@ pub fn read_model<N: Exact, L: Ledger>(
     ensures valid { IfOk result (λ m. IsValid N.value m) }
     ensures named { IfOk result (λ m. IsNamed (robust N.value m)) }
     ensures cause { IfErr result (λ e. HasTextCause N.limit text.now e) }
-    ensures ops { L.ops ledger.old ≤ L.ops ledger.new }
     // No number is wide, since digits over the limit are refused before.
-    ensures told { L.wides ledger.old ≡ L.wides ledger.new }
+    ensures counted { CountsOnly L.ops L.wides ledger.old ledger.new }
 {
     let found = match read_text(alloc, text, N::LIMIT as u64) {
         Ok(found) => found,
@@ -69,8 +69,7 @@ fn model<N: Exact, L: Ledger>(
         ≡ length (flat_map (parameters (texts words.now.keys)) list.now) }
     ensures read { IfOk result (λ m. robust N.value m
         ≡ model_of (texts words.now.keys) scope.now.sorts.items list.now) }
-    ensures ops { L.ops ledger.old ≤ L.ops ledger.new }
-    ensures wides { L.wides ledger.old ≡ L.wides ledger.new }
+    ensures counted { CountsOnly L.ops L.wides ledger.old ledger.new }
 {
     let Some(goal) = goal(list) else {
         unreachable!()
@@ -185,8 +184,7 @@ fn add<N: Exact, L: Ledger>(
     requires room { HasRoomForAll scope.now }
     ensures added { OnOk result (HasAdded (texts words.now.keys) scope.now statement.now
         (robust N.value model.old) (robust N.value model.new)) }
-    ensures ops { L.ops ledger.old ≤ L.ops ledger.new }
-    ensures wides { L.wides ledger.old ≡ L.wides ledger.new }
+    ensures counted { CountsOnly L.ops L.wides ledger.old ledger.new }
 {
     match statement {
         Statement::Uncertain(declared) => {
@@ -239,8 +237,7 @@ fn parameter<N: Exact, L: Ledger>(
     requires fits { FitsBounds N.limit declared.bounds }
     ensures read { IfOk result (λ p. parameter_of N.value p ∷ []
         ≡ parameters (texts words.now.keys) (parsed.Uncertain declared)) }
-    ensures ops { L.ops ledger.old ≤ L.ops ledger.new }
-    ensures wides { L.wides ledger.old ≡ L.wides ledger.new }
+    ensures counted { CountsOnly L.ops L.wides ledger.old ledger.new }
 {
     let name = word_of(alloc, words, declared.name)?;
     let lower = lower(declared.bounds, ledger);
@@ -258,8 +255,7 @@ fn variable<N: Exact, L: Ledger>(
     requires fits { FitsBounds N.limit declared.bounds }
     ensures read { IfOk result (λ x. variable_of N.value x ∷ []
         ≡ variables (texts words.now.keys) (parsed.Var declared)) }
-    ensures ops { L.ops ledger.old ≤ L.ops ledger.new }
-    ensures wides { L.wides ledger.old ≡ L.wides ledger.new }
+    ensures counted { CountsOnly L.ops L.wides ledger.old ledger.new }
 {
     let name = word_of(alloc, words, declared.name)?;
     let lower = lower(declared.bounds, ledger);
@@ -278,8 +274,7 @@ fn adaptive<N: Exact, L: Ledger>(
     requires fits { FitsBounds N.limit policy.now.bounds }
     ensures read { IfOk result (λ y. adaptive_of N.value y ∷ []
         ≡ adaptives (texts words.now.keys) sorts.now (parsed.Adaptive policy.now)) }
-    ensures ops { L.ops ledger.old ≤ L.ops ledger.new }
-    ensures wides { L.wides ledger.old ≡ L.wides ledger.new }
+    ensures counted { CountsOnly L.ops L.wides ledger.old ledger.new }
 {
     let name = word_of(alloc, words, policy.name)?;
     let on = parameters_at(alloc, sorts, policy.on.items())?;
@@ -305,8 +300,7 @@ fn set_line<N: Exact, L: Ledger>(
     requires room { HasRoom sorts.now place }
     ensures read { IfOk result (λ s. set_line_of N.value s ∷ []
         ≡ map (line_taken place.count place.set) (set_lines sorts.now (parsed.Set set.now))) }
-    ensures ops { L.ops ledger.old ≤ L.ops ledger.new }
-    ensures wides { L.wides ledger.old ≡ L.wides ledger.new }
+    ensures counted { CountsOnly L.ops L.wides ledger.old ledger.new }
 {
     let left = expression(alloc, sorts, place, &set.left, ledger)?;
     let rel = relation(set.rel);
@@ -327,8 +321,7 @@ fn budget_line<N: Exact, L: Ledger>(
     requires room { HasRoom sorts.now place }
     ensures read { IfOk result (λ s. set_line_of N.value s ∷ []
         ≡ map (line_taken place.count place.set) (set_lines sorts.now (parsed.Budget budget.now))) }
-    ensures ops { L.ops ledger.old ≤ L.ops ledger.new }
-    ensures wides { L.wides ledger.old ≡ L.wides ledger.new }
+    ensures counted { CountsOnly L.ops L.wides ledger.old ledger.new }
 {
     let limit = fraction(budget.limit, ledger);
     let members = members(alloc, sorts, place, budget.members.items(), ledger)?;
@@ -347,10 +340,8 @@ fn row_def<N: Exact, L: Ledger>(
     requires fits { FitsRelation N.limit row.now.relation }
     requires room { HasRoom sorts.now place }
     ensures read { IfOk result (λ r. row_of N.value r ∷ []
-        ≡ map (row_taken place.count place.set)
-        (rows (texts words.now.keys) sorts.now (parsed.Row row.now))) }
-    ensures ops { L.ops ledger.old ≤ L.ops ledger.new }
-    ensures wides { L.wides ledger.old ≡ L.wides ledger.new }
+        ≡ map (row_taken place.count place.set) (rows (texts words.now.keys) sorts.now (parsed.Row row.now))) }
+    ensures counted { CountsOnly L.ops L.wides ledger.old ledger.new }
 {
     let name = word_of(alloc, words, row.name)?;
     let left = expression(alloc, sorts, place, &row.relation.left, ledger)?;

@@ -1,6 +1,7 @@
 //! From the parts of statements to those of a model.
 
-ghost use Rattle.std.specs.Prelude.{◌≡◌, ◌≤◌, map, IfOk};
+ghost use Rattle.std.specs.Prelude.{◌≡◌, map, IfOk};
+ghost use Rattle.rob_number.specs.Counts.{CountsOnly};
 ghost use Rattle.rob_meaning.specs.Places.{Each};
 ghost use Rattle.rob_model.specs.View.{member_of, relation_of as model_relation, sense_of as model_sense};
 ghost use Rattle.rob_parse.specs.Building.{FitsMember, HasRoom};
@@ -79,8 +80,7 @@ pub fn members<N: Exact, L: Ledger>(
     requires room { HasRoom sorts.now place }
     ensures read { IfOk result (λ list. map (member_of N.value) list
         ≡ map (member_taken place.count place.set) (map (spec.member sorts.now) members.now)) }
-    ensures ops { L.ops ledger.old ≤ L.ops ledger.new }
-    ensures wides { L.wides ledger.old ≡ L.wides ledger.new }
+    ensures counted { CountsOnly L.ops L.wides ledger.old ledger.new }
 {
     let mut list = List::new(alloc);
     for next in members {
@@ -100,8 +100,7 @@ fn member<N: Exact, L: Ledger>(
     requires room { HasRoom sorts.now place }
     ensures read { member_of N.value result
         ≡ member_taken place.count place.set (spec.member sorts.now member.now) }
-    ensures ops { L.ops ledger.old ≤ L.ops ledger.new }
-    ensures wides { L.wides ledger.old ≡ L.wides ledger.new }
+    ensures counted { CountsOnly L.ops L.wides ledger.old ledger.new }
 {
     Member {
         param: place.set * place.count + parameter_at(sorts, member.name),

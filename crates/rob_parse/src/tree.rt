@@ -1,6 +1,7 @@
 //! From the parser's trees to expressions of a model.
 
-ghost use Rattle.std.specs.Prelude.{◌≡◌, ◌≤◌, map, IfOk};
+ghost use Rattle.std.specs.Prelude.{◌≡◌, map, IfOk};
+ghost use Rattle.rob_number.specs.Counts.{CountsOnly};
 ghost use Rattle.rob_model.specs.View.{expression_of, signed_of, terms_of, factors_of};
 ghost use Rattle.rob_parse.specs.Building.{FitsTree, FitsSummands, FitsOperands, HasRoom};
 ghost use Rattle.rob_rules.specs.Degrees as degrees;
@@ -29,8 +30,7 @@ pub fn expression<N: Exact, L: Ledger>(
     requires room { HasRoom sorts.now place }
     ensures read { IfOk result (λ e. expression_of N.value e
         ≡ taken place.count place.set (spec.expression sorts.now (tree_of tree.now))) }
-    ensures ops { L.ops ledger.old ≤ L.ops ledger.new }
-    ensures wides { L.wides ledger.old ≡ L.wides ledger.new }
+    ensures counted { CountsOnly L.ops L.wides ledger.old ledger.new }
 {
     match tree {
         Syntax::Number(numeral) => Ok(Expr::Number(fraction(*numeral, ledger))),
@@ -55,10 +55,8 @@ fn terms<N: Exact, L: Ledger>(
     requires fits { FitsSummands N.limit (summands_of (map part_of parts.now)) }
     requires room { HasRoom sorts.now place }
     ensures read { IfOk result (λ ts. terms_of (map (signed_of N.value) ts)
-        ≡ terms_taken place.count place.set
-        (spec.terms sorts.now (summands_of (map part_of parts.now)))) }
-    ensures ops { L.ops ledger.old ≤ L.ops ledger.new }
-    ensures wides { L.wides ledger.old ≡ L.wides ledger.new }
+        ≡ terms_taken place.count place.set (spec.terms sorts.now (summands_of (map part_of parts.now)))) }
+    ensures counted { CountsOnly L.ops L.wides ledger.old ledger.new }
 {
     let mut list = List::new(alloc);
     for part in parts {
@@ -82,10 +80,8 @@ fn factors<N: Exact, L: Ledger>(
     requires fits { FitsOperands N.limit (operands_of (map tree_of trees.now)) }
     requires room { HasRoom sorts.now place }
     ensures read { IfOk result (λ fs. factors_of (map (expression_of N.value) fs)
-        ≡ factors_taken place.count place.set
-        (spec.factors sorts.now (operands_of (map tree_of trees.now)))) }
-    ensures ops { L.ops ledger.old ≤ L.ops ledger.new }
-    ensures wides { L.wides ledger.old ≡ L.wides ledger.new }
+        ≡ factors_taken place.count place.set (spec.factors sorts.now (operands_of (map tree_of trees.now)))) }
+    ensures counted { CountsOnly L.ops L.wides ledger.old ledger.new }
 {
     let mut list = List::new(alloc);
     for tree in trees {

@@ -1,5 +1,6 @@
-use Rattle.std.proofs.Common.{arith, map, ap, ◌∙◌}
+use Rattle.std.proofs.Common.{map, ap, ◌∙◌}
 use Rattle.std.specs.Prelude.{option_copied}
+use Rattle.rob_number.proofs.CountLemmas.{only_later}
 use Rattle.rob_model.specs.View.{robust, parameter_of, set_line_of, variable_of, adaptive_of, row_of}
 use Rattle.rob_meaning.specs.RobustModel.{joint_parameters}
 use Rattle.rob_model.proofs.PartLemmas.{each_at}
@@ -40,8 +41,7 @@ loop-statement-init g c =
             objective_set = ap (λ (q : Place). q.set) c.place_of-place.ensures.place;
           });
       fits = c.requires.fits;
-      ops = c.expression.ensures.ops;
-      wides = c.expression.ensures.wides;
+      counted = c.expression.ensures.counted;
     }
 
 pub loop-statement-preserved : goal.loop-statement-preserved
@@ -55,8 +55,7 @@ loop-statement-preserved g c =
       fits =
           (each_at (FitsStatement g.N.Exact.limit) c.args.list.now c.loop-statement.statement-index
           c.statement-item.result c.loop-statement-test.true c.statement-item.is c.loop-statement.invariant.fits).1;
-      ops = omega (arith, c.loop-statement.invariant.ops, c.add.ensures.ops);
-      wides = c.loop-statement.invariant.wides ∙ c.add.ensures.wides;
+      counted = only_later c.loop-statement.invariant.counted c.add.ensures.counted;
     }
 
 pub returns-clause-read : goal.returns-clause-read

@@ -1,4 +1,5 @@
-use Rattle.std.proofs.Common.{◌≡◌, ◌≤◌, drop}
+use Rattle.std.proofs.Common.{drop}
+use Rattle.rob_number.specs.Counts.{CountsOnly}
 use Rattle.rob_meaning.specs.Places.{Each}
 use Rattle.rob_model.specs.View.{robust}
 use Rattle.rob_parse.specs.Building.{FitsStatement}
@@ -10,6 +11,5 @@ abbrev pub invariant-loop-statement : goal.invariant-loop-statement
 invariant-loop-statement g l = record {
   grows : Grows (texts l.words.keys) l.scope l.list (drop l.statement-index l.list) (robust g.N.Exact.value l.model);
   fits : Each (FitsStatement g.N.Exact.limit) (drop l.statement-index l.list);
-  ops : g.L.Ledger.ops l.fn.ledger ≤ g.L.Ledger.ops l.ledger;
-  wides : g.L.Ledger.wides l.fn.ledger ≡ g.L.Ledger.wides l.ledger;
+  counted : CountsOnly g.L.Ledger.ops g.L.Ledger.wides l.fn.ledger l.ledger;
 }

@@ -1,4 +1,5 @@
-use Rattle.std.proofs.Common.{arith, get_or, ◌∙◌}
+use Rattle.std.proofs.Common.{get_or, ◌∙◌}
+use Rattle.rob_number.proofs.CountLemmas.{only_later}
 use Rattle.rob_model.specs.View.{member_of}
 use Rattle.rob_model.proofs.PartLemmas.{each_at}
 use Rattle.rob_parse.specs.Building.{FitsMember}
@@ -27,8 +28,7 @@ loop-next-preserved g c =
       fits =
           (each_at (FitsMember g.N.Exact.limit) c.args.members.now c.loop-next.next-index next c.loop-next-test.true is
           c.loop-next.invariant.fits).1;
-      ops = omega (arith, c.loop-next.invariant.ops, c.member.ensures.ops);
-      wides = c.loop-next.invariant.wides ∙ c.member.ensures.wides;
+      counted = only_later c.loop-next.invariant.counted c.member.ensures.counted;
     }
 
 pub returns-clause-read : goal.returns-clause-read

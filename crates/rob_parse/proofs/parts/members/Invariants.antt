@@ -1,4 +1,5 @@
-use Rattle.std.proofs.Common.{◌≡◌, ◌≤◌, ◌++◌, drop, map}
+use Rattle.std.proofs.Common.{◌≡◌, ◌++◌, drop, map}
+use Rattle.rob_number.specs.Counts.{CountsOnly}
 use Rattle.rob_meaning.specs.Places.{Each}
 use Rattle.rob_model.specs.View.{member_of}
 use Rattle.rob_parse.specs.Building.{FitsMember}
@@ -12,6 +13,5 @@ invariant-loop-next g l = record {
       (λ (h : Member). member_taken l.place.count l.place.set (member l.sorts h)) (drop l.next-index l.members) ≡ map
       (λ (h : Member). member_taken l.place.count l.place.set (member l.sorts h)) l.members;
   fits : Each (FitsMember g.N.Exact.limit) (drop l.next-index l.members);
-  ops : g.L.Ledger.ops l.fn.ledger ≤ g.L.Ledger.ops l.ledger;
-  wides : g.L.Ledger.wides l.fn.ledger ≡ g.L.Ledger.wides l.ledger;
+  counted : CountsOnly g.L.Ledger.ops g.L.Ledger.wides l.fn.ledger l.ledger;
 }

@@ -1,4 +1,5 @@
-use Rattle.std.proofs.Common.{arith, ap, ◌∙◌}
+use Rattle.std.proofs.Common.{ap, ◌∙◌}
+use Rattle.rob_number.proofs.CountLemmas.{only_later}
 use Rattle.rob_model.specs.View.{expression_of, signed_of, terms_of, factors_of}
 use Rattle.rob_model.proofs.PartLemmas.{signed_is}
 use Rattle.rob_parse.proofs.Building.MapLemmas.{map_step, map_end, signed_at, signed_same, factor_at, factor_same, terms_are, factors_are, summands_fit, operands_fit}
@@ -16,8 +17,7 @@ terms-loop-part-preserved g t c =
       fits =
           (summands_fit g.N.Exact.limit c.args.parts.now c.loop-part.part-index c.part-item.result c.loop-part-test.true
           c.part-item.is c.loop-part.invariant.fits).1;
-      ops = omega (arith, c.loop-part.invariant.ops, c.expression.ensures.ops);
-      wides = c.loop-part.invariant.wides ∙ c.expression.ensures.wides;
+      counted = only_later c.loop-part.invariant.counted c.expression.ensures.counted;
     }
 
 pub terms-returns-clause-read : goal.terms-returns-clause-read
@@ -39,8 +39,7 @@ factors-loop-tree-preserved g t c =
       fits =
           (operands_fit g.N.Exact.limit c.args.trees.now c.loop-tree.tree-index c.tree-item.result c.loop-tree-test.true
           c.tree-item.is c.loop-tree.invariant.fits).1;
-      ops = omega (arith, c.loop-tree.invariant.ops, c.expression.ensures.ops);
-      wides = c.loop-tree.invariant.wides ∙ c.expression.ensures.wides;
+      counted = only_later c.loop-tree.invariant.counted c.expression.ensures.counted;
     }
 
 pub factors-returns-clause-read : goal.factors-returns-clause-read

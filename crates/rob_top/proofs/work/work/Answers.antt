@@ -1,4 +1,4 @@
-use Rattle.std.proofs.Common.{ap, arith, length}
+use Rattle.std.proofs.Common.{ap, arith, length, sym}
 use Rattle.rob_model.specs.View.{robust}
 use Rattle.rob_top.proofs.Meaning.WorkLemmas.{model_answers, unread_answers}
 use Rattle.rob_top.proofs.work.work.Goals as goal
@@ -12,7 +12,8 @@ returns-in-Ok-clause-answers g c =
     model_answers g.N.Exact.limit (g.L.Ledger.wides c.args.ledger.now) (g.L.Ledger.wides c.read_model.new.ledger)
     (g.L.Ledger.wides c.on_model.new.ledger) (line_of c.args.line.now) c.args.texts.now
     c.as_slice.result.now (robust g.N.Exact.value c.in-Ok.model) c.on_model.result c.requires.on_model
-    c.as_slice.ensures.value c.in-Ok.ensures.read c.read_model.ensures.told c.on_model.ensures.answers
+    c.as_slice.ensures.value c.in-Ok.ensures.read (sym c.read_model.ensures.counted.wides)
+    c.on_model.ensures.answers
 
 pub returns-in-Err-clause-answers : goal.returns-in-Err-clause-answers
 returns-in-Err-clause-answers g c =
