@@ -1,9 +1,9 @@
 //! Tables of coefficients, sparse.
 
-ghost use Rattle.std.specs.Prelude.{◌≡◌, ◌≤◌, ℕ, max, OnOk, IfOk, IfErr};
+ghost use Rattle.std.specs.Prelude.{◌≡◌, ℕ, max, OnOk, IfOk, IfErr};
 ghost use Rattle.rob_algebra.specs.Fraction.{◌+ℚ◌, ◌*ℚ◌};
 ghost use Rattle.rob_number.specs.Answer.{answer};
-ghost use Rattle.rob_number.specs.Counts.{Told, Rose, NeverFell};
+ghost use Rattle.rob_number.specs.Counts.{CountsTold, NeverFell, Rose};
 ghost use Rattle.rob_algebra.specs.Width.{IsWide, kept};
 ghost use Rattle.rob_meaning.specs.Coefficients.{single, table_times};
 ghost use Rattle.rob_meaning.specs.Values.{signed as with_sign};
@@ -74,8 +74,7 @@ impl<N: Exact> Table<N> {
     fn raised<L: Ledger>(&self, cell: Cell, x: N, ledger: &mut L) -> Result<N, Wide>
         ensures exact { answer N.value result
             ≡ kept N.limit (numbers_of N.value self.now cell.row cell.column +ℚ N.value x) }
-        ensures told { Told (L.wides ledger.old) (L.wides ledger.new) result }
-        ensures counted { NeverFell L.ops L.wides ledger.old ledger.new }
+        ensures counted { CountsTold L.ops L.wides ledger.old ledger.new result }
     {
         match self.numbers.get(&cell) {
             Some(y) => y.add(x, ledger),
