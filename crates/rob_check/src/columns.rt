@@ -11,7 +11,7 @@ ghost use Rattle.rob_meaning.specs.Places.{at, Each};
 ghost use Rattle.rob_meaning.specs.Proves.{target};
 ghost use Rattle.rob_model.specs.Limits.{most_columns};
 ghost use Rattle.rob_model.specs.View.{sense_of};
-ghost use Rattle.rob_number.specs.Counts.{Told, NeverFell};
+ghost use Rattle.rob_number.specs.Counts.{CountsTold, NeverFell};
 
 use crate::items::column_sum;
 use crate::sums::{is_positive, is_same};
@@ -95,8 +95,7 @@ fn sum_holds<N: Exact, L: Ledger>(
     ensures exact { result_ok result
         ≡ (sum_test N.limit forms.now.matrices (sense_of forms.now.sense) forms.now.columns
         (option_map N.value value) (map (item_of N.value) items.now) column).holds }
-    ensures told { Told (L.wides ledger.old) (L.wides ledger.new) result }
-    ensures counted { NeverFell L.ops L.wides ledger.old ledger.new }
+    ensures counted { CountsTold L.ops L.wides ledger.old ledger.new result }
 {
     let sum = column_sum(forms, items, column as usize, ledger)?;
     Ok(is_asked_sum(forms, value, column, sum, ledger))

@@ -14,7 +14,7 @@ ghost use Rattle.rob_elab.specs.Forms.{FormsFit, MatrixFits};
 ghost use Rattle.rob_meaning.specs.Clearing.{fractions};
 ghost use Rattle.rob_meaning.specs.Places.{Each};
 ghost use Rattle.rob_number.specs.Answer.{answer};
-ghost use Rattle.rob_number.specs.Counts.{Told, NeverFell};
+ghost use Rattle.rob_number.specs.Counts.{CountsTold};
 ghost use Rattle.rob_sets.specs.SetForm.{RowFits, SetFits};
 
 use crate::covering::{Covered, Covering};
@@ -59,8 +59,7 @@ fn add_row<N: Exact, L: Ledger>(
     ensures exact { answer N.value result
         ≡ with_part N.limit (N.value so_far)
         (kept N.limit (N.value amount *ℚ row_entry row.now column)) }
-    ensures told { Told (L.wides ledger.old) (L.wides ledger.new) result }
-    ensures counted { NeverFell L.ops L.wides ledger.old ledger.new }
+    ensures counted { CountsTold L.ops L.wides ledger.old ledger.new result }
 {
     match column {
         Some(column) => add_entry(so_far, amount, row.g.items(), column, ledger),
@@ -80,8 +79,7 @@ fn rows_sum<N: Exact, L: Ledger>(
     ensures exact { answer N.value result
         ≡ rows_within N.limit (map (cover_of N.value) mine.now)
         (numbers_in (lifted_of set.now) column) }
-    ensures told { Told (L.wides ledger.old) (L.wides ledger.new) result }
-    ensures counted { NeverFell L.ops L.wides ledger.old ledger.new }
+    ensures counted { CountsTold L.ops L.wides ledger.old ledger.new result }
 {
     let mut sum: N = zero(ledger);
     for cover in mine {
@@ -101,8 +99,7 @@ fn row_number<N: Exact, L: Ledger>(
     requires entries { length row.now ≡ length covering.now.columns.now + 2 }
     ensures exact { answer N.value result
         ≡ dot_within N.limit (covering_of N.value covering.now).vector (map of_int row.now) }
-    ensures told { Told (L.wides ledger.old) (L.wides ledger.new) result }
-    ensures counted { NeverFell L.ops L.wides ledger.old ledger.new }
+    ensures counted { CountsTold L.ops L.wides ledger.old ledger.new result }
 {
     let nothing: N = zero(ledger);
     let mut sum = add_entry(nothing, covering.first, row, 0, ledger)?;
@@ -125,8 +122,7 @@ fn form_number<N: Exact, L: Ledger>(
     requires columns { HasColumns (length covering.now.columns.now) form.now }
     ensures exact { answer N.value result
         ≡ form_within N.limit (covering_of N.value covering.now) (fractions form.now) row }
-    ensures told { Told (L.wides ledger.old) (L.wides ledger.new) result }
-    ensures counted { NeverFell L.ops L.wides ledger.old ledger.new }
+    ensures counted { CountsTold L.ops L.wides ledger.old ledger.new result }
 {
     if row < form.len() {
         let number = row_number(form[row].items(), covering, ledger)?;
@@ -154,8 +150,7 @@ fn column_holds<N: Exact, L: Ledger>(
     ensures exact { (i : ℕ) → result_ok result
         ≡ (column_test N.limit (lifted_of set.now) (covering_of N.value covering.now) i
         (fractions form.now) (map (cover_of N.value) mine.now) column).holds }
-    ensures told { Told (L.wides ledger.old) (L.wides ledger.new) result }
-    ensures counted { NeverFell L.ops L.wides ledger.old ledger.new }
+    ensures counted { CountsTold L.ops L.wides ledger.old ledger.new result }
 {
     let rows = rows_sum(set, mine, Some(column), ledger)?;
     let number = form_number(form, column + 1, covering, ledger)?;
@@ -177,8 +172,7 @@ fn constant_holds<N: Exact, L: Ledger>(
     ensures exact { (i : ℕ) → result_ok result
         ≡ (constant_test N.limit (lifted_of set.now) (covering_of N.value covering.now) i
         (fractions form.now) (map (cover_of N.value) mine.now)).holds }
-    ensures told { Told (L.wides ledger.old) (L.wides ledger.new) result }
-    ensures counted { NeverFell L.ops L.wides ledger.old ledger.new }
+    ensures counted { CountsTold L.ops L.wides ledger.old ledger.new result }
 {
     let rows = rows_sum(set, mine, None, ledger)?;
     let number = form_number(form, 0, covering, ledger)?;

@@ -12,7 +12,7 @@ ghost use Rattle.rob_meaning.specs.Places.{Each};
 ghost use Rattle.rob_model.specs.Valid.{IsValid};
 ghost use Rattle.rob_model.specs.View.{robust};
 ghost use Rattle.rob_number.specs.Answer.{answer};
-ghost use Rattle.rob_number.specs.Counts.{Told, NeverFell};
+ghost use Rattle.rob_number.specs.Counts.{CountsTold};
 
 use crate::scenario::{Taken, check_vector};
 use crate::sums::{add_entry, is_nonnegative, is_positive};
@@ -37,8 +37,7 @@ fn cut_at<N: Exact, L: Ledger>(
     ensures exact { answer N.value result
         ≡ dot_within N.limit (N.value base ∷ map N.value vector.now)
         (column_of column (fractions form.now)) }
-    ensures told { Told (L.wides ledger.old) (L.wides ledger.new) result }
-    ensures counted { NeverFell L.ops L.wides ledger.old ledger.new }
+    ensures counted { CountsTold L.ops L.wides ledger.old ledger.new result }
 {
     let nothing: N = zero(ledger);
     let mut sum = add_entry(nothing, base, form[0].items(), column, ledger)?;
@@ -59,8 +58,7 @@ fn item_at<N: Exact, L: Ledger>(
     requires form { TakesForm forms.now.matrices (item_of N.value item.now) }
     ensures exact { answer N.value result
         ≡ item_within N.limit forms.now.matrices column (item_of N.value item.now) }
-    ensures told { Told (L.wides ledger.old) (L.wides ledger.new) result }
-    ensures counted { NeverFell L.ops L.wides ledger.old ledger.new }
+    ensures counted { CountsTold L.ops L.wides ledger.old ledger.new result }
 {
     let form = &forms.matrices.items()[item.form as usize];
     let cut = cut_at(form.items(), column, item.base, item.vector.items(), ledger)?;
@@ -78,8 +76,7 @@ pub fn column_sum<N: Exact, L: Ledger>(
     requires items { Each (TakesForm forms.now.matrices) (map (item_of N.value) items.now) }
     ensures exact { answer N.value result
         ≡ column_within N.limit forms.now.matrices (map (item_of N.value) items.now) column }
-    ensures told { Told (L.wides ledger.old) (L.wides ledger.new) result }
-    ensures counted { NeverFell L.ops L.wides ledger.old ledger.new }
+    ensures counted { CountsTold L.ops L.wides ledger.old ledger.new result }
 {
     let mut sum: N = zero(ledger);
     for item in items {

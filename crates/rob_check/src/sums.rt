@@ -7,7 +7,7 @@ ghost use Rattle.rob_algebra.specs.Width.{kept};
 ghost use Rattle.rob_check.specs.Sums.{is_nonnegative, is_positive, with_part};
 ghost use Rattle.rob_meaning.specs.Places.{at, Each};
 ghost use Rattle.rob_number.specs.Answer.{answer};
-ghost use Rattle.rob_number.specs.Counts.{Told, NeverFell};
+ghost use Rattle.rob_number.specs.Counts.{CountsTold};
 
 use rob_number::{Exact, Ledger, Wide};
 
@@ -42,8 +42,7 @@ pub fn add_product<N: Exact, L: Ledger>(
     requires fits { nat_abs entry ≤ N.limit }
     ensures exact { answer N.value result
         ≡ with_part N.limit (N.value so_far) (kept N.limit (N.value number *ℚ of_int entry)) }
-    ensures told { Told (L.wides ledger.old) (L.wides ledger.new) result }
-    ensures counted { NeverFell L.ops L.wides ledger.old ledger.new }
+    ensures counted { CountsTold L.ops L.wides ledger.old ledger.new result }
 {
     if entry == 0 {
         return Ok(so_far);
@@ -65,8 +64,7 @@ pub fn add_entry<N: Exact, L: Ledger>(
     ensures exact { answer N.value result
         ≡ with_part N.limit (N.value so_far)
         (kept N.limit (N.value number *ℚ at (map of_int row.now) column)) }
-    ensures told { Told (L.wides ledger.old) (L.wides ledger.new) result }
-    ensures counted { NeverFell L.ops L.wides ledger.old ledger.new }
+    ensures counted { CountsTold L.ops L.wides ledger.old ledger.new result }
 {
     match row.get(column) {
         Some(entry) => add_product(so_far, number, *entry, ledger),

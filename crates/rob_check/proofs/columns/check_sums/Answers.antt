@@ -46,6 +46,6 @@ loop-column-preserved g c =
           ∙ c.loop-column.invariant.rest;
       counted = record {
         ops = omega (arith, c.loop-column.invariant.counted.ops, c.sum_holds-test.ensures.counted.ops);
-        wides = omega (arith, c.loop-column.invariant.counted.wides, c.sum_holds-test.ensures.counted.wides);
+        wides = omega (arith, c.loop-column.invariant.counted.wides, c.sum_holds-test.ensures.counted.told.never_fell);
       };
     }

@@ -46,7 +46,11 @@ loop-column-preserved g c =
           ∙ c.loop-column.invariant.rest;
       counted = record {
         ops = omega (arith, c.loop-column.invariant.counted.ops, c.column_holds-test.ensures.counted.ops);
-        wides = omega (arith, c.loop-column.invariant.counted.wides, c.column_holds-test.ensures.counted.wides);
+        wides = omega (
+          arith,
+          c.loop-column.invariant.counted.wides,
+          c.column_holds-test.ensures.counted.told.never_fell,
+        );
       };
     }
 

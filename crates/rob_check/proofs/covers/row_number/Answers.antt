@@ -25,7 +25,7 @@ loop-j-preserved g c =
           ∙ c.loop-j.invariant.rest;
       counted = record {
         ops = omega (arith, c.loop-j.invariant.counted.ops, c.in_ok-sum-2.ensures.counted.ops);
-        wides = omega (arith, c.loop-j.invariant.counted.wides, c.in_ok-sum-2.ensures.counted.wides);
+        wides = omega (arith, c.loop-j.invariant.counted.wides, c.in_ok-sum-2.ensures.counted.told.never_fell);
       };
     }
 

@@ -43,6 +43,6 @@ loop-cover-preserved g c =
       names = names.1;
       counted = record {
         ops = omega (arith, c.loop-cover.invariant.counted.ops, c.in_ok-sum.ensures.counted.ops);
-        wides = omega (arith, c.loop-cover.invariant.counted.wides, c.in_ok-sum.ensures.counted.wides);
+        wides = omega (arith, c.loop-cover.invariant.counted.wides, c.in_ok-sum.ensures.counted.told.never_fell);
       };
     }
