@@ -1,13 +1,13 @@
 //! The values of a plan in a joint scenario.
 
-ghost use Rattle.std.specs.Prelude.{◌≡◌, ◌≤◌, ◌∷◌, [], map, length, Option, ℕ, option_map};
+ghost use Rattle.std.specs.Prelude.{◌≡◌, ◌∷◌, [], map, length, Option, ℕ, option_map};
 ghost use Rattle.rob_algebra.specs.Fraction.{Fraction};
 ghost use Rattle.rob_algebra.specs.Width.{kept};
 ghost use Rattle.rob_meaning.specs.Places.{Each};
 ghost use Rattle.rob_model.specs.Valid.{IsValid};
 ghost use Rattle.rob_model.specs.View.{robust, plan_of, scenario_of, adaptive_of, row_of, relation_of};
 ghost use Rattle.rob_number.specs.Answer.{answer};
-ghost use Rattle.rob_number.specs.Counts.{NeverFell, Told};
+ghost use Rattle.rob_number.specs.Counts.{CountsTold, NeverFell, Told};
 ghost use Rattle.rob_replay.specs.Gathering.{all_of};
 ghost use Rattle.rob_replay.specs.Lines.{HasInside, slack_of, row_slack, lower_slacks, upper_slacks, variable_slacks, bound_slacks, policies_within, slacks_within, inside_within, line_within};
 ghost use Rattle.rob_replay.specs.Stops.{Computes, Gathers, RoseAtWide};
@@ -74,8 +74,7 @@ fn policies<N: Exact, L: Ledger>(
 /// Right minus left for `<=` and `=`, left minus right for `>=`.
 fn slack<N: Exact, L: Ledger>(rel: Rel, left: N, right: N, ledger: &mut L) -> Result<N, Wide>
     ensures exact { answer N.value result ≡ kept N.limit (slack_of (relation_of rel) (N.value left) (N.value right)) }
-    ensures told { Told (L.wides ledger.old) (L.wides ledger.new) result }
-    ensures counted { NeverFell L.ops L.wides ledger.old ledger.new }
+    ensures counted { CountsTold L.ops L.wides ledger.old ledger.new result }
 {
     match rel {
         Rel::AtMost => right.sub(left, ledger),
@@ -96,8 +95,7 @@ fn slack_in_row<N: Exact, L: Ledger>(
     requires inside { HasInside (robust N.value model.now) (row_of N.value row.now) }
     ensures exact { answer N.value result ≡ row_slack N.limit (robust N.value model.now)
         (plan_of N.value plan.now) (scenario_of N.value scenario.now) (row_of N.value row.now) }
-    ensures told { Told (L.wides ledger.old) (L.wides ledger.new) result }
-    ensures counted { NeverFell L.ops L.wides ledger.old ledger.new }
+    ensures counted { CountsTold L.ops L.wides ledger.old ledger.new result }
 {
     let left = value_at(&row.left, model, plan, scenario, ledger)?;
     let right = value_at(&row.right, model, plan, scenario, ledger)?;

@@ -44,7 +44,7 @@ loop-row-preserved g c =
       inside = (each_at_map (HasInside m) (row_of value) rows k row c.loop-row-test.true c.row-item.is
           c.loop-row.invariant.inside).1;
       ops = omega (arith, c.loop-row.invariant.ops, c.slack_in_row-slack.ensures.counted.ops);
-      wides = omega (arith, c.loop-row.invariant.wides, c.slack_in_row-slack.ensures.told.never_fell);
+      wides = omega (arith, c.loop-row.invariant.wides, c.slack_in_row-slack.ensures.counted.told.never_fell);
     }
 
 pub returns-clause-exact : goal.returns-clause-exact
