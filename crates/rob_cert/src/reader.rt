@@ -74,21 +74,15 @@ fn read_vectors<'a, N: Exact, L: Ledger>(
         (status_of status) 3 at.entry.rest.now at.entry.line e) }
     ensures counted { NeverFell L.ops L.wides ledger.old ledger.new }
 {
-    match entries_part(alloc, status, Vector::Inside, names, at, ledger) {
-        Err(error) => Err(error),
-        Ok(inside) => match entries_part(alloc, status, Vector::Plan, names, inside.at, ledger) {
-            Err(error) => Err(error),
-            Ok(plan) => match entries_part(alloc, status, Vector::Move, names, plan.at, ledger) {
-                Err(error) => Err(error),
-                Ok(moved) => Ok(Vectors {
-                    inside: inside.numbers,
-                    plan: plan.numbers,
-                    moved: moved.numbers,
-                    at: moved.at,
-                }),
-            },
-        },
-    }
+    let inside = entries_part(alloc, status, Vector::Inside, names, at, ledger)?;
+    let plan = entries_part(alloc, status, Vector::Plan, names, inside.at, ledger)?;
+    let moved = entries_part(alloc, status, Vector::Move, names, plan.at, ledger)?;
+    Ok(Vectors {
+        inside: inside.numbers,
+        plan: plan.numbers,
+        moved: moved.numbers,
+        at: moved.at,
+    })
 }
 
 /// The lists of a certificate, to the end of the text.
@@ -205,19 +199,11 @@ fn read_text<N: Exact, L: Ledger>(
     ensures fault { IfErr result (λ e. HasCause (naming names.now) N.limit start text.now 1 e) }
     ensures counted { NeverFell L.ops L.wides ledger.old ledger.new }
 {
-    match read_front(text, ledger) {
-        Err(error) => Err(error),
-        Ok(front) => match read_vectors(alloc, front.status, names, front.at, ledger) {
-            Err(error) => Err(error),
-            Ok(vectors) => match read_lists(alloc, front.status, names, vectors.at, ledger) {
-                Err(error) => Err(error),
-                Ok(lists) => {
-                    let direction = split_bound(vectors.moved, ledger);
-                    Ok(assemble(front, vectors.inside, vectors.plan, direction, lists))
-                }
-            },
-        },
-    }
+    let front = read_front(text, ledger)?;
+    let vectors = read_vectors(alloc, front.status, names, front.at, ledger)?;
+    let lists = read_lists(alloc, front.status, names, vectors.at, ledger)?;
+    let direction = split_bound(vectors.moved, ledger);
+    Ok(assemble(front, vectors.inside, vectors.plan, direction, lists))
 }
 
 /// The certificate for the model that a text is: each text is that of one certificate at most. The text has lines of
