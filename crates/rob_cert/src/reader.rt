@@ -105,30 +105,15 @@ fn read_lists<N: Exact, L: Ledger>(
         (status_of status) 6 at.entry.rest.now at.entry.line e) }
     ensures counted { NeverFell L.ops L.wides ledger.old ledger.new }
 {
-    match covers_part(alloc, status, Multipliers::Covers, names, at, ledger) {
-        Err(error) => Err(error),
-        Ok(covers) => match covers_part(
-            alloc,
-            status,
-            Multipliers::Holds,
-            names,
-            covers.at,
-            ledger,
-        ) {
-            Err(error) => Err(error),
-            Ok(holds) => match items_part(alloc, status, names, holds.at, ledger) {
-                Err(error) => Err(error),
-                Ok(items) => match end_part(names, status, items.at) {
-                    Err(error) => Err(error),
-                    Ok(()) => Ok(Lists {
-                        covers: covers.list,
-                        holds: holds.list,
-                        items: items.list,
-                    }),
-                },
-            },
-        },
-    }
+    let covers = covers_part(alloc, status, Multipliers::Covers, names, at, ledger)?;
+    let holds = covers_part(alloc, status, Multipliers::Holds, names, covers.at, ledger)?;
+    let items = items_part(alloc, status, names, holds.at, ledger)?;
+    end_part(names, status, items.at)?;
+    Ok(Lists {
+        covers: covers.list,
+        holds: holds.list,
+        items: items.list,
+    })
 }
 
 /// A direction's numbers without the last, which is its bound; where there are none the bound is 0.
