@@ -1,12 +1,13 @@
 -- How a tree grows, one step at a time: what is asked of the two boxes of a
 -- branch, and what is answered of both together.
-use Rattle.std.proofs.Common.{◌≡◌, ℕ, ◌+◌, ◌<◌, ◌≤◌, suc, List, [], ◌∷◌, ◌++◌, T, Bool, true, false, ap, sym, ◌∙◌, subst, arith, append_assoc, ◌⊎◌, ◌-◌, ◌^◌, min, max, inl, inr}
+use Rattle.std.proofs.Common.{◌≡◌, ℕ, ◌+◌, ◌<◌, ◌≤◌, suc, List, [], ◌∷◌, ◌++◌, T, Bool, true, false, ap, sym, ◌∙◌, subst, arith, append_assoc, ◌⊎◌, inl, inr}
 use Rattle.std.specs.Prelude.{ℤ, Option, Some, None}
 use Rattle.rob_meaning.proofs.EachLemmas.{each_append}
 use Rattle.rob_meaning.specs.Certificates.{Certificate, Status, optimal, infeasible, unbounded}
 use Rattle.rob_meaning.specs.Places.{Each}
 use Rattle.rob_meaning.specs.RobustModel.{RobustModel}
 use Rattle.rob_meaning.specs.WellFormed.{IsModel}
+use Rattle.rob_number.proofs.CountLemmas.{rose_later}
 use Rattle.rob_reach.proofs.GrowingLemmas.{allows_branch, leaves_bounded, measure_falls, measure_splits}
 use Rattle.rob_reach.specs.Boxes.{Branch, behind, box_below, box_above, at_most_branch, at_least_branch}
 use Rattle.rob_reach.specs.Growing.{Search, ends, branches, counted, improved, shown_endless, Decides, Grows, IsAllowed, is_beaten, first_broken, outcome_by}
@@ -136,8 +137,5 @@ pub rose_wider : (old before now : ℕ) (told : TreeStop) → old ≤ before →
     → RoseIfWide old now told
 rose_wider old before now (Rule rule) h r = tt
 rose_wider old before now (EmptySet weights) h r = tt
-rose_wider old before now (Wide path spot) h r =
-    let rose : max before (min (before + 1) (2 ^ 64 - 1)) ≤ now = r in
-    let wider : max old (min (old + 1) (2 ^ 64 - 1)) ≤ now = omega arith in
-    wider
+rose_wider old before now (Wide path spot) h r = rose_later old before now h r
 rose_wider old before now Memory h r = tt

@@ -7,6 +7,7 @@ use Rattle.rob_check.specs.declared.verdict.Verdict.{Verdict}
 use Rattle.rob_check.specs.declared.verdict.Verdict.TheVariants as check
 use Rattle.rob_meaning.specs.Certificates.{Certificate, Status}
 use Rattle.rob_meaning.specs.RobustModel.{RobustModel}
+use Rattle.rob_number.proofs.CountLemmas.{rose_later}
 use Rattle.rob_sets.specs.FirstWide as writing
 use Rattle.rob_sets.specs.declared.error.ElabErr.{ElabErr}
 use Rattle.rob_sets.specs.declared.error.ElabErr.TheVariants as refused
@@ -16,7 +17,6 @@ use Rattle.rob_branch.specs.Verdicts as of
 use Rattle.rob_branch.specs.Verdicts.{HasVerdict}
 use Rattle.rob_branch.specs.declared.leaf.LeafCheck.{LeafCheck}
 use Rattle.rob_branch.specs.declared.leaf.LeafCheck.TheVariants as leaf
-use Rattle.rob_elab.proofs.WrittenLemmas.{rose_wider}
 use Rattle.rob_elab.specs.Written.{IsWritten, judged}
 
 -- ---- a box that cannot be written: nothing is said of memory, and a wide number is the first
@@ -52,11 +52,11 @@ module _ (before between now : ℕ) (least : before ≤ between) where
   pub refused_counted : (e : ElabErr) (l : LeafCheck) → l ≡ leaf_refusal e → writing.RoseIfWide between now e
       → RoseIfWideLeaf before now l
   refused_counted (refused.Wide spot) l is rose =
-      subst (RoseIfWideLeaf before now) (sym is) (rose_wider before between now least rose)
+      subst (RoseIfWideLeaf before now) (sym is) (rose_later before between now least rose)
   refused_counted refused.Memory l is rose = subst (RoseIfWideLeaf before now) (sym is) tt
 
   pub leaf_rose_behind : (l : LeafCheck) → RoseIfWideLeaf between now l → RoseIfWideLeaf before now l
   leaf_rose_behind leaf.Passed rose = tt
   leaf_rose_behind (leaf.Fails told) rose = tt
-  leaf_rose_behind (leaf.Wide spot) rose = rose_wider before between now least rose
+  leaf_rose_behind (leaf.Wide spot) rose = rose_later before between now least rose
   leaf_rose_behind leaf.Memory rose = tt

@@ -3,6 +3,7 @@ use Rattle.std.proofs.Common.{◌≡◌, ℕ, ◌+◌, ◌-◌, ◌^◌, ◌≤�
 use Rattle.std.specs.Prelude.{MatchResult, IfErr}
 use Rattle.rob_meaning.specs.RobustModel.{RobustModel}
 use Rattle.rob_model.specs.declared.place.Spot.{Spot}
+use Rattle.rob_number.proofs.CountLemmas.{rose_later}
 use Rattle.rob_number.specs.Counts.{Rose, raised}
 use Rattle.rob_sets.specs.FirstWide as writing
 use Rattle.rob_sets.specs.declared.error.ElabErr.{ElabErr}
@@ -13,7 +14,6 @@ use Rattle.rob_dualize.specs.Ending.{IsWideStop}
 use Rattle.rob_dualize.specs.Models.{HasModelCause, IsRefusal, IsWideIn, RoseIfStopped}
 use Rattle.rob_dualize.specs.Solving.{CountsStop, HasCause}
 use Rattle.rob_elab.specs.Written.{IsWritten, judged}
-use Rattle.rob_elab.proofs.WrittenLemmas.{rose_wider}
 
 -- ---- why a model has no certificate
 module _ (limit : ℕ) (m : RobustModel) where
@@ -47,7 +47,7 @@ module _ (before between now : ℕ) (least : before ≤ between) where
   pub refused_counted_behind : (e : ElabErr) (stop : Stop) → writing.RoseIfWide between now e → IsRefusal e stop
       → RoseIfStopped before now stop
   refused_counted_behind e (EmptySet weights) rose is = tt
-  refused_counted_behind (refused.Wide spot) (Wide place trace) rose is = rose_wider before between now least rose
+  refused_counted_behind (refused.Wide spot) (Wide place trace) rose is = rose_later before between now least rose
   refused_counted_behind refused.Memory (Wide place trace) rose is = cc
   refused_counted_behind e Memory rose is = tt
 

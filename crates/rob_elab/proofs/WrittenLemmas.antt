@@ -1,10 +1,9 @@
 -- A model is written, or a number of it is wide: its sets decide before its forms.
-use Rattle.std.proofs.Common.{ℕ, ◌+◌, ◌-◌, ◌^◌, ◌≤◌, min, max, arith}
+use Rattle.std.proofs.Common.{ℕ}
 use Rattle.rob_meaning.specs.RobustModel.{RobustModel}
 use Rattle.rob_meaning.proofs.EachLemmas.{each_append}
-use Rattle.rob_number.specs.Counts.{Rose}
 use Rattle.rob_sets.proofs.JudgedLemmas.{first_left, first_right}
-use Rattle.rob_sets.specs.FirstWide.{HasCause, IsWideThere, NothingWide, RoseIfWide}
+use Rattle.rob_sets.specs.FirstWide.{HasCause, IsWideThere, NothingWide}
 use Rattle.rob_sets.specs.SetForm.{judged_set}
 use Rattle.rob_sets.specs.declared.error.ElabErr.{ElabErr}
 use Rattle.rob_sets.specs.declared.error.ElabErr.TheVariants as refused
@@ -26,15 +25,3 @@ module _ (limit : ℕ) (m : RobustModel) where
   -- neither has one
   pub is_written : NothingWide limit m (judged_set m) → NothingWide limit m (judged_forms m) → IsWritten limit m
   is_written h k = each_append (λ j. IsWideThere limit m j → ⊥) (judged_set m) (judged_forms m) h k
-
--- ---- what is counted behind what never fell
-module _ (before between now : ℕ) (least : before ≤ between) where
-  pub rose_wider : Rose between now → Rose before now
-  rose_wider h =
-      let f : max between (min (between + 1) (2 ^ 64 - 1)) ≤ now = h in
-      let g : max before (min (before + 1) (2 ^ 64 - 1)) ≤ now = omega arith in
-      g
-
-  pub rose_behind : (e : ElabErr) → RoseIfWide between now e → RoseIfWide before now e
-  rose_behind (refused.Wide spot) h = rose_wider h
-  rose_behind refused.Memory h = tt

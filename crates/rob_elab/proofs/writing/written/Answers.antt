@@ -1,6 +1,8 @@
 use Rattle.std.proofs.Common.{arith}
 use Rattle.rob_model.specs.View.{robust}
-use Rattle.rob_elab.proofs.WrittenLemmas.{forms_cause, is_written, rose_behind, set_cause}
+use Rattle.rob_number.proofs.CountLemmas.{rise_later}
+use Rattle.rob_sets.specs.FirstWide.{is_wide}
+use Rattle.rob_elab.proofs.WrittenLemmas.{forms_cause, is_written, set_cause}
 use Rattle.rob_elab.proofs.writing.written.Goals as goal
 
 pub returns-in-Err-clause-cause : goal.returns-in-Err-clause-cause
@@ -33,9 +35,9 @@ returns-in-Err-elaborate-clause-cause g c =
 
 pub returns-in-Err-elaborate-clause-rose : goal.returns-in-Err-elaborate-clause-rose
 returns-in-Err-elaborate-clause-rose g c =
-    rose_behind (g.L.Ledger.wides c.args.ledger.now) (g.L.Ledger.wides c.clear_set.new.ledger)
-    (g.L.Ledger.wides c.elaborate.new.ledger) c.clear_set.ensures.counted.wides c.in-Err-elaborate.error
-    c.in-Err-elaborate.ensures.rose
+    rise_later (is_wide c.in-Err-elaborate.error) (g.L.Ledger.wides c.args.ledger.now)
+    (g.L.Ledger.wides c.clear_set.new.ledger) (g.L.Ledger.wides c.elaborate.new.ledger)
+    c.clear_set.ensures.counted.wides c.in-Err-elaborate.ensures.rose
 
 pub returns-in-Err-elaborate-clause-counted : goal.returns-in-Err-elaborate-clause-counted
 returns-in-Err-elaborate-clause-counted g c = record {
