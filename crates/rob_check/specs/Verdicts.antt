@@ -1,7 +1,7 @@
 -- The verdict on conditions that are tried in order: the first that doesn't hold decides.
 use Rattle.std.specs.Prelude.{ℕ, ◌≤◌, List, [], ◌∷◌, Bool, true, false, Option, Some, None}
 use Rattle.rob_model.specs.declared.place.Place.{Place}
-use Rattle.rob_number.specs.Counts.{Rose}
+use Rattle.rob_number.specs.Counts as counts
 use Rattle.rob_check.specs.declared.verdict.Verdict.{Verdict}
 use Rattle.rob_check.specs.declared.verdict.Verdict.TheVariants.{Accepted, Rejected, TooWide}
 
@@ -22,11 +22,15 @@ abbrev pub verdict : List Condition → Verdict
 verdict [] = Accepted
 verdict (c ∷ cs) = decided c.place c.holds (verdict cs)
 
+-- the verdict is that a number is wide
+abbrev pub is_wide : Verdict → Bool
+is_wide Accepted = false
+is_wide (Rejected place) = false
+is_wide (TooWide place) = true
+
 -- a verdict that is too wide has raised the count of wide numbers
 abbrev pub RoseIfWide : ℕ → ℕ → Verdict → Type 0
-RoseIfWide before now Accepted = Unit {0}
-RoseIfWide before now (Rejected place) = Unit {0}
-RoseIfWide before now (TooWide place) = Rose before now
+RoseIfWide before now v = counts.RoseIfWide is_wide before now v
 
 -- of a ledger's two counts, neither fell, and the wide results rose where the verdict is too wide
 pub record Counted {S : Type 0} (ops_of wides_of : S → ℕ) (before now : S) (v : Verdict) : Type 0 where
