@@ -1,7 +1,7 @@
 -- What tables and errors stand for.
-use Rattle.std.specs.Prelude.{◌≡◌, ℕ, List, map, Result, Err}
+use Rattle.std.specs.Prelude.{◌≡◌, ℕ, List, map, Result, Err, Bool, true, false}
 use Rattle.rob_algebra.specs.Fraction.{Fraction}
-use Rattle.rob_number.specs.Counts.{Rose}
+use Rattle.rob_number.specs.Counts as counts
 use Rattle.rob_replay.specs.Files.{IsFile}
 use Rattle.rob_replay.specs.Lines.{Line}
 use Rattle.rob_replay.specs.Outcome.{Refusal, breaks, is_wide}
@@ -33,8 +33,12 @@ FileRefuses outcome_of text (Rule r n) = Gives outcome_of text (Err (breaks r n)
 FileRefuses outcome_of text (Wide n) = Gives outcome_of text (Err (is_wide n))
 FileRefuses outcome_of text Memory = Unit {0}
 
+-- the error is that a number is wide
+abbrev pub is_for_width : ReplayErr → Bool
+is_for_width (Rule r n) = false
+is_for_width (Wide n) = true
+is_for_width Memory = false
+
 -- the count of wide numbers rose where a number is wide
 abbrev pub RoseIfWide : ℕ → ℕ → ReplayErr → Type 0
-RoseIfWide before now (Rule r n) = Unit {0}
-RoseIfWide before now (Wide n) = Rose before now
-RoseIfWide before now Memory = Unit {0}
+RoseIfWide before now e = counts.RoseIfWide is_for_width before now e
