@@ -1,6 +1,6 @@
 -- A box that grows, one step at a time: its scenario, what is asked of a box
 -- behind it, what is counted, and why it may stop.
-use Rattle.std.proofs.Common.{◌≡◌, ℕ, List, [], ◌⊎◌, inl, inr, refl, sym, subst, arith, append-nil}
+use Rattle.std.proofs.Common.{◌≡◌, ℕ, List, [], ◌⊎◌, inl, inr, refl, sym, subst, append-nil}
 use Rattle.std.specs.Prelude.{map, None, Result, Ok, Err, IfErr}
 use Rattle.rob_cert.specs.declared.ending.Stop.{Stop}
 use Rattle.rob_cert.specs.declared.ending.Stop.TheVariants as route
@@ -8,6 +8,7 @@ use Rattle.rob_dualize.specs.Models.{HasModelCause, IsWideIn}
 use Rattle.rob_meaning.specs.Certificates.{Certificate, Status, optimal, infeasible, unbounded}
 use Rattle.rob_meaning.specs.Proves.{Proves, ProvesAs}
 use Rattle.rob_meaning.specs.RobustModel.{RobustModel}
+use Rattle.rob_number.proofs.CountLemmas.{later, rise_later}
 use Rattle.rob_number.specs.Counts.{NeverFell}
 use Rattle.rob_reach.specs.Boxes as boxes
 use Rattle.rob_reach.specs.Growing.{IsAllowed, Search, Visits, start}
@@ -16,9 +17,8 @@ use Rattle.rob_tree.specs.View.{branch_of}
 use Rattle.rob_tree.specs.declared.error.TreeStop.{TreeStop}
 use Rattle.rob_tree.specs.declared.tree.Branch.{Branch}
 use Rattle.rob_tree.specs.declared.error.TreeStop.TheVariants.{Rule, EmptySet, Wide, Memory}
-use Rattle.rob_branch.proofs.GrowthLemmas.{rose_wider}
 use Rattle.rob_dualize.specs.Solving.{HasScenario}
-use Rattle.rob_branch.specs.Growth.{CountsGrowth, HasCause, HasCauseBehind, IsWrittenUpTo, RoseIfWide, TellsStop}
+use Rattle.rob_branch.specs.Growth.{CountsGrowth, HasCause, HasCauseBehind, IsWrittenUpTo, RoseIfWide, TellsStop, is_wide}
 
 -- the scenario of a certificate that proves is admitted
 pub scenario_of : (m : RobustModel) (c : Certificate) → Proves m c → HasScenario m
@@ -42,15 +42,14 @@ pub counts_behind : {S T : Type 0} (ops wides : S → ℕ) (old mid now : S) (r 
     → NeverFell ops wides old mid → CountsGrowth ops wides mid now r
     → CountsGrowth ops wides old now r
 counts_behind {T = T} ops wides old mid now r h g = record {
-  never_fell =
-      record { ops = omega (arith, h.ops, g.never_fell.ops); wides = omega (arith, h.wides, g.never_fell.wides) };
+  never_fell = later h g.never_fell;
   refused = by r g.refused;
 }
   where
     by : (r : Result T TreeStop) → IfErr r (RoseIfWide (wides mid) (wides now))
         → IfErr r (RoseIfWide (wides old) (wides now))
     by (Ok x) k = tt
-    by (Err e) k = rose_wider (wides old) (wides mid) (wides now) e h.wides k
+    by (Err e) k = rise_later (is_wide e) (wides old) (wides mid) (wides now) h.wides k
 
 -- ---- causes
 -- a cause of a box stays one where the box and its path are told otherwise

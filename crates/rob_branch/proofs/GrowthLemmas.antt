@@ -7,7 +7,6 @@ use Rattle.rob_meaning.specs.Certificates.{Certificate, Status, optimal, infeasi
 use Rattle.rob_meaning.specs.Places.{Each}
 use Rattle.rob_meaning.specs.RobustModel.{RobustModel}
 use Rattle.rob_meaning.specs.WellFormed.{IsModel}
-use Rattle.rob_number.proofs.CountLemmas.{rose_later}
 use Rattle.rob_reach.proofs.GrowingLemmas.{allows_branch, leaves_bounded, measure_falls, measure_splits}
 use Rattle.rob_reach.specs.Boxes.{Branch, behind, box_below, box_above, at_most_branch, at_least_branch}
 use Rattle.rob_reach.specs.Growing.{Search, ends, branches, counted, improved, shown_endless, Decides, Grows, IsAllowed, is_beaten, first_broken, outcome_by}
@@ -16,7 +15,7 @@ use Rattle.rob_reach.specs.Trees.{Node, leaf, split, left_open, leaves, leaf_cou
 use Rattle.rob_tree.specs.Shape.{IsShaped}
 use Rattle.rob_tree.specs.declared.error.TreeStop.{TreeStop}
 use Rattle.rob_tree.specs.declared.error.TreeStop.TheVariants.{Rule, EmptySet, Wide, Memory}
-use Rattle.rob_branch.specs.Growth.{HasCauseBehind, RoseIfWide}
+use Rattle.rob_branch.specs.Growth.{HasCauseBehind}
 use Rattle.rob_elab.specs.Written.{IsWritten}
 
 -- ---- the leaves of both boxes of a branch are few
@@ -131,11 +130,3 @@ module _ (limit : ℕ) (m : RobustModel) (names : List ℕ) (before : Search) (f
         h.4,
       )
   cause_above a b Memory below middle first is grows h = h
-
--- a rise stays where the count never falls before and behind it
-pub rose_wider : (old before now : ℕ) (told : TreeStop) → old ≤ before → RoseIfWide before now told
-    → RoseIfWide old now told
-rose_wider old before now (Rule rule) h r = tt
-rose_wider old before now (EmptySet weights) h r = tt
-rose_wider old before now (Wide path spot) h r = rose_later old before now h r
-rose_wider old before now Memory h r = tt

@@ -54,9 +54,3 @@ module _ (before between now : ℕ) (least : before ≤ between) where
   refused_counted (refused.Wide spot) l is rose =
       subst (RoseIfWideLeaf before now) (sym is) (rose_later before between now least rose)
   refused_counted refused.Memory l is rose = subst (RoseIfWideLeaf before now) (sym is) tt
-
-  pub leaf_rose_behind : (l : LeafCheck) → RoseIfWideLeaf between now l → RoseIfWideLeaf before now l
-  leaf_rose_behind leaf.Passed rose = tt
-  leaf_rose_behind (leaf.Fails told) rose = tt
-  leaf_rose_behind (leaf.Wide spot) rose = rose_later before between now least rose
-  leaf_rose_behind leaf.Memory rose = tt

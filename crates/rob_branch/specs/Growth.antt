@@ -1,5 +1,5 @@
 -- What growing answers: the node of a box and how far the search is behind it, or why there is none.
-use Rattle.std.specs.Prelude.{◌≡◌, ℕ, List, [], ◌∷◌, ◌++◌, map, Some, Result, IfErr, ◌⊎◌}
+use Rattle.std.specs.Prelude.{◌≡◌, ℕ, List, [], ◌∷◌, ◌++◌, map, Some, Result, IfErr, ◌⊎◌, Bool, true, false}
 use Rattle.rob_algebra.specs.Fraction.{Fraction}
 use Rattle.rob_cert.specs.declared.ending.Stop.{Stop}
 use Rattle.rob_cert.specs.declared.ending.Stop.TheVariants as route
@@ -7,7 +7,8 @@ use Rattle.rob_dualize.specs.Models.{IsWideIn}
 use Rattle.rob_dualize.specs.Solving.{TellsEmpty}
 use Rattle.rob_meaning.specs.Places.{Each}
 use Rattle.rob_meaning.specs.RobustModel.{RobustModel}
-use Rattle.rob_number.specs.Counts.{NeverFell, Rose}
+use Rattle.rob_number.specs.Counts as counts
+use Rattle.rob_number.specs.Counts.{NeverFell}
 use Rattle.rob_reach.specs.Boxes as boxes
 use Rattle.rob_reach.specs.Growing.{Search, Grows, Visits, start}
 use Rattle.rob_reach.specs.Ranges.{whole_rule}
@@ -71,12 +72,16 @@ HasCause limit m names (Wide path spot) =
     × IsWideIn limit (boxes.box m (map branch_of path)) spot
 HasCause limit m names Memory = Unit {0}
 
+-- the stop is for width
+abbrev pub is_wide : TreeStop → Bool
+is_wide (Rule rule) = false
+is_wide (EmptySet weights) = false
+is_wide (Wide path spot) = true
+is_wide Memory = false
+
 -- a stop for width has raised the count of wide numbers
 abbrev pub RoseIfWide : ℕ → ℕ → TreeStop → Type 0
-RoseIfWide before now (Rule rule) = Unit {0}
-RoseIfWide before now (EmptySet weights) = Unit {0}
-RoseIfWide before now (Wide path spot) = Rose before now
-RoseIfWide before now Memory = Unit {0}
+RoseIfWide before now stop = counts.RoseIfWide is_wide before now stop
 
 -- neither count fell, and that of wide numbers rose where the search stopped for width
 pub record CountsGrowth {S T : Type 0} (ops_of wides_of : S → ℕ) (before now : S) (result : Result T TreeStop)

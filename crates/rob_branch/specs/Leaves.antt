@@ -1,12 +1,13 @@
 -- What is said of the leaves of a node, one behind another: those that are passed, and the first that isn't.
-use Rattle.std.specs.Prelude.{◌≡◌, ◌≢◌, ℕ, ◌+◌, ◌⊎◌, List, ◌∷◌, ◌++◌, length, map, Option, Some, None, IfSome, Result, IfErr}
+use Rattle.std.specs.Prelude.{◌≡◌, ◌≢◌, ℕ, ◌+◌, ◌⊎◌, List, ◌∷◌, ◌++◌, length, map, Option, Some, None, IfSome, Result, IfErr, Bool, true, false}
 use Rattle.rob_algebra.specs.Fraction.{Fraction}
 use Rattle.rob_check.specs.declared.verdict.Verdict.TheVariants as check
 use Rattle.rob_meaning.specs.Certificates.{Certificate, Status, infeasible}
 use Rattle.rob_meaning.specs.Places.{Each}
 use Rattle.rob_meaning.specs.RobustModel.{RobustModel, Sense}
 use Rattle.rob_model.specs.declared.place.Spot.{Spot}
-use Rattle.rob_number.specs.Counts.{NeverFell, Rose}
+use Rattle.rob_number.specs.Counts as counts
+use Rattle.rob_number.specs.Counts.{NeverFell}
 use Rattle.rob_reach.specs.Boxes.{Branch}
 use Rattle.rob_reach.specs.Trees.{Node, Leaf, leaves, leaf_count, BranchesOn}
 use Rattle.rob_reach.specs.Verdicts.{KeepsValue, MayBe, Shows, leaf_at}
@@ -64,12 +65,16 @@ IsLastFault claimed names value c (Some fault.Best) = Shows claimed value c → 
 IsLastFault claimed names value c (Some fault.Whole) = Shows claimed value c × (IsWholeOn names c.plan → ⊥)
 IsLastFault claimed names value c (Some other) = ⊥
 
+-- the leaf was too wide
+abbrev pub is_wide_leaf : LeafCheck → Bool
+is_wide_leaf leaf.Passed = false
+is_wide_leaf (leaf.Fails told) = false
+is_wide_leaf (leaf.Wide spot) = true
+is_wide_leaf leaf.Memory = false
+
 -- a leaf that was too wide has raised the count of wide numbers
 abbrev pub RoseIfWideLeaf : ℕ → ℕ → LeafCheck → Type 0
-RoseIfWideLeaf before now leaf.Passed = Unit {0}
-RoseIfWideLeaf before now (leaf.Fails told) = Unit {0}
-RoseIfWideLeaf before now (leaf.Wide spot) = Rose before now
-RoseIfWideLeaf before now leaf.Memory = Unit {0}
+RoseIfWideLeaf before now l = counts.RoseIfWide is_wide_leaf before now l
 
 -- neither count fell, and that of wide numbers rose where the leaf is too wide
 pub record CountsLeaf {S : Type 0} (ops_of wides_of : S → ℕ) (before now : S) (l : LeafCheck) : Type 0 where

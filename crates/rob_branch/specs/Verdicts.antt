@@ -1,6 +1,6 @@
 -- The verdict on a tree: its conditions are judged in order, and the first that fails, or for which a number is wide,
 -- decides.
-use Rattle.std.specs.Prelude.{◌≡◌, ◌-◌, ℕ, zero, suc, List, [], ◌∷◌, ◌++◌, map, take, Some, IfSome}
+use Rattle.std.specs.Prelude.{◌≡◌, ◌-◌, ℕ, zero, suc, List, [], ◌∷◌, ◌++◌, map, take, Some, IfSome, Bool, true, false}
 use Rattle.rob_check.specs.Conditions.{verdict_of}
 use Rattle.rob_check.specs.declared.verdict.Verdict.{Verdict}
 use Rattle.rob_check.specs.declared.verdict.Verdict.TheVariants as check
@@ -10,7 +10,8 @@ use Rattle.rob_meaning.specs.RobustModel.{RobustModel}
 use Rattle.rob_model.specs.declared.place.Place.{Place}
 use Rattle.rob_model.specs.declared.place.Spot.{Spot}
 use Rattle.rob_model.specs.declared.place.Spot.TheVariants.{Check}
-use Rattle.rob_number.specs.Counts.{NeverFell, Rose}
+use Rattle.rob_number.specs.Counts as counts
+use Rattle.rob_number.specs.Counts.{NeverFell}
 use Rattle.rob_reach.specs.Boxes.{Branch, box, at_least_branch, at_most_branch}
 use Rattle.rob_reach.specs.Trees.{Node, leaf, split, left_open, Tree, Leaf, leaves, ProvesTree}
 use Rattle.rob_reach.specs.Verdicts as verdicts
@@ -122,12 +123,16 @@ OnAccepted (Rejected i told) P = Unit {0}
 OnAccepted (TooWide path spot) P = Unit {0}
 OnAccepted Memory P = Unit {0}
 
+-- the verdict is that a number is wide
+abbrev pub is_too_wide : TreeVerdict → Bool
+is_too_wide Accepted = false
+is_too_wide (Rejected i told) = false
+is_too_wide (TooWide path spot) = true
+is_too_wide Memory = false
+
 -- a verdict that is too wide has raised the count of wide numbers
 abbrev pub RoseIfTooWide : ℕ → ℕ → TreeVerdict → Type 0
-RoseIfTooWide before now Accepted = Unit {0}
-RoseIfTooWide before now (Rejected i told) = Unit {0}
-RoseIfTooWide before now (TooWide path spot) = Rose before now
-RoseIfTooWide before now Memory = Unit {0}
+RoseIfTooWide before now v = counts.RoseIfWide is_too_wide before now v
 
 -- neither count fell, and that of wide numbers rose where the verdict is too wide
 pub record CountsVerdict {S : Type 0} (ops_of wides_of : S → ℕ) (before now : S) (v : TreeVerdict) : Type 0 where

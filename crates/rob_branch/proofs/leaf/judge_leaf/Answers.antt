@@ -1,7 +1,9 @@
 use Rattle.std.proofs.Common.{arith}
 use Rattle.rob_cert.specs.View.{certificate_of, status_of}
 use Rattle.rob_model.specs.View.{robust}
-use Rattle.rob_branch.proofs.JudgingLemmas.{leaf_rose_behind, refused_counted, refused_written}
+use Rattle.rob_number.proofs.CountLemmas.{later, rise_later}
+use Rattle.rob_branch.specs.Leaves.{is_wide_leaf}
+use Rattle.rob_branch.proofs.JudgingLemmas.{refused_counted, refused_written}
 use Rattle.rob_branch.proofs.leaf.judge_leaf.Goals as goal
 
 -- ---- the box is written
@@ -16,13 +18,10 @@ returns-in-Ok-clause-judged g c = c.judge_written.ensures.judged
 
 pub returns-in-Ok-clause-counted : goal.returns-in-Ok-clause-counted
 returns-in-Ok-clause-counted g c = record {
-  never_fell = record {
-    ops = omega (arith, c.written.ensures.counted.ops, c.judge_written.ensures.counted.never_fell.ops);
-    wides = omega (arith, c.written.ensures.counted.wides, c.judge_written.ensures.counted.never_fell.wides);
-  };
-  refused = leaf_rose_behind (g.L.Ledger.wides c.args.ledger.now) (g.L.Ledger.wides c.written.new.ledger)
-      (g.L.Ledger.wides c.judge_written.new.ledger) c.written.ensures.counted.wides c.judge_written.result
-      c.judge_written.ensures.counted.refused;
+  never_fell = later c.written.ensures.counted c.judge_written.ensures.counted.never_fell;
+  refused = rise_later (is_wide_leaf c.judge_written.result) (g.L.Ledger.wides c.args.ledger.now)
+      (g.L.Ledger.wides c.written.new.ledger) (g.L.Ledger.wides c.judge_written.new.ledger)
+      c.written.ensures.counted.wides c.judge_written.ensures.counted.refused;
 }
 
 -- ---- a number of the set rows or forms is wide, or memory is refused
