@@ -1,24 +1,33 @@
--- A box that grows, one step at a time: its scenario, what is asked of a box
--- behind it, what is counted, and why it may stop.
-use Rattle.std.proofs.Common.{◌≡◌, ℕ, List, [], ◌⊎◌, inl, inr, refl, sym, subst, append-nil}
-use Rattle.std.specs.Prelude.{map, None, Result, Ok, Err, IfErr}
+-- A box that grows, one step at a time: its scenario, what is asked of it and of a box behind it, what is counted, and
+-- why it may stop.
+use Rattle.std.proofs.Common.{◌≡◌, ◌≢◌, ℕ, ◌+◌, ◌-◌, ◌^◌, ◌<◌, ◌≤◌, List, [], ◌∷◌, ◌++◌, ◌⊎◌, T, inl, inr, refl, ap, sym, ◌∙◌, subst, arith, append-nil, to_z, of_z, w64}
+use Rattle.std.proofs.lemmas.List.{map-append}
+use Rattle.std.specs.Prelude.{ℤ, pos, nat_abs, map, None, Result, Ok, Err, IfErr}
 use Rattle.rob_cert.specs.declared.ending.Stop.{Stop}
 use Rattle.rob_cert.specs.declared.ending.Stop.TheVariants as route
 use Rattle.rob_dualize.specs.Models.{HasModelCause, IsWideIn}
 use Rattle.rob_meaning.specs.Certificates.{Certificate, Status, optimal, infeasible, unbounded}
 use Rattle.rob_meaning.specs.Proves.{Proves, ProvesAs}
 use Rattle.rob_meaning.specs.RobustModel.{RobustModel}
-use Rattle.rob_number.proofs.CountLemmas.{later, rise_later}
+use Rattle.rob_meaning.specs.WellFormed.{IsModel}
+use Rattle.rob_number.proofs.CastLemmas.{seen}
 use Rattle.rob_number.specs.Counts.{NeverFell}
+use Rattle.rob_reach.proofs.BoxLemmas.{admits_in}
+use Rattle.rob_reach.proofs.RangeLemmas.{bounded_in, changes_bounded}
+use Rattle.rob_reach.proofs.RuleLemmas.{rules_kept}
+use Rattle.rob_reach.proofs.SplitLemmas.{product_positive}
 use Rattle.rob_reach.specs.Boxes as boxes
-use Rattle.rob_reach.specs.Growing.{IsAllowed, Search, Visits, start}
+use Rattle.rob_reach.specs.Growing.{Decides, IsAllowed, Search, Visits, branches, outcome, start}
+use Rattle.rob_reach.specs.Ranges.{KeepsBothBounds, is_bounded, product_of_ranges, whole_rule}
 use Rattle.rob_reach.specs.Trees.{IsIn}
 use Rattle.rob_tree.specs.View.{branch_of}
 use Rattle.rob_tree.specs.declared.error.TreeStop.{TreeStop}
 use Rattle.rob_tree.specs.declared.tree.Branch.{Branch}
 use Rattle.rob_tree.specs.declared.error.TreeStop.TheVariants.{Rule, EmptySet, Wide, Memory}
-use Rattle.rob_dualize.specs.Solving.{HasScenario}
-use Rattle.rob_branch.specs.Growth.{CountsGrowth, HasCause, HasCauseBehind, IsWrittenUpTo, RoseIfWide, TellsStop, is_wide}
+use Rattle.rob_branch.proofs.GrowthLemmas.{falls_behind, rose_wider}
+use Rattle.rob_dualize.specs.Solving.{HasScenario, IsSolution}
+use Rattle.rob_elab.specs.Written.{IsWritten}
+use Rattle.rob_branch.specs.Growth.{CanGrow, CountsGrowth, HasCause, HasCauseBehind, IsBranchedAt, IsSolvedBy, IsWrittenUpTo, MayGrow, RoseIfWide, TellsStop}
 
 -- the scenario of a certificate that proves is admitted
 pub scenario_of : (m : RobustModel) (c : Certificate) → Proves m c → HasScenario m
@@ -37,6 +46,64 @@ allowed_named m names b h = by h.side
     by (inl e) = subst (λ (b : boxes.Branch). IsIn b.variable names) (sym e) h.allows.named
     by (inr e) = subst (λ (b : boxes.Branch). IsIn b.variable names) (sym e) h.allows.named
 
+-- ---- what is asked
+-- the search has room for a leaf
+pub one_free : {m : RobustModel} {names : List ℕ} {before : Search} → CanGrow m names before → before.count < 1000
+one_free {m = m} {names = names} h = omega (arith, h.few, product_positive m.variables names)
+
+-- the root can grow, where no rule is broken
+pub root_grows : (m : RobustModel) (names : List ℕ) (before : Search) → before ≡ start → whole_rule m names ≡ None
+    → CanGrow m names before
+root_grows m names before e kept =
+    let rules = (rules_kept m names).0 kept in
+    let none : before.count ≡ 0 = ap (λ (s : Search). s.count) e in
+    record { bounded = rules.0; few = omega (arith, none, rules.1) }
+
+-- what solving a box answers is what is asked of its certificate
+pub solved_by : (limit : ℕ) {m : RobustModel} {c : Certificate} → IsSolution m c → IsWritten limit m
+    → IsSolvedBy limit m c
+solved_by limit h written = record { proves = h.proves; shape = h.shape; written = written }
+
+-- a box whose certificate asks for a branch at K is branched there, and so at K as it is read
+pub branched_at : {limit : ℕ} {m : RobustModel} {c : Certificate} (names : List ℕ) (before : Search) (column : ℕ)
+    (k : ℤ) → limit ≤ 2 ^ 62 - 1
+    → before.endless ≡ None → IsSolvedBy limit m c → outcome names m.sense before c ≡ branches column k
+    → (nat_abs k ≤ limit) × (k ≢ pos limit) → IsBranchedAt limit m names before column (to_z w64 (of_z w64 k))
+branched_at {limit = limit} {m = m} {c = c} names before column k high going solved decides fits =
+    let size : nat_abs k ≤ limit = fits.0 in
+    subst (IsBranchedAt limit m names before column) (sym (seen k (omega arith))) record {
+      decides = (c, record { going = going; proves = solved.proves; decides = decides });
+      within = fits;
+      written = solved.written;
+    }
+
+-- a box that is branched admits a scenario
+pub branched_admits : {limit : ℕ} {m : RobustModel} {names : List ℕ} {before : Search} {column : ℕ} {k : ℤ}
+    → IsBranchedAt limit m names before column k → HasScenario m
+branched_admits {m = m} h = scenario_of m h.decides.0 h.decides.1.proves
+
+-- the variable of a branch that may grow has both bounds
+pub may_bounded : {limit : ℕ} {m : RobustModel} {names : List ℕ} {count : ℕ} {b : boxes.Branch}
+    → MayGrow limit m names count b → KeepsBothBounds m names → T (is_bounded m.variables b.variable)
+may_bounded {m = m} {names = names} {b = b} h bounded =
+    bounded_in m.variables names b.variable (allowed_named m names b h.allowed) bounded
+
+-- the box behind such a branch, told otherwise, has a lesser product of ranges, can grow, and admits a scenario
+pub side_grows : {limit : ℕ} {m side : RobustModel} {names : List ℕ} {b : boxes.Branch} (before : Search)
+    → MayGrow limit m names before.count b → side ≡ boxes.behind m b → IsModel m → KeepsBothBounds m names
+    → HasScenario m → (product_of_ranges side.variables names < product_of_ranges m.variables names)
+    × CanGrow side names before × HasScenario side
+side_grows {m = m} {names = names} {b = b} before may tight model bounded some =
+    let P : RobustModel → Type 0 =
+    λ (n : RobustModel). (product_of_ranges n.variables names < product_of_ranges m.variables names)
+    × CanGrow n names before × HasScenario n
+    in
+    subst P (sym tight) (
+      falls_behind m model names bounded b may.allowed,
+      record { bounded = changes_bounded b.is_upper b.bound b.variable m.variables names bounded; few = may.few },
+      (some.0, admits_in m b some.0 some.1),
+    )
+
 -- ---- what a search counts
 pub counts_behind : {S T : Type 0} (ops wides : S → ℕ) (old mid now : S) (r : Result T TreeStop)
     → NeverFell ops wides old mid → CountsGrowth ops wides mid now r
@@ -52,14 +119,15 @@ counts_behind {T = T} ops wides old mid now r h g = record {
     by (Err e) k = rise_later (is_wide e) (wides old) (wides mid) (wides now) h.wides k
 
 -- ---- causes
--- a cause of a box stays one where the box and its path are told otherwise
-pub cause_told : {T : Type 0} (limit : ℕ) (told box : RobustModel) (names : List ℕ) (before : Search)
-    (back front : List boxes.Branch) (r : Result T TreeStop)
-    → told ≡ box → back ≡ front → IfErr r (HasCauseBehind limit told names before back)
-    → IfErr r (HasCauseBehind limit box names before front)
-cause_told limit told box names before back front r e f h =
-    subst (λ path. IfErr r (HasCauseBehind limit box names before path)) f
-    (subst (λ m. IfErr r (HasCauseBehind limit m names before back)) e h)
+-- a cause of a box stays one where the box is told otherwise, and its path as that of the box before it with a branch
+pub cause_told : {T : Type 0} (limit : ℕ) {told box : RobustModel} (names : List ℕ) (before : Search)
+    (back path : List Branch) (b : Branch) (r : Result T TreeStop)
+    → told ≡ box → back ≡ path ++ b ∷ [] → IfErr r (HasCauseBehind limit told names before (map branch_of back))
+    → IfErr r (HasCauseBehind limit box names before (map branch_of path ++ branch_of b ∷ []))
+cause_told limit {box = box} names before back path b r e f h =
+    subst (λ front. IfErr r (HasCauseBehind limit box names before front))
+    (ap (map branch_of) f ∙ map-append branch_of path (b ∷ []))
+    (subst (λ (m : RobustModel). IfErr r (HasCauseBehind limit m names before (map branch_of back))) e h)
 
 -- the stop of a box that has a scenario is a cause behind it
 pub cause_here : (limit : ℕ) (m : RobustModel) (names : List ℕ) (before : Search) (path : List Branch) (stop : Stop)

@@ -2,6 +2,7 @@
 use Rattle.std.proofs.Common.{◌≡◌, ◌≢◌, ℕ, ◌≤◌, List, refl, ap, sym, ◌∙◌, subst}
 use Rattle.std.specs.Prelude.{ℤ, pos, nat_abs, Option, Some, None}
 use Rattle.rob_algebra.specs.Fraction.{Fraction}
+use Rattle.rob_algebra.specs.Width.{Fits}
 use Rattle.rob_meaning.specs.Certificates.{Certificate}
 use Rattle.rob_meaning.specs.Places.{Each}
 use Rattle.rob_meaning.specs.RobustModel.{RobustModel}
@@ -12,9 +13,11 @@ use Rattle.rob_reach.specs.Growing.{Search, Best, branches, start, Decides, Grow
 use Rattle.rob_reach.specs.Ranges.{whole_rule}
 use Rattle.rob_reach.specs.Trees.{Node, split, Tree, leaves}
 use Rattle.rob_tree.specs.Shape.{BranchesFit, HasTreeShape, IsShaped, KeepsParts}
-use Rattle.rob_tree.specs.View.{node_of}
+use Rattle.rob_tree.proofs.FitLemmas.{tree_fits}
+use Rattle.rob_tree.specs.View.{node_of, tree_of}
+use Rattle.rob_tree.specs.declared.tree.Tree as declared
 use Rattle.rob_branch.proofs.GrowthLemmas.{shaped_both}
-use Rattle.rob_branch.specs.Growth.{AreBoxesWritten, IsGrownTo}
+use Rattle.rob_branch.specs.Growth.{AreBoxesWritten, IsGrownTo, IsGrownTree}
 use Rattle.rob_branch.specs.View.{search_of}
 use Rattle.rob_branch.specs.declared.grow.Grown.{Grown}
 use Rattle.rob_elab.specs.Written.{IsWritten}
@@ -79,3 +82,25 @@ module _ (limit : ℕ) (m : RobustModel) (names : List ℕ) (t : Tree) (after : 
 
   pub tree_written : AreBoxesWritten limit m root → AreBoxesWritten limit m t.root
   tree_written = subst (AreBoxesWritten limit m) (sym root_is)
+
+-- the tree that the program makes of it, where the root has grown from the start of a search
+pub tree_of_root : {N : Type 0} {value : N → Fraction} {limit : ℕ} {m : RobustModel} {names : List ℕ}
+    {before : Search} {grown : Grown N} (t : declared.Tree N) → IsGrownTo value limit m names before grown
+    → before ≡ start → IsModel m → whole_rule m names ≡ None → ((x : N) → Fits limit (value x))
+    → tree_of value t ≡ tree_by (search_of value grown.after).endless (search_of value grown.after).best
+    (node_of value grown.node)
+    → IsGrownTree limit m names (tree_of value t)
+tree_of_root {value = value} {limit = limit} {m = m} {names = names} {before = before} {grown = grown} t h first model
+    kept fits is =
+    let after = search_of value grown.after in
+    let root = node_of value grown.node in
+    let tree = tree_of value t in
+    let grows : Grows m names start root after = subst (λ s. Grows m names s root after) first h.grows in
+    let shape : HasTreeShape limit m names tree =
+    tree_shaped limit m names tree after root is model kept grows h.shaped h.numbers in
+    record {
+      grown = tree_grown limit m names tree after root is grows;
+      shape = shape;
+      fits = tree_fits value limit fits m names t shape;
+      boxes = tree_written limit m names tree after root is h.written;
+    }

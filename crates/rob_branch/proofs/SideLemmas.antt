@@ -1,27 +1,25 @@
 -- The two sides of a branch at K: their numbers, what is asked of the boxes behind them, and what both give together.
-use Rattle.std.proofs.Common.{◌≡◌, ◌≢◌, ℕ, ◌+◌, ◌<◌, ◌≤◌, ◌^◌, List, T, true, ap, sym, ◌∙◌, subst, arith, to_z, of_z, w64}
+use Rattle.std.proofs.Common.{◌≡◌, ◌≢◌, ℕ, ◌+◌, ◌-◌, ◌<◌, ◌≤◌, ◌^◌, List, [], ◌∷◌, ◌++◌, true, ap, sym, ◌∙◌, subst, arith, to_z, of_z, w64}
 use Rattle.std.proofs.lemmas.Int.{ints}
 use Rattle.std.specs.Prelude.{ℤ, pos, negsuc, ◌+ℤ◌, nat_abs, Result, Ok, Err, IfOk}
 use Rattle.rob_algebra.specs.Fraction.{Fraction}
-use Rattle.rob_meaning.specs.Certificates.{Certificate}
 use Rattle.rob_meaning.specs.RobustModel.{RobustModel}
 use Rattle.rob_meaning.specs.WellFormed.{IsModel}
-use Rattle.rob_number.proofs.CastLemmas.{seen}
+use Rattle.rob_number.proofs.CastLemmas.{seen, seen_small}
 use Rattle.rob_reach.proofs.BoxLemmas.{model_behind}
 use Rattle.rob_reach.proofs.GrowingLemmas.{allowed_above, allowed_below}
 use Rattle.rob_reach.proofs.RangeLemmas.{changes_bounded}
 use Rattle.rob_reach.specs.Boxes.{Branch, behind, box_below, at_most_branch, at_least_branch}
-use Rattle.rob_reach.specs.Growing.{Search, branches, Decides, IsAllowed}
-use Rattle.rob_reach.specs.Ranges.{are_bounded, product_of_ranges}
+use Rattle.rob_reach.specs.Growing.{Search}
+use Rattle.rob_reach.specs.Ranges.{product_of_ranges}
 use Rattle.rob_reach.specs.Trees.{split}
 use Rattle.rob_tree.specs.View.{node_of}
 use Rattle.rob_tree.specs.declared.error.TreeStop.{TreeStop}
-use Rattle.rob_branch.proofs.GrowthLemmas.{count_within, few_above, few_below}
+use Rattle.rob_branch.proofs.GrowthLemmas.{cause_above, cause_below, count_within, few_above, few_below}
 use Rattle.rob_branch.proofs.GrownTreeLemmas.{grown_joined}
-use Rattle.rob_branch.specs.Growth.{IsGrownTo}
+use Rattle.rob_branch.specs.Growth.{CanGrow, HasCauseBehind, IsBranchedAt, IsGrownTo, MayGrow}
 use Rattle.rob_branch.specs.View.{search_of}
 use Rattle.rob_branch.specs.declared.grow.Grown.{Grown}
-use Rattle.rob_elab.specs.Written.{IsWritten}
 
 -- ---- K + 1
 pub next_seen : (z : ℤ) → nat_abs z < 2 ^ 62 → to_z w64 (of_z w64 (to_z w64 (of_z w64 z) +ℤ pos 1)) ≡ z +ℤ pos 1
@@ -42,55 +40,83 @@ pub above_read : (j : ℕ) (k : ℤ) (b : Branch) → nat_abs k < 2 ^ 62 → b �
     → b ≡ at_least_branch j k
 above_read j k b small e = e ∙ ap (at_least_branch j) (seen k small)
 
--- ---- what is asked of the box behind a branch, where the search has so many leaves
-pub record MayGrow (limit : ℕ) (m : RobustModel) (names : List ℕ) (count : ℕ) (b : Branch) : Type 0 where
-  pub allowed : IsAllowed m names b
-  pub within : nat_abs b.bound ≤ limit
-  pub few : count + product_of_ranges (behind m b).variables names ≤ 1000
+-- ---- of a box that is branched at K
+module _ {limit : ℕ} {m : RobustModel} {names : List ℕ} {before : Search} {j : ℕ} {k : ℤ}
+    (branched : IsBranchedAt limit m names before j k) (high : limit ≤ 2 ^ 62 - 1) where
+  small : nat_abs k < 2 ^ 62
+  small = let size : nat_abs k ≤ limit = branched.within.0 in omega arith
 
-module _ {N : Type 0} (value : N → Fraction) (limit : ℕ) (m : RobustModel) (names : List ℕ) (before : Search)
-    (c : Certificate) (j : ℕ) (k : ℤ) where
-  module _ (decides : Decides m names before c (branches j k)) (fits : (nat_abs k ≤ limit) × (k ≢ pos limit))
-      (model : IsModel m) (bounded : T (are_bounded m.variables names))
-      (few : before.count + product_of_ranges m.variables names ≤ 1000) where
-    pub below_may : (b : Branch) → b ≡ at_most_branch j k → MayGrow limit m names before.count b
-    below_may b is =
-        subst (MayGrow limit m names before.count) (sym is) record {
-          allowed = allowed_below m names before c j k decides;
-          within = fits.0;
-          few = few_below m names before c j k decides model bounded before.count few;
+  -- K as it is read is small
+  pub small_read : nat_abs (to_z w64 (of_z w64 k)) < 2 ^ 62
+  small_read = seen_small k small
+
+  -- what is asked of the boxes behind the two branches that the code makes of K
+  module _ (model : IsModel m) (ready : CanGrow m names before) where
+    pub below_may : {b : Branch} → b ≡ at_most_branch j (to_z w64 (of_z w64 k))
+        → MayGrow limit m names before.count b
+    below_may {b = b} e =
+        subst (MayGrow limit m names before.count) (sym (below_read j k b small e)) record {
+          allowed = allowed_below m names before branched.decides.0 j k branched.decides.1;
+          within = branched.within.0;
+          few = few_below m names before branched.decides.0 j k branched.decides.1 model ready.bounded before.count
+              ready.few;
         }
 
     -- the other one, behind what the first has grown into
-    pub above_may : (a b : Branch) (first : Grown N) → a ≡ at_most_branch j k → b ≡ at_least_branch j k
+    pub above_may : {N : Type 0} {value : N → Fraction} {a b : Branch} {first : Grown N}
+        → a ≡ at_most_branch j (to_z w64 (of_z w64 k)) → b ≡ at_least_branch j (to_z w64 (of_z w64 k))
         → IsGrownTo value limit (behind m a) names before first → MayGrow limit m names first.after.count b
-    above_may a b first is same h =
+    above_may {value = value} {a = a} {b = b} {first = first} is same h =
         let box = box_below m j k in
         let below : IsGrownTo value limit box names before first =
-        subst (λ (a : Branch). IsGrownTo value limit (behind m a) names before first) is h
+        subst (λ (a : Branch). IsGrownTo value limit (behind m a) names before first) (below_read j k a small is) h
         in
         let some : first.after.count ≤ before.count + product_of_ranges box.variables names =
         count_within box (model_behind m (at_most_branch j k) model) names
-        (changes_bounded true k j m.variables names bounded) before (search_of value first.after)
+        (changes_bounded true k j m.variables names ready.bounded) before (search_of value first.after)
         (node_of value first.node) below.grows
         in
-        subst (MayGrow limit m names first.after.count) (sym same) record {
-          allowed = allowed_above m names before c j k decides;
-          within = next_within limit k fits.0 fits.1;
-          few = few_above m names before c j k decides model bounded before.count first.after.count few some;
+        subst (MayGrow limit m names first.after.count) (sym (above_read j k b small same)) record {
+          allowed = allowed_above m names before branched.decides.0 j k branched.decides.1;
+          within = next_within limit k branched.within.0 branched.within.1;
+          few = few_above m names before branched.decides.0 j k branched.decides.1 model ready.bounded before.count
+              first.after.count ready.few some;
         }
 
-    -- the node of both; its K is read as another number that is the same
-    pub joined_grown : (a b : Branch) (first second : Grown N) (r : Result (Grown N) TreeStop) (z : ℤ)
-        → a ≡ at_most_branch j k → b ≡ at_least_branch j k → z ≡ k → IsWritten limit m
-        → IsGrownTo value limit (behind m a) names before first
-        → IsGrownTo value limit (behind m b) names (search_of value first.after) second
-        → IfOk r (λ (grown : Grown N). (grown.after ≡ second.after)
-        × (node_of value grown.node ≡ split j z (node_of value first.node) (node_of value second.node)))
-        → IfOk r (IsGrownTo value limit m names before)
-    joined_grown a b first second (Ok grown) z is same read written h g both =
-        grown_joined value limit m names before c j k first second grown decides fits written
-        (subst (λ (a : Branch). IsGrownTo value limit (behind m a) names before first) is h)
-        (subst (λ (b : Branch). IsGrownTo value limit (behind m b) names (search_of value first.after) second) same g)
-        both.0 (both.1 ∙ ap (λ n. split j n (node_of value first.node) (node_of value second.node)) read)
-    joined_grown a b first second (Err stop) z is same read written h g both = tt
+  -- the node of both
+  pub joined_grown : {N : Type 0} {value : N → Fraction} {a b : Branch} {first second : Grown N}
+      (r : Result (Grown N) TreeStop)
+      → a ≡ at_most_branch j (to_z w64 (of_z w64 k)) → b ≡ at_least_branch j (to_z w64 (of_z w64 k))
+      → IsGrownTo value limit (behind m a) names before first
+      → IsGrownTo value limit (behind m b) names (search_of value first.after) second
+      → IfOk r (λ (grown : Grown N). (grown.after ≡ second.after) × (node_of value grown.node
+      ≡ split j (to_z w64 (of_z w64 k)) (node_of value first.node) (node_of value second.node)))
+      → IfOk r (IsGrownTo value limit m names before)
+  joined_grown {value = value} {a = a} {b = b} {first = first} {second = second} (Ok grown) is same h g both =
+      grown_joined value limit m names before branched.decides.0 j k first second grown branched.decides.1
+      branched.within branched.written
+      (subst (λ (a : Branch). IsGrownTo value limit (behind m a) names before first) (below_read j k a small is) h)
+      (subst (λ (b : Branch). IsGrownTo value limit (behind m b) names (search_of value first.after) second)
+      (above_read j k b small same) g)
+      both.0 (both.1 ∙ ap (λ n. split j n (node_of value first.node) (node_of value second.node)) (seen k small))
+  joined_grown {value = value} {a = a} {b = b} {first = first} {second = second} (Err stop) is same h g both = tt
+
+  -- and it stops where one of them does
+  pub stopped_below : {b : Branch} (front : List Branch) (stop : TreeStop)
+      → b ≡ at_most_branch j (to_z w64 (of_z w64 k))
+      → HasCauseBehind limit (behind m b) names before (front ++ b ∷ []) stop
+      → HasCauseBehind limit m names before front stop
+  stopped_below {b = b} front stop is h =
+      cause_below limit m names before front branched.decides.0 j k branched.decides.1 branched.written b stop
+      (below_read j k b small is) h
+
+  pub stopped_above : {N : Type 0} {value : N → Fraction} {a b : Branch} {first : Grown N} (front : List Branch)
+      (stop : TreeStop)
+      → a ≡ at_most_branch j (to_z w64 (of_z w64 k)) → b ≡ at_least_branch j (to_z w64 (of_z w64 k))
+      → IsGrownTo value limit (behind m a) names before first
+      → HasCauseBehind limit (behind m b) names (search_of value first.after) (front ++ b ∷ []) stop
+      → HasCauseBehind limit m names before front stop
+  stopped_above {value = value} {a = a} {b = b} {first = first} front stop is same h g =
+      cause_above limit m names before front branched.decides.0 j k branched.decides.1 branched.written a b stop
+      (node_of value first.node) (search_of value first.after) (below_read j k a small is) (above_read j k b small same)
+      h.grows g

@@ -1,15 +1,14 @@
 -- What is said of the leaves of a node, one behind another: those that are passed, and the first that isn't.
-use Rattle.std.specs.Prelude.{◌≡◌, ◌≢◌, ℕ, ◌+◌, ◌⊎◌, List, ◌∷◌, ◌++◌, length, map, Option, Some, None, IfSome, Result, IfErr, Bool, true, false}
+use Rattle.std.specs.Prelude.{◌≡◌, ◌≢◌, ℕ, ◌+◌, ◌≤◌, ◌⊎◌, nat_abs, List, ◌∷◌, ◌++◌, length, map, Option, Some, None, IfSome, Result, IfErr}
 use Rattle.rob_algebra.specs.Fraction.{Fraction}
 use Rattle.rob_check.specs.declared.verdict.Verdict.TheVariants as check
 use Rattle.rob_meaning.specs.Certificates.{Certificate, Status, infeasible}
 use Rattle.rob_meaning.specs.Places.{Each}
 use Rattle.rob_meaning.specs.RobustModel.{RobustModel, Sense}
 use Rattle.rob_model.specs.declared.place.Spot.{Spot}
-use Rattle.rob_number.specs.Counts as counts
-use Rattle.rob_number.specs.Counts.{NeverFell}
-use Rattle.rob_reach.specs.Boxes.{Branch}
-use Rattle.rob_reach.specs.Trees.{Node, Leaf, leaves, leaf_count, BranchesOn}
+use Rattle.rob_number.specs.Counts.{NeverFell, Rose}
+use Rattle.rob_reach.specs.Boxes.{Branch, behind}
+use Rattle.rob_reach.specs.Trees.{IsIn, Node, Leaf, leaves, leaf_count, BranchesOn}
 use Rattle.rob_reach.specs.Verdicts.{KeepsValue, MayBe, Shows, leaf_at}
 use Rattle.rob_reach.specs.WholeStatus.{IsWholeOn}
 use Rattle.rob_sets.specs.declared.error.ElabErr.{ElabErr}
@@ -87,6 +86,12 @@ pub record IsBoxNode (limit : ℕ) (box : RobustModel) (names : List ℕ) (node 
   pub on_names : BranchesOn names node
   pub numbers : BranchesFit limit node
   pub shaped : Each IsShaped (leaves box node)
+
+-- the branch is on a named variable, its number is within the limit, and the node is one of the box behind it
+pub record MayCheck (limit : ℕ) (box : RobustModel) (names : List ℕ) (b : Branch) (node : Node) : Type 0 where
+  pub named : IsIn b.variable names
+  pub within : nat_abs b.bound ≤ limit
+  pub node_is : IsBoxNode limit (behind box b) names node
 
 module _ (limit : ℕ) (claimed : Status) (value : Fraction) where
   -- a leaf is passed unless its check says something else; an open one always is

@@ -1,6 +1,6 @@
 //! The check of a tree: its leaves in order, each by the check of its certificate for its box.
 
-ghost use Rattle.std.specs.Prelude.{◌≡◌, ◌≢◌, ◌⊎◌, ◌+◌, ◌^◌, ◌<◌, ◌≤◌, ◌∷◌, ◌++◌, [], map, nat_abs, None, IfOk, IfErr};
+ghost use Rattle.std.specs.Prelude.{◌≡◌, ◌≢◌, ◌⊎◌, ◌+◌, ◌^◌, ◌<◌, ◌≤◌, ◌∷◌, ◌++◌, [], map, None, IfOk, IfErr};
 ghost use Rattle.rob_cert.specs.Shape.{HasShape};
 ghost use Rattle.rob_cert.specs.View.{certificate_of, status_of};
 ghost use Rattle.rob_meaning.specs.Certificates.{infeasible};
@@ -9,12 +9,12 @@ ghost use Rattle.rob_model.specs.Valid.{IsValid};
 ghost use Rattle.rob_model.specs.View.{robust};
 ghost use Rattle.rob_reach.specs.Boxes as boxes;
 ghost use Rattle.rob_reach.specs.Ranges.{KeepsBothBounds, whole_rule};
-ghost use Rattle.rob_reach.specs.Trees.{IsIn, leaf, leaf_count, leaves};
+ghost use Rattle.rob_reach.specs.Trees.{leaf, leaf_count, leaves};
 ghost use Rattle.rob_reach.specs.Verdicts.{KeepsBest};
 ghost use Rattle.rob_reach.specs.WholeStatus.{HasWholeStatus};
 ghost use Rattle.rob_tree.specs.Shape.{HasTreeShape};
 ghost use Rattle.rob_tree.specs.View.{branch_of, node_of, tree_of};
-ghost use Rattle.rob_branch.specs.Leaves.{CountsCheck, Ends, IsBoxNode, IsPassedNode, Stops, TellsWide};
+ghost use Rattle.rob_branch.specs.Leaves.{CountsCheck, Ends, IsBoxNode, IsPassedNode, MayCheck, Stops, TellsWide};
 ghost use Rattle.rob_branch.specs.Verdicts.{CountsVerdict, IsVerdict, OnAccepted};
 ghost use Rattle.rob_tree.specs.declared.verdict.TreeVerdict.TheVariants as Is;
 
@@ -128,11 +128,8 @@ fn check_side<N: Exact, L: Ledger>(
 ) -> Result<u32, TreeVerdict>
     requires valid { IsValid N.value area.model.now }
     requires bounded { KeepsBothBounds (robust N.value area.model.now) area.names.now }
-    requires named { IsIn branch.column area.names.now }
-    requires within { nat_abs branch.k ≤ N.limit }
-    requires node { IsBoxNode N.limit
-        (boxes.behind (robust N.value area.model.now) (branch_of branch)) area.names.now
-        (node_of N.value node.now) }
+    requires may { MayCheck N.limit (robust N.value area.model.now) area.names.now
+        (branch_of branch) (node_of N.value node.now) }
     requires few { progress.number + leaf_count (node_of N.value node.now) < 2 ^ 32 }
     ensures passed { IfOk result (IsPassedNode N.limit (status_of progress.claim.status)
         (N.value progress.claim.value)

@@ -1,25 +1,20 @@
 //! How a tree grows: depth first, the box with the upper bound before the other. (Land, Doig, An automatic method of
 //! solving discrete programming problems.)
 
-ghost use Rattle.std.specs.Prelude.{◌≡◌, ◌≢◌, ◌+◌, ◌++◌, ◌∷◌, [], ◌≤◌, pos, map, nat_abs, ℕ, None, Some, Err as Error, IfOk, IfErr, OnOk};
-ghost use Rattle.rob_cert.specs.Shape.{HasShape};
+ghost use Rattle.std.specs.Prelude.{◌≡◌, ◌++◌, ◌∷◌, [], map, ℕ, None, Some, Err as Error, IfOk, IfErr, OnOk};
 ghost use Rattle.rob_cert.specs.View.{certificate_of};
-ghost use Rattle.rob_meaning.specs.Certificates.{Certificate};
-ghost use Rattle.rob_meaning.specs.Proves.{Proves};
 ghost use Rattle.rob_model.specs.Valid.{IsValid};
 ghost use Rattle.rob_model.specs.View.{robust};
 ghost use Rattle.rob_reach.specs.Growing as growing;
 ghost use Rattle.rob_reach.specs.Boxes as boxes;
-ghost use Rattle.rob_reach.specs.Ranges.{KeepsBothBounds, product_of_ranges, whole_rule as first_rule};
+ghost use Rattle.rob_reach.specs.Ranges.{KeepsBothBounds, whole_rule as first_rule};
 ghost use Rattle.rob_reach.specs.Trees as trees;
 ghost use Rattle.rob_reach.specs.WholeStatus.{HasWholeStatus};
-ghost use Rattle.rob_tree.specs.Reading.{TreeFits};
-ghost use Rattle.rob_tree.specs.Shape.{HasTreeShape};
 ghost use Rattle.rob_tree.specs.View.{branch_of, node_of, tree_of};
 ghost use Rattle.rob_tree.specs.declared.error.TreeStop.TheVariants as Refused;
 ghost use Rattle.rob_elab.specs.Written.{IsWritten};
 ghost use Rattle.rob_dualize.specs.Solving.{HasScenario};
-ghost use Rattle.rob_branch.specs.Growth.{AreBoxesWritten, CountsGrowth, HasCause, HasCauseBehind, IsGrownTo, TellsStop};
+ghost use Rattle.rob_branch.specs.Growth.{CanGrow, CountsGrowth, HasCause, HasCauseBehind, IsBranchedAt, IsGrownTo, IsGrownTree, IsSolvedBy, MayGrow, TellsStop};
 ghost use Rattle.rob_branch.specs.View.{search_of};
 
 use crate::path::{branch_above, branch_below, longer};
@@ -71,9 +66,8 @@ fn grow<N: Exact, L: Ledger>(
     ledger: &mut L,
 ) -> Result<Grown<N>, TreeStop>
     requires valid { IsValid N.value area.model.now }
-    requires bounded { KeepsBothBounds (robust N.value area.model.now) area.names.now }
-    requires few { before.count
-        + product_of_ranges (robust N.value area.model.now).variables area.names.now ≤ 1000 }
+    requires ready { CanGrow (robust N.value area.model.now) area.names.now
+        (search_of N.value before) }
     requires admitted { HasScenario (robust N.value area.model.now) }
     ensures grown { IfOk result (IsGrownTo N.value N.limit
         (robust N.value area.entry.model.now) area.entry.names.now (search_of N.value before)) }
@@ -104,13 +98,11 @@ fn grow_from<N: Exact, L: Ledger>(
     ledger: &mut L,
 ) -> Result<Grown<N>, TreeStop>
     requires valid { IsValid N.value area.model.now }
-    requires bounded { KeepsBothBounds (robust N.value area.model.now) area.names.now }
-    requires few { before.count
-        + product_of_ranges (robust N.value area.model.now).variables area.names.now ≤ 1000 }
+    requires ready { CanGrow (robust N.value area.model.now) area.names.now
+        (search_of N.value before) }
     requires going { before.endless ≡ None }
-    requires proves { Proves (robust N.value area.model.now) (certificate_of N.value cert) }
-    requires shape { HasShape (robust N.value area.model.now) (certificate_of N.value cert) }
-    requires written { IsWritten N.limit (robust N.value area.model.now) }
+    requires solved { IsSolvedBy N.limit (robust N.value area.model.now)
+        (certificate_of N.value cert) }
     ensures grown { IfOk result (IsGrownTo N.value N.limit
         (robust N.value area.entry.model.now) area.entry.names.now (search_of N.value before)) }
     ensures cause { IfErr result (HasCauseBehind N.limit
@@ -138,14 +130,10 @@ fn grow_branch<N: Exact, L: Ledger>(
     ledger: &mut L,
 ) -> Result<Grown<N>, TreeStop>
     requires valid { IsValid N.value area.model.now }
-    requires bounded { KeepsBothBounds (robust N.value area.model.now) area.names.now }
-    requires few { before.count
-        + product_of_ranges (robust N.value area.model.now).variables area.names.now ≤ 1000 }
-    requires decides { (c : Certificate)
-        × growing.Decides (robust N.value area.model.now) area.names.now
-        (search_of N.value before) c (growing.branches column k) }
-    requires within { (nat_abs k ≤ N.limit) × (k ≢ pos N.limit) }
-    requires written { IsWritten N.limit (robust N.value area.model.now) }
+    requires ready { CanGrow (robust N.value area.model.now) area.names.now
+        (search_of N.value before) }
+    requires branched { IsBranchedAt N.limit (robust N.value area.model.now) area.names.now
+        (search_of N.value before) column k }
     ensures grown { IfOk result (IsGrownTo N.value N.limit
         (robust N.value area.entry.model.now) area.entry.names.now (search_of N.value before)) }
     ensures cause { IfErr result (HasCauseBehind N.limit
@@ -196,13 +184,8 @@ fn grow_side<N: Exact, L: Ledger>(
     requires valid { IsValid N.value area.model.now }
     requires bounded { KeepsBothBounds (robust N.value area.model.now) area.names.now }
     requires admitted { HasScenario (robust N.value area.model.now) }
-    requires allowed { growing.IsAllowed (robust N.value area.model.now) area.names.now
+    requires may { MayGrow N.limit (robust N.value area.model.now) area.names.now before.count
         (branch_of branch) }
-    requires within { nat_abs branch.k ≤ N.limit }
-    requires few { before.count
-        + product_of_ranges
-        (boxes.behind (robust N.value area.model.now) (branch_of branch)).variables area.names.now
-        ≤ 1000 }
     ensures grown { IfOk result (IsGrownTo N.value N.limit
         (boxes.behind (robust N.value area.entry.model.now) (branch_of branch)) area.entry.names.now
         (search_of N.value before)) }
@@ -275,20 +258,15 @@ pub fn grow_tree<N: Exact, L: Ledger>(
     ledger: &mut L,
 ) -> Result<Tree<N>, TreeStop>
     requires valid { IsValid N.value model.now }
-    // The tree is what the model grows into; so it proves, and its status is true over plans with whole numbers.
-    ensures grown { IfOk result (λ tree. growing.IsGrown (robust N.value model.now) names.now
+    // The tree is what the model grows into, with the shape that its text asks for, numbers that fit, and boxes in
+    // which nothing is wide when they are written in whole numbers; so it proves, and its status is true over plans
+    // with whole numbers.
+    ensures tree { IfOk result (λ tree. IsGrownTree N.limit (robust N.value model.now) names.now
         (tree_of N.value tree)) }
     ensures true_of { IfOk result (λ tree. HasWholeStatus (robust N.value model.now) names.now
         (tree_of N.value tree).status (tree_of N.value tree).value) }
-    ensures shape { IfOk result (λ tree. HasTreeShape N.limit (robust N.value model.now) names.now
-        (tree_of N.value tree)) }
-    ensures fits { IfOk result (λ tree. TreeFits N.limit (robust N.value model.now)
-        (tree_of N.value tree)) }
-    // A tree comes only where nothing is wide when the model, and each box of the tree that isn't left open, is
-    // written in whole numbers.
+    // A tree comes only where nothing is wide when the model is written in whole numbers.
     ensures written { OnOk result (IsWritten N.limit (robust N.value model.now)) }
-    ensures boxes { IfOk result (λ tree. AreBoxesWritten N.limit (robust N.value model.now)
-        (tree_of N.value tree).root) }
     ensures cause { IfErr result (HasCause N.limit (robust N.value model.now) names.now) }
     // A broken rule is always told, and nothing is counted then.
     ensures rule { (rule : ℕ) → first_rule (robust N.value model.now) names.now ≡ Some rule
@@ -312,17 +290,11 @@ fn grow_root<N: Exact, L: Ledger>(
 ) -> Result<Tree<N>, TreeStop>
     requires valid { IsValid N.value model.now }
     requires kept { first_rule (robust N.value model.now) names.now ≡ None }
-    ensures grown { IfOk result (λ tree. growing.IsGrown (robust N.value model.now) names.now
+    ensures tree { IfOk result (λ tree. IsGrownTree N.limit (robust N.value model.now) names.now
         (tree_of N.value tree)) }
     ensures true_of { IfOk result (λ tree. HasWholeStatus (robust N.value model.now) names.now
         (tree_of N.value tree).status (tree_of N.value tree).value) }
-    ensures shape { IfOk result (λ tree. HasTreeShape N.limit (robust N.value model.now) names.now
-        (tree_of N.value tree)) }
-    ensures fits { IfOk result (λ tree. TreeFits N.limit (robust N.value model.now)
-        (tree_of N.value tree)) }
     ensures written { OnOk result (IsWritten N.limit (robust N.value model.now)) }
-    ensures boxes { IfOk result (λ tree. AreBoxesWritten N.limit (robust N.value model.now)
-        (tree_of N.value tree).root) }
     ensures cause { IfErr result (HasCause N.limit (robust N.value model.now) names.now) }
     ensures counted { CountsGrowth L.ops L.wides ledger.old ledger.new result }
 {

@@ -13,7 +13,10 @@ grown-requires-clause-bounded g c =
 pub grown-requires-clause-proves : goal.grown-requires-clause-proves
 grown-requires-clause-proves g c =
     grown_proves (robust g.N.Exact.value c.args.model.now) c.args.numbers.now
-    (tree_of g.N.Exact.value c.in-Ok.tree) c.in-Ok.ensures.grown
+    (tree_of g.N.Exact.value c.in-Ok.tree) c.in-Ok.ensures.tree.grown
+
+pub grown-requires-clause-shape : goal.grown-requires-clause-shape
+grown-requires-clause-shape g c = c.in-Ok.ensures.tree.shape
 
 pub returns-in-Ok-clause-answers : goal.returns-in-Ok-clause-answers
 returns-in-Ok-clause-answers g c =
@@ -22,8 +25,8 @@ returns-in-Ok-clause-answers g c =
     (tree_of g.N.Exact.value c.in-Ok.tree) c.grown.result
     (grown_keeps (robust g.N.Exact.value c.args.model.now) c.args.numbers.now c.grow_tree.result c.in-Ok.tree c.in-Ok.is
     c.grow_tree.ensures.rule)
-    c.in-Ok.ensures.grown c.in-Ok.ensures.true_of c.in-Ok.ensures.shape c.in-Ok.ensures.fits
-    c.in-Ok.ensures.written c.in-Ok.ensures.boxes
+    c.in-Ok.ensures.tree.grown c.in-Ok.ensures.true_of c.in-Ok.ensures.tree.shape c.in-Ok.ensures.tree.fits
+    c.in-Ok.ensures.written c.in-Ok.ensures.tree.boxes
     c.grown.ensures.status c.grown.ensures.printed
 
 pub ungrown-requires-clause-named : goal.ungrown-requires-clause-named
