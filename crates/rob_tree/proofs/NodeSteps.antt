@@ -1,5 +1,5 @@
 -- A node that is read, or that breaks a rule, from its first line and the two nodes behind it.
-use Rattle.std.proofs.Common.{◌≡◌, ◌≢◌, ℕ, suc, ◌+◌, ◌<◌, ◌≤◌, List, [], ◌∷◌, ◌++◌, length, arith, refl, ap, sym, ◌∙◌, subst, append_assoc, append-nil, length-append}
+use Rattle.std.proofs.Common.{◌≡◌, ◌≢◌, ℕ, suc, ◌+◌, ◌-◌, ◌^◌, ◌<◌, ◌≤◌, List, [], ◌∷◌, ◌++◌, length, arith, refl, ap, sym, ◌∙◌, subst, append_assoc, append-nil, length-append, to_z, of_z, w64}
 use Rattle.std.specs.Prelude.{codes, ℤ, pos, nat_abs, Result, Ok, Err, IfOk, IfErr}
 use Rattle.rob_algebra.specs.Fraction.{Fraction}
 use Rattle.rob_cert.proofs.ShapeLemmas.{lines_long}
@@ -8,11 +8,12 @@ use Rattle.rob_cert.specs.declared.error.CertErr.TheVariants as cert
 use Rattle.rob_cert.specs.Reading.{start}
 use Rattle.rob_cert.specs.Spelling.{Naming, lines_text, naming_of}
 use Rattle.rob_meaning.specs.Certificates.{Status}
-use Rattle.rob_meaning.specs.Names.{Name, column_names}
+use Rattle.rob_meaning.specs.Names.{Name}
 use Rattle.rob_meaning.specs.RobustModel.{RobustModel}
+use Rattle.rob_number.proofs.CastLemmas.{seen_within}
 use Rattle.rob_reach.specs.Trees.{Node, split, IsIn, branch_count}
 use Rattle.rob_tree.proofs.ReadingLemmas.{breach_behind, stage, node_leads, line_ends-append, line_ends_within, pieces_text-append}
-use Rattle.rob_tree.specs.Parts.{HasLeafCause, HasNodeCause, IsGoodNode, IsHeadRead, IsNodeRead}
+use Rattle.rob_tree.specs.Parts.{HasLeafCause, HasNodeCause, IsGoodNode, IsHeadRead, IsNodeRead, IsSceneOf}
 use Rattle.rob_tree.specs.Reading.{BreaksNodes, IsCertificatePart, IsNodeCause, in_certificate, in_node, line_ends, rule_of}
 use Rattle.rob_tree.specs.TreeText.{Piece, branch_piece, piece_text, pieces, pieces_text}
 use Rattle.rob_tree.specs.View.{node_of}
@@ -20,7 +21,7 @@ use Rattle.rob_tree.specs.declared.error.Offence.{Offence}
 use Rattle.rob_tree.specs.declared.error.TreeErr.{TreeErr}
 use Rattle.rob_tree.specs.declared.error.TreeErr.TheVariants.{Rule, Memory}
 use Rattle.rob_tree.specs.declared.nodes.Head.{Head}
-use Rattle.rob_tree.specs.declared.nodes.Head.TheVariants.{Branch}
+use Rattle.rob_tree.specs.declared.nodes.Head.TheVariants.{Leaf, Branch}
 use Rattle.rob_tree.specs.declared.nodes.Mark.{Mark}
 use Rattle.rob_tree.specs.declared.nodes.NodeRead.{NodeRead}
 
@@ -129,74 +130,6 @@ module _ (limit : ℕ) (m : RobustModel) (names : List ℕ) (status : Status) wh
             good = (on, small, below_limit, good, good');
           }
 
-  -- ---- a branch by its line
-  -- the text is the line of a branch that may stand there, and the rest
-  pub record IsBranchRead (text : List ℕ) (line b : ℕ) (rest : List ℕ) (next j : ℕ) (k : ℤ) : Type 0 where
-    pub few : b < 999
-    pub on : IsIn j names
-    pub small : nat_abs k ≤ limit
-    pub below_limit : k ≢ pos limit
-    pub split : text ≡ text_of (branch_piece j k) ++ rest
-    pub next_is : next ≡ line + line_ends (text_of (branch_piece j k))
-    pub shorter : length rest < length text
-
-  pub branch_read : (columns : List Name) → columns ≡ column_names m
-      → (text rest : List ℕ) (line b next more j : ℕ) (k : ℤ) (head : Head)
-      → IsHeadRead limit names columns status text line b head rest next more → head ≡ Branch j k
-      → IsBranchRead text line b rest next j k
-  branch_read columns same text rest line b next more j k head h is =
-      let moved = subst (λ n. IsHeadRead limit names n status text line b (Branch j k) rest next more) same
-      (subst (λ hd. IsHeadRead limit names columns status text line b hd rest next more) is h) in
-      record {
-        few = moved.may.0;
-        on = moved.may.1;
-        small = moved.may.2;
-        below_limit = moved.may.3;
-        split = moved.split;
-        next_is = omega (arith, moved.line_is, moved.ends);
-        shorter = moved.shorter;
-      }
-
-  module _ (text : List ℕ) (line b : ℕ) (rest : List ℕ) (next j : ℕ) (k : ℤ)
-      (l : IsBranchRead text line b rest next j k) (more : ℕ) (one : more ≡ b + 1) where
-    pub below_cause : (e : TreeErr) → HasNodeCause limit m names status rest next more e
-        → HasNodeCause limit m names status text line b e
-    below_cause Memory h = tt
-    below_cause (Rule rule at) h = λ p.
-        let same : more ≡ suc b = omega (arith, one) in
-        breaks_below p b j k l.few l.on l.small l.below_limit text rest l.split line rule at
-        (subst (λ n. BreaksNodes limit m names status (stage (suc (suc p)) (suc b)) rest n rule at) l.next_is
-        (subst (λ c. BreaksNodes limit m names status (stage (suc (suc p)) c) rest next rule at) same (h (suc p))))
-
-    module _ (below : Node) (rest2 : List ℕ) (next2 more2 : ℕ)
-        (first : IsNodeRead limit m names status rest next more below rest2 next2 more2) where
-      still : suc b + branch_count below < 1000
-      still = omega (arith, one, first.branches_are, first.few)
-
-      pub above_cause : (e : TreeErr) → HasNodeCause limit m names status rest2 next2 more2 e
-          → HasNodeCause limit m names status text line b e
-      above_cause Memory h = tt
-      above_cause (Rule rule at) h = λ p.
-          let same : more2 ≡ suc b + branch_count below = omega (arith, one, first.branches_are) in
-          let there : next2 ≡ (line + line_ends (text_of (branch_piece j k))) + line_ends (texts (pieces below)) =
-          omega (arith, first.line_is, l.next_is) in
-          breaks_above p b j k l.few l.on l.small l.below_limit text rest l.split line below rest2 first.split
-          first.good still rule at
-          (subst (λ n. BreaksNodes limit m names status (stage (suc p) (suc b + branch_count below)) rest2 n rule at)
-          there
-          (subst (λ c. BreaksNodes limit m names status (stage (suc p) c) rest2 next2 rule at) same (h p)))
-
-      pub both_read : (above : Node) (rest3 : List ℕ) (next3 more3 : ℕ)
-          → IsNodeRead limit m names status rest2 next2 more2 above rest3 next3 more3
-          → IsNodeRead limit m names status text line b (split j k below above) rest3 next3 more3
-      both_read above rest3 next3 more3 second =
-          reads_both 0 b j k l.few l.on l.small l.below_limit text rest l.split line below rest2
-          first.split first.good still
-          above rest3 second.split second.good
-          (omega (arith, one, first.branches_are, second.branches_are, second.few)) next3 more3
-          (omega (arith, l.next_is, first.line_is, second.line_is))
-          (omega (arith, one, first.branches_are, second.branches_are))
-
   -- ---- a leaf by its line
   pub leaf_cause : (text after : List ℕ) (line mid b : ℕ) (e : TreeErr)
       → text ≡ codes "leaf\n" ++ after → mid ≡ line + 1
@@ -245,6 +178,133 @@ module _ {N : Type 0} (value : N → Fraction) (limit : ℕ) (m : RobustModel) (
       a.line a.branches) (sym h.0)
       (subst (λ k. IsNodeRead limit m names status text line b k at.rest.now at.line at.branches) (sym h.1) read)
   joined_read (Err e) at n h read = tt
+
+-- ---- a branch by its line
+-- the text is the line of a branch that may stand there, and the rest
+pub record IsBranchRead (limit : ℕ) (m : RobustModel) (names : List ℕ) (status : Status) (text : List ℕ) (line b : ℕ)
+    (rest : List ℕ) (next more j : ℕ) (k : ℤ) : Type 0 where
+  pub few : b < 999
+  pub on : IsIn j names
+  pub small : nat_abs k ≤ limit
+  pub below_limit : k ≢ pos limit
+  pub split : text ≡ piece_text (naming_of m) (branch_piece j k) ++ rest
+  pub next_is : next ≡ line + line_ends (piece_text (naming_of m) (branch_piece j k))
+  pub more_is : more ≡ b
+  pub one_line : next ≡ line + 1
+  pub shorter : length rest < length text
+
+pub branch_read : {limit : ℕ} {m : RobustModel} {names : List ℕ} {naming : Naming} {status : Status}
+    {text rest : List ℕ} {line b next more j : ℕ} {k : ℤ} {head : Head}
+    → IsSceneOf m names naming → IsHeadRead limit names naming.columns status text line b head rest next more
+    → head ≡ Branch j k → IsBranchRead limit m names status text line b rest next more j k
+branch_read {limit = limit} {names = names} {naming = naming} {status = status} {text = text} {rest = rest}
+    {line = line} {b = b} {next = next} {more = more} {j = j} {k = k} scene h is =
+    let same = ap (λ (n : Naming). n.columns) scene.names_are in
+    let moved = subst (λ n. IsHeadRead limit names n status text line b (Branch j k) rest next more) same
+    (subst (λ hd. IsHeadRead limit names naming.columns status text line b hd rest next more) is h) in
+    record {
+      few = moved.may.0;
+      on = moved.may.1;
+      small = moved.may.2;
+      below_limit = moved.may.3;
+      split = moved.split;
+      next_is = omega (arith, moved.line_is, moved.ends);
+      more_is = moved.branches_are;
+      one_line = moved.line_is;
+      shorter = moved.shorter;
+    }
+
+module _ {limit : ℕ} {m : RobustModel} {names : List ℕ} {status : Status} {text : List ℕ} {line b : ℕ}
+    {rest : List ℕ} {next more j : ℕ} {k : ℤ} (l : IsBranchRead limit m names status text line b rest next more j k) where
+  -- what breaks a rule in the first of its nodes does in the branch
+  pub below_cause : (e : TreeErr) → HasNodeCause limit m names status rest next (more + 1) e
+      → HasNodeCause limit m names status text line b e
+  below_cause Memory h = tt
+  below_cause (Rule rule at) h = λ p.
+      let same : more + 1 ≡ suc b = omega (arith, l.more_is) in
+      breaks_below limit m names status p b j k l.few l.on l.small l.below_limit text rest l.split line rule at
+      (subst (λ n. BreaksNodes limit m names status (stage (suc (suc p)) (suc b)) rest n rule at) l.next_is
+      (subst (λ c. BreaksNodes limit m names status (stage (suc (suc p)) c) rest next rule at) same (h (suc p))))
+
+  module _ {below : Node} {rest2 : List ℕ} {next2 more2 : ℕ}
+      (first : IsNodeRead limit m names status rest next (more + 1) below rest2 next2 more2) where
+    still : suc b + branch_count below < 1000
+    still = omega (arith, l.more_is, first.branches_are, first.few)
+
+    -- the second node is of a shorter text, which is small enough too
+    pub second_shorter : length rest2 < length text
+    second_shorter = omega (
+      arith,
+      l.shorter,
+      node_shorter limit m names status rest rest2 next (more + 1) next2 more2 below first,
+    )
+
+    pub second_small : line + length text ≤ 2 ^ 30 + 1 → next2 + length rest2 ≤ 2 ^ 30 + 1
+    second_small small = omega (
+      arith,
+      l.shorter,
+      l.one_line,
+      node_within limit m names status rest rest2 next (more + 1) next2 more2 below first,
+    )
+
+    -- and so does what breaks a rule in it
+    pub above_cause : (e : TreeErr) → HasNodeCause limit m names status rest2 next2 more2 e
+        → HasNodeCause limit m names status text line b e
+    above_cause Memory h = tt
+    above_cause (Rule rule at) h = λ p.
+        let same : more2 ≡ suc b + branch_count below = omega (arith, l.more_is, first.branches_are) in
+        let there : next2
+        ≡ (line + line_ends (piece_text (naming_of m) (branch_piece j k)))
+        + line_ends (pieces_text (naming_of m) (pieces below)) =
+        omega (arith, first.line_is, l.next_is) in
+        breaks_above limit m names status p b j k l.few l.on l.small l.below_limit text rest l.split line below rest2
+        first.split first.good still rule at
+        (subst (λ n. BreaksNodes limit m names status (stage (suc p) (suc b + branch_count below)) rest2 n rule at)
+        there
+        (subst (λ c. BreaksNodes limit m names status (stage (suc p) c) rest2 next2 rule at) same (h p)))
+
+    both_read : (above : Node) (rest3 : List ℕ) (next3 more3 : ℕ)
+        → IsNodeRead limit m names status rest2 next2 more2 above rest3 next3 more3
+        → IsNodeRead limit m names status text line b (split j k below above) rest3 next3 more3
+    both_read above rest3 next3 more3 second =
+        reads_both limit m names status 0 b j k l.few l.on l.small l.below_limit text rest l.split line below rest2
+        first.split first.good still
+        above rest3 second.split second.good
+        (omega (arith, l.more_is, first.branches_are, second.branches_are, second.few)) next3 more3
+        (omega (arith, l.next_is, first.line_is, second.line_is))
+        (omega (arith, l.more_is, first.branches_are, second.branches_are))
+
+    -- both nodes joined are the node, where K is read as another number that is the same
+    pub both_joined : {N : Type 0} (value : N → Fraction) {above : Node} (r : Result (NodeRead N) TreeErr) (at : Mark)
+        → limit ≤ 2 ^ 62 - 1
+        → IsNodeRead limit m names status rest2 next2 more2 above at.rest.now at.line at.branches
+        → IfOk r (λ x. (x.at ≡ at) × (node_of value x.node ≡ split j (to_z w64 (of_z w64 k)) below above))
+        → IfOk r (λ x. IsNodeRead limit m names status text line b (node_of value x.node) x.at.rest.now
+        x.at.line x.at.branches)
+    both_joined value {above = above} r at high second joined =
+        let read : IsNodeRead limit m names status text line b (split j (to_z w64 (of_z w64 k)) below above) at.rest.now
+        at.line at.branches =
+        subst (λ z. IsNodeRead limit m names status text line b (split j z below above) at.rest.now at.line at.branches)
+        (sym (seen_within limit k high l.small)) (both_read above at.rest.now at.line at.branches second) in
+        joined_read value limit m names status text line b r at (split j (to_z w64 (of_z w64 k)) below above) joined read
+
+-- ---- a line that is no node's, and a leaf by its line
+pub head_told : (limit : ℕ) (m : RobustModel) (names : List ℕ) (status : Status) (text : List ℕ) (line b : ℕ)
+    (o : Offence) {rule : ℕ} → rule ≡ rule_of o → IsNodeCause limit m names status b text o
+    → HasNodeCause limit m names status text line b (Rule rule line)
+head_told limit m names status text line b o e h = λ p.
+    subst (λ r. BreaksNodes limit m names status (stage (suc p) b) text line r line) (sym e)
+    (breaks_here limit m names status p b text line o h)
+
+pub leaf_told : {T : Type 0} {limit : ℕ} (m : RobustModel) {names : List ℕ} {columns : List Name} {status : Status}
+    {text rest : List ℕ} {line b next more : ℕ} {head : Head} (r : Result T TreeErr)
+    → IsHeadRead limit names columns status text line b head rest next more → head ≡ Leaf
+    → IfErr r (HasLeafCause limit m rest next) → IfErr r (HasNodeCause limit m names status text line b)
+leaf_told {limit = limit} m {names = names} {columns = columns} {status = status} {text = text} {rest = rest}
+    {line = line} {b = b} {next = next} {more = more} r h is =
+    let moved = subst (λ hd. IsHeadRead limit names columns status text line b hd rest next more) is h in
+    if_err r (HasLeafCause limit m rest next) (HasNodeCause limit m names status text line b)
+    (λ e cause. leaf_cause limit m names status text rest line next b e moved.split moved.line_is cause)
 
 -- ---- the cause of a certificate, whatever the number of its first line
 module _ (names : Naming) (limit : ℕ) (part : List ℕ) (rule line : ℕ)

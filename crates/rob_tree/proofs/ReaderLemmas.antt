@@ -24,7 +24,7 @@ use Rattle.rob_tree.proofs.GoodNodes.{node_fits, tree_of_good}
 use Rattle.rob_tree.proofs.NodeSteps.{if_err}
 use Rattle.rob_tree.proofs.ReadingLemmas.{root_leads, stage}
 use Rattle.rob_tree.proofs.TreeLaws as laws
-use Rattle.rob_tree.specs.Parts.{HasBestCause, HasEndCause, HasNodeCause, HasRootCause, IsBestRead, IsClaimRead, IsEnded, IsGoodNode, IsLeafNumber, IsNodeRead, IsRootRead, KeepsNothing, tree_with}
+use Rattle.rob_tree.specs.Parts.{HasBestCause, HasEndCause, HasNodeCause, HasRootCause, IsBestRead, IsClaimRead, IsEnded, IsGoodNode, IsLeafNumber, IsNodeRead, IsReadTree, IsRootRead, KeepsNothing, tree_with}
 use Rattle.rob_tree.specs.Reading.{Breaks, BreaksNodes, HasBest, HasCause, IsBestLineOf, IsClaimCause, Reads, TreeFits, at_root, greatest_leaf, in_best, in_claim, in_nodes, in_rest, no_leaf, rule_of}
 use Rattle.rob_tree.specs.Shape.{KeepsParts}
 use Rattle.rob_tree.specs.TreeText.{IsTextOfTree, best_text, claim_text, pieces, pieces_text}
@@ -157,9 +157,9 @@ module _ (limit : ℕ) (m : RobustModel) (names : List ℕ) (s : Status) (v : Fr
   made : (root : Node) → T (are_bounded m.variables names) → last ≡ pieces_text (naming_of m) (pieces root)
       → IsGoodNode limit m names s root
       → branch_count root < 1000 → IsLeafNumber s best (branch_count root)
-      → IsTextOfTree limit m names (tree_with s v best root) text × TreeFits limit m (tree_with s v best root)
-  made root bounded is good few number = (
-    record {
+      → IsReadTree limit m names (tree_with s v best root) text
+  made root bounded is good few number = record {
+    text_is = record {
       shape = tree_of_good limit m names s (tree_with s v best root) refl bounded good few
           (keeps_best s best (branch_count root) (leaf_count root) (leaves-branches root) number)
           (keeps_parts s v best (branch_count root) claim.nothing number);
@@ -167,18 +167,18 @@ module _ (limit : ℕ) (m : RobustModel) (names : List ℕ) (s : Status) (v : Fr
           ∙ ap (λ r. claim_text s v ++ (r ++ last))
           (shown_text s shown.shown best (branch_count root) shown.is_best number)
           ∙ ap (λ r. claim_text s v ++ (best_text s (nat_abs best) ++ r)) is;
-    },
-    record {
+    };
+    fits = record {
       value = fits;
       best = best_fits s shown.shown best shown.is_best;
       root = node_fits limit m names s root good;
-    },
-  )
+    };
+  }
 
   pub text_read : (t : Tree) → T (are_bounded m.variables names) → IsRootRead limit m names s best v last t
-      → IsTextOfTree limit m names t text × TreeFits limit m t
+      → IsReadTree limit m names t text
   text_read t bounded h =
-      subst (λ t. IsTextOfTree limit m names t text × TreeFits limit m t) (sym h.is)
+      subst (λ t. IsReadTree limit m names t text) (sym h.is)
       (made h.root bounded h.spelled h.good h.few h.number)
 
   by_word : (shown : List ℕ) (b n count : ℕ) → count ≡ suc n → n < 1000 → nat_abs best ≤ greatest_leaf
@@ -238,17 +238,10 @@ module _ {N : Type 0} (value : N → Fraction) (limit : ℕ) (m : RobustModel) (
     (shown : IsBestRead s rest best last line) where
   pub texts_read : (r : Result (declared.Tree N) TreeErr) → T (are_bounded m.variables names)
       → IfOk r (λ t. IsRootRead limit m names s best v last (tree_of value t))
-      → IfOk r (λ t. IsTextOfTree limit m names (tree_of value t) text)
+      → IfOk r (λ t. IsReadTree limit m names (tree_of value t) text)
   texts_read (Ok t) bounded h =
-      (text_read limit m names s v text rest last best line fits claim shown (tree_of value t) bounded h).0
+      text_read limit m names s v text rest last best line fits claim shown (tree_of value t) bounded h
   texts_read (Err e) bounded h = tt
-
-  pub texts_fit : (r : Result (declared.Tree N) TreeErr) → T (are_bounded m.variables names)
-      → IfOk r (λ t. IsRootRead limit m names s best v last (tree_of value t))
-      → IfOk r (λ t. TreeFits limit m (tree_of value t))
-  texts_fit (Ok t) bounded h =
-      (text_read limit m names s v text rest last best line fits claim shown (tree_of value t) bounded h).1
-  texts_fit (Err e) bounded h = tt
 
   pub texts_cause : (r : Result (declared.Tree N) TreeErr)
       → IfErr r (HasRootCause limit m names s best last line)
@@ -261,12 +254,11 @@ module _ {N : Type 0} (value : N → Fraction) (m : RobustModel) (limit : ℕ) (
     (named : IsNamed m) (low : limit ≤ 2 ^ 62 - 1)
     (bounded : T (are_bounded m.variables names)) where
   pub reads_exactly : (r : Result (declared.Tree N) TreeErr)
-      → IfOk r (λ x. IsTextOfTree limit m names (tree_of value x) text)
-      → IfOk r (λ x. TreeFits limit m (tree_of value x)) → IfErr r (HasCause limit m names text)
+      → IfOk r (λ x. IsReadTree limit m names (tree_of value x) text) → IfErr r (HasCause limit m names text)
       → (t : Tree) → IsNamedInWords m
       → IsTextOfTree limit m names t text → TreeFits limit m t → Reads value t r
-  reads_exactly (Ok x) is fits fault t words it fit =
-      laws.read_once m limit names model named words low bounded (tree_of value x) t text is it fits fit
-  reads_exactly (Err (Rule rule line)) is fits fault t words it fit =
+  reads_exactly (Ok x) is fault t words it fit =
+      laws.read_once m limit names model named words low bounded (tree_of value x) t text is.text_is it is.fits fit
+  reads_exactly (Err (Rule rule line)) is fault t words it fit =
       laws.breaks_none m limit names model named words low bounded t text it fit rule line fault
-  reads_exactly (Err Memory) is fits fault t words it fit = tt
+  reads_exactly (Err Memory) is fault t words it fit = tt

@@ -1,4 +1,4 @@
--- What is read of a tree's text part by part: its first lines, a line of a node, a node, and its end.
+-- What is read of a tree's text part by part: its first lines, a line of a node, a node, and its end; and of the whole.
 use Rattle.std.specs.Fmt.{signed_decimal}
 use Rattle.std.specs.Prelude.{◌≡◌, ◌≢◌, ℕ, suc, ◌+◌, ◌<◌, ◌≤◌, ℤ, pos, nat_abs, ◌<ℤ◌, ◌≤ℤ◌, ◌⊎◌, List, [], ◌∷◌, ◌++◌, codes, length}
 use Rattle.rob_algebra.specs.Fraction.{Fraction}
@@ -9,12 +9,13 @@ use Rattle.rob_cert.specs.Shape.{HasShape}
 use Rattle.rob_cert.specs.Spelling.{Naming, cert_text, naming_of, name_at, number_text, spaced, status_word}
 use Rattle.rob_cert.specs.declared.error.CertErr.TheVariants as cert
 use Rattle.rob_meaning.specs.Certificates.{Certificate, Status, optimal, infeasible, unbounded}
+use Rattle.rob_meaning.specs.Named.{IsNamed}
 use Rattle.rob_meaning.specs.Names.{Name, column_names}
 use Rattle.rob_meaning.specs.Places.{0ℚ, Each}
 use Rattle.rob_meaning.specs.RobustModel.{RobustModel}
 use Rattle.rob_reach.specs.Trees.{Node, leaf, split, left_open, Tree, IsIn, branch_count}
-use Rattle.rob_tree.specs.Reading.{HasBest, IsBestCause, IsBestLineOf, IsCertificatePart, BreaksNodes, at_root, first_node, line_ends, rule_of}
-use Rattle.rob_tree.specs.TreeText.{pieces, pieces_text}
+use Rattle.rob_tree.specs.Reading.{HasBest, IsBestCause, IsBestLineOf, IsCertificatePart, BreaksNodes, TreeFits, at_root, first_node, line_ends, rule_of}
+use Rattle.rob_tree.specs.TreeText.{IsTextOfTree, pieces, pieces_text}
 use Rattle.rob_tree.specs.declared.error.Offence.{Offence}
 use Rattle.rob_tree.specs.declared.error.Offence.TheVariants.{NoLine, NoName}
 use Rattle.rob_tree.specs.declared.error.TreeErr.{TreeErr}
@@ -89,6 +90,11 @@ pub record IsHeadRead (limit : ℕ) (names : List ℕ) (columns : List Name) (st
 pub record IsSceneOf (m : RobustModel) (names : List ℕ) (naming : Naming) : Type 0 where
   pub names_are : naming ≡ naming_of m
   pub inside : Each (λ j. j < length (column_names m)) names
+
+-- what is asked where nodes are read: the model is well named, and the names are its own, one for each named variable
+pub record CanReadNodes (m : RobustModel) (names : List ℕ) (naming : Naming) : Type 0 where
+  pub named : IsNamed m
+  pub scene : IsSceneOf m names naming
 
 -- the text is the lines of a certificate and what stands behind them, and that many lines end in them
 pub record IsPart (text lines behind : List ℕ) (count : ℕ) : Type 0 where
@@ -185,3 +191,8 @@ module _ (limit : ℕ) (m : RobustModel) (names : List ℕ) (status : Status) (b
   HasRootCause text line (Rule rule at) =
       BreaksNodes limit m names status at_root text line rule at ⊎ HasNoSuchLeaf text rule at
   HasRootCause text line Memory = Unit {0}
+
+-- the text is the tree's, whose numbers fit
+pub record IsReadTree (limit : ℕ) (m : RobustModel) (names : List ℕ) (t : Tree) (text : List ℕ) : Type 0 where
+  pub text_is : IsTextOfTree limit m names t text
+  pub fits : TreeFits limit m t

@@ -13,7 +13,7 @@ ghost use Rattle.rob_model.specs.Valid.{IsValid};
 ghost use Rattle.rob_model.specs.View.{robust};
 ghost use Rattle.rob_number.specs.Counts.{NeverFell};
 ghost use Rattle.rob_reach.specs.Trees.{IsIn, split};
-ghost use Rattle.rob_tree.specs.Parts.{HasLeafCause, HasNodeCause, IsHead, IsHeadRead, IsLeafRead, IsNodeRead, IsSceneOf};
+ghost use Rattle.rob_tree.specs.Parts.{CanReadNodes, HasLeafCause, HasNodeCause, IsHead, IsHeadRead, IsLeafRead, IsNodeRead, IsSceneOf};
 ghost use Rattle.rob_tree.specs.Reading.{IsBranchWord, IsNodeCause, IsNodeFault};
 ghost use Rattle.rob_tree.specs.View.{node_of};
 ghost use Rattle.rob_tree.specs.declared.error.TreeErr.TheVariants.{Memory};
@@ -253,8 +253,7 @@ pub fn read_node<'a, N: Exact, L: Ledger>(
     ledger: &mut L,
 ) -> Result<NodeRead<'a, N>, TreeErr>
     requires valid { IsValid N.value scene.model.now }
-    requires named { IsNamed (robust N.value scene.model.now) }
-    requires scene { IsSceneOf (robust N.value scene.model.now) scene.named.now (naming scene.names.now) }
+    requires ready { CanReadNodes (robust N.value scene.model.now) scene.named.now (naming scene.names.now) }
     requires few { at.branches < 1000 }
     requires small { at.line + length at.rest.now ≤ 2 ^ 30 + 1 }
     ensures read { IfOk result (λ r. IsNodeRead N.limit (robust N.value scene.entry.model.now) scene.entry.named.now

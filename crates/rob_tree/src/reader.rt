@@ -10,7 +10,7 @@ ghost use Rattle.rob_model.specs.View.{robust};
 ghost use Rattle.rob_number.specs.Counts.{NeverFell};
 ghost use Rattle.rob_reach.specs.Ranges.{KeepsBothBounds, whole_rule};
 ghost use Rattle.rob_reach.specs.Trees as trees;
-ghost use Rattle.rob_tree.specs.Parts.{HasEndCause, HasRootCause, IsEnded, IsLeafNumber, IsRootRead, IsSceneOf, tree_with};
+ghost use Rattle.rob_tree.specs.Parts.{CanReadNodes, HasEndCause, HasRootCause, IsEnded, IsLeafNumber, IsReadTree, IsRootRead, tree_with};
 ghost use Rattle.rob_tree.specs.Reading.{HasCause, Reads, TreeFits, greatest_leaf};
 ghost use Rattle.rob_tree.specs.TreeText.{IsTextOfTree};
 ghost use Rattle.rob_tree.specs.View.{node_of, tree_of};
@@ -69,8 +69,7 @@ fn read_root<N: Exact, L: Ledger>(
     ledger: &mut L,
 ) -> Result<Tree<N>, TreeErr>
     requires valid { IsValid N.value scene.model.now }
-    requires named { IsNamed (robust N.value scene.model.now) }
-    requires scene { IsSceneOf (robust N.value scene.model.now) scene.named.now (naming scene.names.now) }
+    requires ready { CanReadNodes (robust N.value scene.model.now) scene.named.now (naming scene.names.now) }
     requires same { scene.status ≡ claim.status }
     requires small { shown.line + length shown.rest.now ≤ 2 ^ 30 + 1 }
     requires best { nat_abs shown.best ≤ greatest_leaf }
@@ -101,13 +100,11 @@ fn read_text<N: Exact, L: Ledger>(
     ledger: &mut L,
 ) -> Result<Tree<N>, TreeErr>
     requires valid { IsValid N.value model.now }
-    requires named { IsNamed (robust N.value model.now) }
-    requires scene { IsSceneOf (robust N.value model.now) named.now (naming names.now) }
+    requires ready { CanReadNodes (robust N.value model.now) named.now (naming names.now) }
     requires bounded { KeepsBothBounds (robust N.value model.now) named.now }
     requires small { length text.now ≤ 2 ^ 30 }
-    ensures read { IfOk result (λ tree. IsTextOfTree N.limit (robust N.value model.now) named.now
+    ensures read { IfOk result (λ tree. IsReadTree N.limit (robust N.value model.now) named.now
         (tree_of N.value tree) text.now) }
-    ensures fits { IfOk result (λ tree. TreeFits N.limit (robust N.value model.now) (tree_of N.value tree)) }
     ensures fault { IfErr result (HasCause N.limit (robust N.value model.now) named.now text.now) }
     ensures counted { NeverFell L.ops L.wides ledger.old ledger.new }
 {
@@ -143,9 +140,9 @@ pub fn read_tree<N: Exact, L: Ledger>(
     requires named { IsNamed (robust N.value model.now) }
     requires rule { whole_rule (robust N.value model.now) names.now ≡ None }
     requires small { length text.now ≤ 2 ^ 30 }
-    ensures read { IfOk result (λ tree. IsTextOfTree N.limit (robust N.value model.now) names.now
+    // The text is the tree's, whose numbers fit.
+    ensures read { IfOk result (λ tree. IsReadTree N.limit (robust N.value model.now) names.now
         (tree_of N.value tree) text.now) }
-    ensures fits { IfOk result (λ tree. TreeFits N.limit (robust N.value model.now) (tree_of N.value tree)) }
     ensures fault { IfErr result (HasCause N.limit (robust N.value model.now) names.now text.now) }
     // Where no name has a space or a line's end, each text of a tree with numbers that fit is read as that tree.
     ensures exact { (t : trees.Tree) → IsNamedInWords (robust N.value model.now)

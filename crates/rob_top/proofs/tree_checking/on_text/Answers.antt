@@ -4,7 +4,7 @@ use Rattle.rob_top.proofs.Meaning.TreeCheckLemmas.{rule_answers, tree_answers}
 use Rattle.rob_top.proofs.tree_checking.on_text.Goals as goal
 
 pub on_tree-requires-clause-shape : goal.on_tree-requires-clause-shape
-on_tree-requires-clause-shape g c = c.in-Ok.ensures.read.shape
+on_tree-requires-clause-shape g c = c.in-Ok.ensures.read.text_is.shape
 
 pub returns-in-Ok-clause-answers : goal.returns-in-Ok-clause-answers
 returns-in-Ok-clause-answers g c =
@@ -12,7 +12,8 @@ returns-in-Ok-clause-answers g c =
     (tree_of g.N.Exact.value c.in-Ok.tree)
     (g.L.Ledger.wides c.args.ledger.now) (g.L.Ledger.wides c.read_tree.new.ledger)
     (g.L.Ledger.wides c.on_tree.new.ledger)
-    c.args.text.now c.on_tree.result c.read_tree.ensures.counted.wides c.in-Ok.ensures.read c.in-Ok.ensures.fits
+    c.args.text.now c.on_tree.result c.read_tree.ensures.counted.wides c.in-Ok.ensures.read.text_is
+    c.in-Ok.ensures.read.fits
     c.on_tree.ensures.answers
 
 pub returns-in-Err-Rule-clause-answers : goal.returns-in-Err-Rule-clause-answers

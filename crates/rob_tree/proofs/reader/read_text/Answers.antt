@@ -1,7 +1,7 @@
 use Rattle.std.proofs.Common.{sym, subst}
 use Rattle.rob_cert.specs.View.{status_of}
 use Rattle.rob_model.specs.View.{robust}
-use Rattle.rob_tree.proofs.ReaderLemmas.{best_fits, text_best_cause, text_claim_cause, texts_cause, texts_fit, texts_read}
+use Rattle.rob_tree.proofs.ReaderLemmas.{best_fits, text_best_cause, text_claim_cause, texts_cause, texts_read}
 use Rattle.rob_tree.specs.Reading.{Breaks}
 use Rattle.rob_tree.proofs.reader.read_text.Goals as goal
 
@@ -37,19 +37,6 @@ returns-in-Ok-read_best-clause-read g c =
     let fits = g.met.N.Exact.fits claim.value in
     let shown = c.in-Ok-read_best.shown in
     texts_read g.N.Exact.value limit m names (status_of claim.status) (g.N.Exact.value claim.value) text
-    c.in-Ok.read.rest.now shown.rest.now shown.best shown.line fits c.in-Ok.ensures.claim
-    c.in-Ok-read_best.ensures.shown c.read_root.result c.requires.bounded c.read_root.ensures.read
-
-pub returns-in-Ok-read_best-clause-fits : goal.returns-in-Ok-read_best-clause-fits
-returns-in-Ok-read_best-clause-fits g c =
-    let limit = g.N.Exact.limit in
-    let m = robust g.N.Exact.value c.args.model.now in
-    let names = c.args.named.now in
-    let text = c.args.text.now in
-    let claim = c.in-Ok.read.claim in
-    let fits = g.met.N.Exact.fits claim.value in
-    let shown = c.in-Ok-read_best.shown in
-    texts_fit g.N.Exact.value limit m names (status_of claim.status) (g.N.Exact.value claim.value) text
     c.in-Ok.read.rest.now shown.rest.now shown.best shown.line fits c.in-Ok.ensures.claim
     c.in-Ok-read_best.ensures.shown c.read_root.result c.requires.bounded c.read_root.ensures.read
 

@@ -4,12 +4,15 @@ use Rattle.rob_tree.proofs.GoodNodes.{columns_inside}
 use Rattle.rob_tree.proofs.ReaderLemmas.{reads_exactly}
 use Rattle.rob_tree.proofs.reader.read_tree.Goals as goal
 
-pub read_text-requires-clause-scene : goal.read_text-requires-clause-scene
-read_text-requires-clause-scene g c =
+pub read_text-requires-clause-ready : goal.read_text-requires-clause-ready
+read_text-requires-clause-ready g c =
     let m = robust g.N.Exact.value c.args.model.now in
     record {
-      names_are = c.in-Ok.ensures.names;
-      inside = columns_inside m c.args.names.now ((rules_kept m c.args.names.now).0 c.requires.rule).0;
+      named = c.requires.named;
+      scene = record {
+        names_are = c.in-Ok.ensures.names;
+        inside = columns_inside m c.args.names.now ((rules_kept m c.args.names.now).0 c.requires.rule).0;
+      };
     }
 
 pub read_text-requires-clause-bounded : goal.read_text-requires-clause-bounded
@@ -22,5 +25,4 @@ returns-in-Ok-clause-exact g c =
     reads_exactly g.N.Exact.value m g.N.Exact.limit c.args.names.now c.args.text.now
     c.requires.valid.well_formed c.requires.named
     g.met.N.Exact.limit_high ((rules_kept m c.args.names.now).0 c.requires.rule).0 c.read_text.result
-    c.read_text.ensures.read
-    c.read_text.ensures.fits c.read_text.ensures.fault
+    c.read_text.ensures.read c.read_text.ensures.fault
