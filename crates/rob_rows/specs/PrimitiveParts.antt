@@ -1,7 +1,7 @@
 -- Rows of whole numbers and their primitive parts: what a fraction-free pivot computes.
 -- Content and primitive part: Knuth, The Art of Computer Programming, volume 2, section 4.6.1, there of polynomials.
 -- Pivots on whole rows: Edmonds, Systems of distinct representatives and linear algebra (1967).
-use Rattle.std.specs.Prelude.{◌≡◌, ℕ, ◌<◌, ◌≤◌, ℤ, pos, ◌-ℤ◌, ◌*ℤ◌, nat_abs, List, [], ◌∷◌, map, All, Any, fold}
+use Rattle.std.specs.Prelude.{◌≡◌, ℕ, ◌<◌, ◌≤◌, ℤ, pos, ◌-ℤ◌, ◌*ℤ◌, nat_abs, List, [], ◌∷◌, length, map, All, Any, fold}
 use Rattle.rob_algebra.specs.Gcd.{gcd}
 
 -- p times the first row less q times the second, entry by entry
@@ -32,6 +32,13 @@ pub record IsPrimitivePart (row whole : List ℤ) : Type 0 where
 -- no entry is over the limit in size
 abbrev pub IsWithin : ℕ → List ℤ → Type 0
 IsWithin limit row = All (λ entry. nat_abs entry ≤ limit) row
+
+-- two rows of so many entries, none of them over the limit in size
+pub record AreRowsWithin (limit width : ℕ) (top low : List ℤ) : Type 0 where
+  pub top_length : length top ≡ width
+  pub low_length : length low ≡ width
+  pub top_within : IsWithin limit top
+  pub low_within : IsWithin limit low
 
 -- some entry is over the limit in size
 abbrev pub HasWideEntry : ℕ → List ℤ → Type 0

@@ -1,7 +1,7 @@
 //! The primitive part of a combination of two rows, without a ledger.
 
-ghost use Rattle.std.specs.Prelude.{◌≡◌, ◌^◌, ◌<◌, ◌≤◌, nat_abs, length, OnOk, OnErr};
-ghost use Rattle.rob_rows.specs.PrimitiveParts.{combination, IsPrimitivePart, IsWithin, HasWidePart};
+ghost use Rattle.std.specs.Prelude.{◌^◌, ◌<◌, ◌≤◌, nat_abs, length, OnOk, OnErr};
+ghost use Rattle.rob_rows.specs.PrimitiveParts.{combination, AreRowsWithin, IsPrimitivePart, IsWithin, HasWidePart};
 
 use crate::factors::{Factors, lowest};
 use crate::reduction::reduce;
@@ -20,10 +20,7 @@ pub fn combine_rows(
     requires limit { limit < 2 ^ 62 }
     requires p_size { nat_abs p ≤ limit }
     requires q_size { nat_abs q ≤ limit }
-    requires top_length { length top.now ≡ length out.old }
-    requires low_length { length low.now ≡ length out.old }
-    requires top_within { IsWithin limit top.now }
-    requires low_within { IsWithin limit low.now }
+    requires rows { AreRowsWithin limit (length out.old) top.now low.now }
     ensures part { OnOk result (IsPrimitivePart out.new (combination p top.now q low.now)) }
     ensures within { OnOk result (IsWithin limit out.new) }
     ensures wide { OnErr result (HasWidePart limit (combination p top.now q low.now)) }
@@ -44,10 +41,7 @@ pub fn combine_lowest(
     requires limit { limit < 2 ^ 62 }
     requires p_size { nat_abs factors.p < 2 ^ 62 }
     requires q_size { nat_abs factors.q < 2 ^ 62 }
-    requires top_length { length top.now ≡ length out.old }
-    requires low_length { length low.now ≡ length out.old }
-    requires top_within { IsWithin limit top.now }
-    requires low_within { IsWithin limit low.now }
+    requires rows { AreRowsWithin limit (length out.old) top.now low.now }
     ensures part { OnOk result (IsPrimitivePart out.new (combination factors.p top.now factors.q low.now)) }
     ensures within { OnOk result (IsWithin limit out.new) }
     ensures wide { OnErr result (HasWidePart limit (combination factors.p top.now factors.q low.now)) }

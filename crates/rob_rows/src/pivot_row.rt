@@ -1,8 +1,8 @@
 //! The row of a fraction-free pivot.
 
-ghost use Rattle.std.specs.Prelude.{◌≡◌, ◌≤◌, nat_abs, length, OnOk, OnErr};
+ghost use Rattle.std.specs.Prelude.{◌≤◌, nat_abs, length, OnOk, OnErr};
 ghost use Rattle.rob_number.specs.Counts.{CountsOne};
-ghost use Rattle.rob_rows.specs.PrimitiveParts.{combination, IsPrimitivePart, IsWithin, HasWidePart};
+ghost use Rattle.rob_rows.specs.PrimitiveParts.{combination, AreRowsWithin, IsPrimitivePart, IsWithin, HasWidePart};
 
 use crate::combination::combine_rows;
 use rob_number::{Exact, Ledger, Wide};
@@ -18,12 +18,9 @@ pub fn combine<N: Exact, L: Ledger>(
     low: &[i64],
     ledger: &mut L,
 ) -> Result<(), Wide>
-    requires top_length { length top.now ≡ length out.old }
-    requires low_length { length low.now ≡ length out.old }
     requires p_within { nat_abs p ≤ N.limit }
     requires q_within { nat_abs q ≤ N.limit }
-    requires top_within { IsWithin N.limit top.now }
-    requires low_within { IsWithin N.limit low.now }
+    requires rows { AreRowsWithin N.limit (length out.old) top.now low.now }
     // The row that the pivot needs, and no multiple of it.
     ensures row { OnOk result (IsPrimitivePart out.new (combination p top.now q low.now)) }
     ensures within { OnOk result (IsWithin N.limit out.new) }

@@ -5,9 +5,13 @@ use Rattle.rob_rows.specs.PrimitiveParts.{IsWithin, HasWidePart}
 use Rattle.rob_entries.proofs.ShortRows.{combination_read}
 use Rattle.rob_entries.proofs.short.I64Entry.combine.Goals as goal
 
-pub combine_lowest-requires-clause-top_within : goal.combine_lowest-requires-clause-top_within
-combine_lowest-requires-clause-top_within c =
-    subst (IsWithin c.args.limit) (map-id c.args.upper.now) c.requires.within.0
+pub combine_lowest-requires-clause-rows : goal.combine_lowest-requires-clause-rows
+combine_lowest-requires-clause-rows c = record {
+  top_length = c.requires.lengths.0;
+  low_length = c.requires.lengths.1;
+  top_within = subst (IsWithin c.args.limit) (map-id c.args.upper.now) c.requires.within.0;
+  low_within = subst (IsWithin c.args.limit) (map-id c.args.low.now) c.requires.within.1;
+}
 
 pub returns-clause-bounded : goal.returns-clause-bounded
 returns-clause-bounded c =
