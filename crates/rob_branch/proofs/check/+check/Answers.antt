@@ -84,3 +84,14 @@ check_node-returns-in-Ok-clause-stopped g t c =
     (map branch_of c.args.area.path.now) p.number c.in-Ok.number c.check_side-in-Ok.result
     c.branch_below-at_most.ensures.branch c.branch_above-at_least.ensures.branch c.in-Ok.ensures.passed
     c.check_side-in-Ok.ensures.stopped
+
+pub check_node-returns-in-Ok-clause-passed : goal.check_node-returns-in-Ok-clause-passed
+check_node-returns-in-Ok-clause-passed g t c =
+    let value = g.N.Exact.value in
+    let p = c.args.progress in
+    let first : c.deref.result.now ≡ c.in-Split.below.value = search rules in
+    let second : c.deref-in-Ok.result.now ≡ c.in-Split.above.value = search rules in
+    let is = split_told (ap (node_of value) c.in-Split.is) (ap (node_of value) first) (ap (node_of value) second) in
+    split_passed is c.requires.node g.met.N.Exact.limit_high (status_of p.claim.status) (value p.claim.value) p.number
+    c.in-Ok.number c.check_side-in-Ok.result c.branch_below-at_most.ensures.branch
+    c.branch_above-at_least.ensures.branch c.in-Ok.ensures.passed c.check_side-in-Ok.ensures.passed
