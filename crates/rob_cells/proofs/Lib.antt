@@ -6,6 +6,7 @@ pub mod CellLemmas
 pub mod SizeLemmas
 pub mod SetSizeLemmas
 pub mod SplitSizeLemmas
+pub mod ReadCounts
 pub mod NameLemmas
 pub mod DistinctLemmas
 pub mod MeaningLemmas

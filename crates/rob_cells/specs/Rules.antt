@@ -1,12 +1,18 @@
--- The rules on a model and its cuts, and why there is no split model.
-use Rattle.std.specs.Prelude.{◌≡◌, ◌≢◌, ◌⊎◌, ℕ, List, [], Option, Some, None}
+-- What is asked of a model's cuts, the rules on both, and why there is no split model.
+use Rattle.std.specs.Prelude.{◌≡◌, ◌≢◌, ◌<◌, ◌≤◌, ◌⊎◌, ℕ, List, [], Option, Some, None}
 use Rattle.rob_cells.specs.declared.error.CellsErr.{CellsErr}
 use Rattle.rob_cells.specs.declared.error.CellsErr.TheVariants.{Rule, Memory}
 use Rattle.rob_meaning.specs.RobustModel.{RobustModel}
 use Rattle.rob_model.specs.Limits.{IsWithinLimits}
-use Rattle.rob_pieces.specs.Cuts.{Cut}
+use Rattle.rob_pieces.specs.Cuts.{AreCuts, Cut}
 use Rattle.rob_pieces.specs.SplitModel.{split_model}
 use Rattle.rob_pieces.specs.SplitNames.{HasGoodNames}
+
+-- the cuts are 1 to 3 by number, and cuts of the model's set
+pub record CanSplit (count : ℕ) (m : RobustModel) (cuts : List Cut) : Type 0 where
+  pub some : 0 < count
+  pub few : count ≤ 3
+  pub are_cuts : AreCuts m cuts
 
 -- the model has no named set; the split model's declared names are distinct and short, and it is within the limits
 pub record KeepsRules (m : RobustModel) (cuts : List Cut) : Type 0 where

@@ -1,13 +1,12 @@
 //! The split model of a model and its cuts.
 
-ghost use Rattle.std.specs.Prelude.{◌≡◌, ◌<◌, ◌≤◌, IfOk, MatchResult, length, map};
+ghost use Rattle.std.specs.Prelude.{◌≡◌, IfOk, MatchResult, length, map};
 ghost use Rattle.rob_cells.specs.Meaning.{HasCellSets, HasPieceStatus};
-ghost use Rattle.rob_cells.specs.Rules.{HasCause, KeepsRules};
+ghost use Rattle.rob_cells.specs.Rules.{CanSplit, HasCause, KeepsRules};
 ghost use Rattle.rob_cells.specs.View.{cut_of};
 ghost use Rattle.rob_meaning.specs.Named.{IsNamed};
 ghost use Rattle.rob_model.specs.Valid.{IsValid};
 ghost use Rattle.rob_model.specs.View.{robust};
-ghost use Rattle.rob_pieces.specs.Cuts.{AreCuts};
 ghost use Rattle.rob_pieces.specs.SplitModel.{split_model};
 
 use crate::cut::Cut;
@@ -32,9 +31,8 @@ pub fn cut_model<N: Exact>(
     cuts: &[Cut<N>],
 ) -> Result<Model<N>, CellsErr>
     requires valid { IsValid N.value model.now }
-    requires some { 0 < length cuts.now }
-    requires few { length cuts.now ≤ 3 }
-    requires cuts { AreCuts (robust N.value model.now) (map (cut_of N.value) cuts.now) }
+    requires ready { CanSplit (length cuts.now) (robust N.value model.now)
+        (map (cut_of N.value) cuts.now) }
     ensures split { IfOk result (λ other. robust N.value other
         ≡ split_model (robust N.value model.now) (map (cut_of N.value) cuts.now)) }
     ensures valid { IfOk result (λ other. IsValid N.value other) }

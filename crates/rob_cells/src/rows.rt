@@ -103,6 +103,14 @@ fn row_over<N: Exact>(
     })
 }
 
+/// A bound that may be declared: how its row's name ends, how the row compares, and the number.
+#[derive(Clone, Copy, Debug)]
+struct Bound<'a, N> {
+    end: &'a [u8],
+    rel: Rel,
+    number: Option<N>,
+}
+
 /// Appends the rows of the adaptive variables' declared bounds, over the cell.
 fn append_bound_rows<N: Exact>(
     alloc: Global,
@@ -120,26 +128,18 @@ fn append_bound_rows<N: Exact>(
     for adaptive in model.adaptives.items() {
         let name = &adaptive.name;
         let rule = rule_in(model, c, k);
-        append_bound(
-            alloc,
-            list,
-            rule,
-            c,
-            name,
-            b"_lower",
-            Rel::AtLeast,
-            adaptive.lower,
-        )?;
-        append_bound(
-            alloc,
-            list,
-            rule,
-            c,
-            name,
-            b"_upper",
-            Rel::AtMost,
-            adaptive.upper,
-        )?;
+        let lower = Bound {
+            end: b"_lower",
+            rel: Rel::AtLeast,
+            number: adaptive.lower,
+        };
+        append_bound(alloc, list, rule, c, name, lower)?;
+        let upper = Bound {
+            end: b"_upper",
+            rel: Rel::AtMost,
+            number: adaptive.upper,
+        };
+        append_bound(alloc, list, rule, c, name, upper)?;
         k += 1;
     }
     Ok(())
@@ -152,21 +152,20 @@ fn append_bound<N: Exact>(
     rule: u32,
     c: u32,
     name: &Text,
-    end: &[u8],
-    rel: Rel,
-    bound: Option<N>,
+    bound: Bound<'_, N>,
 ) -> Result<(), Memory>
     ensures appended { OnOk result ((m : RobustModel) (k : ℕ) → rule ≡ split.rule_in m c k
         → map (row_of N.value) list.new ≡ map (row_of N.value) list.old
-        ++ if_declared (split.bound_row m c (name.now ++ end.now) k (relation_of rel)) (option_map N.value bound)) }
+        ++ if_declared (split.bound_row m c (name.now ++ bound.entry.end.now) k
+        (relation_of bound.entry.rel)) (option_map N.value bound.entry.number)) }
 {
-    if let Some(number) = bound {
+    if let Some(number) = bound.number {
         let mut text = copy_text(alloc, name)?;
-        text.push(end)?;
+        text.push(bound.end)?;
         let row = RowDef {
             name: numbered(text, c)?,
             left: Expr::AdaptiveIn(rule, c),
-            rel,
+            rel: bound.rel,
             right: side(alloc, number)?,
         };
         list.push(row)?;

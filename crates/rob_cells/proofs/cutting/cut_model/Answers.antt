@@ -12,7 +12,7 @@ returns-clause-valid g c =
     let kept = kept_rules (robust value c.args.model.now) (map (cut_of value) c.args.cuts.now) c.in_ok-rule.field-0
     c.in_default.is c.in_ok-rule.ensures.rule in
     valid_split value c.args.model.now c.in_ok-split.field-0 (map (cut_of value) c.args.cuts.now) kept
-    c.in_ok-split.ensures.split c.requires.cuts
+    c.in_ok-split.ensures.split c.requires.ready.are_cuts
     c.requires.valid
 
 pub returns-clause-named : goal.returns-clause-named
@@ -21,8 +21,8 @@ returns-clause-named g c =
     let kept = kept_rules (robust value c.args.model.now) (map (cut_of value) c.args.cuts.now) c.in_ok-rule.field-0
     c.in_default.is c.in_ok-rule.ensures.rule in
     named_split value c.args.model.now c.in_ok-split.field-0 (map (cut_of value) c.args.cuts.now) kept
-    c.in_ok-split.ensures.split c.requires.cuts
-    c.requires.valid (subst (λ n. n ≤ 3) (sym (length-map c.args.cuts.now (cut_of value))) c.requires.few)
+    c.in_ok-split.ensures.split c.requires.ready.are_cuts
+    c.requires.valid (subst (λ n. n ≤ 3) (sym (length-map c.args.cuts.now (cut_of value))) c.requires.ready.few)
 
 pub returns-clause-pieces : goal.returns-clause-pieces
 returns-clause-pieces g c =
@@ -30,7 +30,7 @@ returns-clause-pieces g c =
     let kept = kept_rules (robust value c.args.model.now) (map (cut_of value) c.args.cuts.now) c.in_ok-rule.field-0
     c.in_default.is c.in_ok-rule.ensures.rule in
     status_of_pieces value c.args.model.now c.in_ok-split.field-0 (map (cut_of value) c.args.cuts.now) kept
-    c.in_ok-split.ensures.split c.requires.cuts
+    c.in_ok-split.ensures.split c.requires.ready.are_cuts
     c.requires.valid
 
 pub returns-clause-cells : goal.returns-clause-cells
@@ -39,5 +39,5 @@ returns-clause-cells g c =
     let kept = kept_rules (robust value c.args.model.now) (map (cut_of value) c.args.cuts.now) c.in_ok-rule.field-0
     c.in_default.is c.in_ok-rule.ensures.rule in
     sets_of_cells value c.args.model.now c.in_ok-split.field-0 (map (cut_of value) c.args.cuts.now) kept
-    c.in_ok-split.ensures.split c.requires.cuts
+    c.in_ok-split.ensures.split c.requires.ready.are_cuts
     c.requires.valid

@@ -6,6 +6,13 @@ use Rattle.rob_model.specs.View.{robust}
 use Rattle.rob_top.proofs.Meaning.SplittingLemmas.{rule_answers, split_answers}
 use Rattle.rob_top.proofs.splitting.at_cuts.Goals as goal
 
+pub cut_model-requires-clause-ready : goal.cut_model-requires-clause-ready
+cut_model-requires-clause-ready g c = record {
+  some = c.requires.some;
+  few = c.requires.few;
+  are_cuts = c.requires.cuts;
+}
+
 pub returns-in-Ok-clause-answers : goal.returns-in-Ok-clause-answers
 returns-in-Ok-clause-answers g c =
     let cuts = map (cut_of g.N.Exact.value) c.args.cuts.now in

@@ -1,0 +1,157 @@
+-- What the program counts of a valid model: what is taken away is there, what is multiplied is little, and the counts of
+-- the split model are those that come of it.
+use Rattle.std.proofs.Common.{◌≡◌, ℕ, ◌+◌, ◌-◌, ◌*◌, ◌≤◌, List, map, length, ap, sym, ◌∙◌, subst, arith}
+use Rattle.std.proofs.lemmas.List.{length-map}
+use Rattle.rob_algebra.specs.Fraction.{Fraction}
+use Rattle.rob_cells.proofs.CountLemmas.{few_adaptives, few_lines, few_params, few_rows, few_vars, less_of}
+use Rattle.rob_cells.proofs.SetSizeLemmas.{length-parameter_bound_names, parameter_bounds, rows_of}
+use Rattle.rob_cells.proofs.SplitSizeLemmas.{cell_form_count, counted, counts_are, counts_few, few_times, own_forms, own_set_rows}
+use Rattle.rob_cells.specs.Counts.{AreCountsOf, AreSmall, adaptive_bounds, variable_bounds}
+use Rattle.rob_cells.specs.View.{cut_of}
+use Rattle.rob_cells.specs.declared.cut.Cut.{Cut}
+use Rattle.rob_cells.specs.declared.size.Counts.{Counts}
+use Rattle.rob_meaning.proofs.NameLemmas.{length-column_names, length-form_names, length-set_row_names}
+use Rattle.rob_meaning.specs.Names.{column_names, form_names, set_row_names}
+use Rattle.rob_meaning.specs.RobustModel.{RobustModel}
+use Rattle.rob_meaning.specs.SetRows.{lift_count}
+use Rattle.rob_model.proofs.NameCountLemmas.{kind_few}
+use Rattle.rob_model.specs.GroupNames.{parameter_bound_names}
+use Rattle.rob_model.specs.Valid.{IsValid}
+use Rattle.rob_model.specs.View.{adaptive_of, parameter_of, robust, row_of, set_line_of, variable_of}
+use Rattle.rob_model.specs.declared.group.Kind.TheVariants.{Form, SetRow}
+use Rattle.rob_model.specs.declared.model.Adaptive.{Adaptive}
+use Rattle.rob_model.specs.declared.model.Model.{Model}
+use Rattle.rob_model.specs.declared.model.Param.{Param}
+use Rattle.rob_model.specs.declared.model.RowDef.{RowDef}
+use Rattle.rob_model.specs.declared.model.SetLine.{SetLine}
+use Rattle.rob_model.specs.declared.model.Var.{Var}
+use Rattle.rob_pieces.specs.Cuts.{cell_count}
+use Rattle.rob_pieces.specs.SplitModel.{split_model}
+
+module _ {N : Type 0} (value : N → Fraction) (model : Model N) where
+  abbrev m : RobustModel
+  m = robust value model
+
+  -- ---- what is counted of a list that is the model's
+  variable_bounds_read : {vars : List (Var N)} {n : ℕ} → n ≡ variable_bounds (map (variable_of value) vars)
+      → vars ≡ model.vars → n ≡ variable_bounds m.variables
+  variable_bounds_read n list = n ∙ ap (λ xs. variable_bounds (map (variable_of value) xs)) list
+
+  parameter_bounds_read : {params : List (Param N)} {n : ℕ}
+      → n ≡ length (parameter_bound_names (map (parameter_of value) params)) → params ≡ model.params
+      → n ≡ parameter_bounds m.parameters
+  parameter_bounds_read n list =
+      n ∙ ap (λ ps. length (parameter_bound_names (map (parameter_of value) ps))) list
+      ∙ length-parameter_bound_names m.parameters
+
+  -- ---- what is taken away is there
+  pub bounds_in_forms : {vars : List (Var N)} {forms bounds : ℕ} → forms ≡ length (form_names m)
+      → bounds ≡ variable_bounds (map (variable_of value) vars) → vars ≡ model.vars → bounds ≤ forms
+  bounds_in_forms {forms = forms} {bounds = bounds} f b list =
+      less_of bounds forms (cell_form_count m) (variable_bounds m.variables) (variable_bounds_read b list)
+      (f ∙ length-form_names m ∙ own_forms m)
+
+  pub bounds_in_set_rows : {params : List (Param N)} {set_rows bounds : ℕ} → set_rows ≡ length (set_row_names m)
+      → bounds ≡ length (parameter_bound_names (map (parameter_of value) params)) → params ≡ model.params
+      → bounds ≤ set_rows
+  bounds_in_set_rows {set_rows = set_rows} {bounds = bounds} r b list =
+      less_of bounds set_rows (rows_of m.set_lines) (parameter_bounds m.parameters) (parameter_bounds_read b list)
+      (r ∙ length-set_row_names m ∙ own_set_rows m)
+
+  module _ (valid : IsValid value model) where
+    -- ---- a list that is the model's has few items
+    params_few : {params : List (Param N)} → params ≡ model.params → length params ≤ 96
+    params_few list = omega (arith, few_params value model valid, ap length list)
+
+    pub vars_few : {vars : List (Var N)} → vars ≡ model.vars → length vars ≤ 600
+    vars_few list = omega (arith, few_vars value model valid, ap length list)
+
+    pub adaptives_few : {adaptives : List (Adaptive N)} → adaptives ≡ model.adaptives → length adaptives ≤ 600
+    adaptives_few list = omega (arith, few_adaptives value model valid, ap length list)
+
+    rows_few : {rows : List (RowDef N)} → rows ≡ model.rows → length rows ≤ 300
+    rows_few list = omega (arith, few_rows value model valid, ap length list)
+
+    lines_few : {lines : List (SetLine N)} → lines ≡ model.set_lines → length lines ≤ 64
+    lines_few list = omega (arith, few_lines value model valid, ap length list)
+
+    set_rows_few : {set_rows : ℕ} → set_rows ≡ length (set_row_names m) → set_rows ≤ 5000
+    set_rows_few r = let few = kind_few m valid.limits SetRow in subst (λ n. n ≤ 5000) (sym r) few
+
+    -- ---- what is multiplied is little
+    module _ (cells : ℕ) (few : cells ≤ 8) where
+      pub params_times : {params : List (Param N)} → params ≡ model.params → (cells + 1) * length params ≤ 864
+      params_times {params = params} list =
+          few_times (cells + 1) (length params) 96 (omega (arith, few)) (params_few list)
+
+      pub rows_times : {rows : List (RowDef N)} (bounds : ℕ) → rows ≡ model.rows → bounds ≤ 1200
+          → cells * (1 + length rows + bounds) ≤ 13509
+      rows_times {rows = rows} bounds list b =
+          let each : 1 + length rows + bounds ≤ 1501 = omega (arith, rows_few list, b) in
+          few_times cells (1 + length rows + bounds) 1501 (omega (arith, few)) each
+
+      pub lines_times : {lines : List (SetLine N)} (sides : ℕ) → lines ≡ model.set_lines → sides ≤ 3
+          → cells * (length lines + sides) ≤ 603
+      lines_times {lines = lines} sides list s =
+          let each : length lines + sides ≤ 67 = omega (arith, lines_few list, s) in
+          few_times cells (length lines + sides) 67 (omega (arith, few)) each
+
+      pub set_rows_times : (set_rows bounds sides : ℕ) → set_rows ≡ length (set_row_names m) → sides ≤ 3
+          → cells * (set_rows - bounds + sides) ≤ 45027
+      set_rows_times set_rows bounds sides r s =
+          let each : set_rows - bounds + sides ≤ 5003 = omega (arith, set_rows_few r, s) in
+          few_times cells (set_rows - bounds + sides) 5003 (omega (arith, few)) each
+
+      pub bounds_times : {params : List (Param N)} (bounds : ℕ) → params ≡ model.params
+          → bounds ≤ 2 * length params → (cells + 1) * bounds ≤ 1728
+      bounds_times bounds list b =
+          let each : bounds ≤ 192 = omega (arith, b, params_few list) in
+          few_times (cells + 1) bounds 192 (omega (arith, few)) each
+
+  -- ---- the counts of the split model, of what is counted of the model
+  module _ (cuts : List (Cut N)) {cells columns pb vb ab members forms set_rows : ℕ}
+      {params bound_params : List (Param N)} {vars bound_vars : List (Var N)} {adaptives : List (Adaptive N)}
+      {lines member_lines : List (SetLine N)} {rows : List (RowDef N)}
+      (c : cells ≡ cell_count (map (cut_of value) cuts))
+      (p : params ≡ model.params) (v : vars ≡ model.vars) (k : columns ≡ length (column_names m))
+      (b : pb ≡ length (parameter_bound_names (map (parameter_of value) bound_params)))
+      (bp : bound_params ≡ model.params)
+      (vbs : vb ≡ variable_bounds (map (variable_of value) bound_vars)) (bv : bound_vars ≡ model.vars)
+      (abs : ab ≡ adaptive_bounds (map (adaptive_of value) adaptives)) (a : adaptives ≡ model.adaptives)
+      (mem : members ≡ lift_count (map (set_line_of value) member_lines)) (ml : member_lines ≡ model.set_lines)
+      (f : forms ≡ length (form_names m)) (r : set_rows ≡ length (set_row_names m))
+      (rs : rows ≡ model.rows) (ls : lines ≡ model.set_lines) where
+    abbrev counts : Counts
+    counts =
+        counted m (map (cut_of value) cuts) cells (length cuts) (length params) (length vars) columns pb vb ab members
+        forms set_rows (length rows) (length lines)
+
+    pub counts_read : AreCountsOf (split_model m (map (cut_of value) cuts)) counts
+    counts_read =
+        counts_are m (map (cut_of value) cuts) cells (length cuts) (length params) (length vars) columns pb vb ab
+        members forms set_rows (length rows) (length lines) c
+        (sym (length-map cuts (cut_of value)))
+        (ap length p ∙ sym (length-map model.params (parameter_of value)))
+        (ap length v ∙ sym (length-map model.vars (variable_of value)))
+        (k ∙ length-column_names m)
+        (parameter_bounds_read b bp)
+        (variable_bounds_read vbs bv)
+        (abs ∙ ap (λ ys. adaptive_bounds (map (adaptive_of value) ys)) a)
+        (mem ∙ ap (λ cs. lift_count (map (set_line_of value) cs)) ml)
+        (f ∙ length-form_names m)
+        (r ∙ length-set_row_names m)
+        (ap length rs ∙ sym (length-map model.rows (row_of value)))
+        (ap length ls ∙ sym (length-map model.set_lines (set_line_of value)))
+
+    pub counts_small : IsValid value model → cells ≤ 8 → length cuts ≤ 3 → pb ≤ 2 * length bound_params → vb ≤ 1200
+        → ab ≤ 1200 → AreSmall counts
+    counts_small valid few three some_bounds few_vb few_ab =
+        counts_few cells (length cuts) (length params) (length vars) columns pb vb ab members forms set_rows
+        (length rows) (length lines) m (map (cut_of value) cuts) few three
+        (params_few valid p) (vars_few valid v)
+        (let all = valid.limits.columns in let e = k ∙ length-column_names m in subst (λ n. n ≤ 600) (sym e) all)
+        (omega (arith, some_bounds, params_few valid bp)) few_vb few_ab
+        (let all = valid.limits.members in
+        let e = mem ∙ ap (λ cs. lift_count (map (set_line_of value) cs)) ml in subst (λ n. n ≤ 64) (sym e) all)
+        (let all = kind_few m valid.limits Form in subst (λ n. n ≤ 5000) (sym f) all)
+        (set_rows_few valid r) (rows_few valid rs) (lines_few valid ls)
