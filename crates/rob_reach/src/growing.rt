@@ -26,6 +26,10 @@ pub fn branching_laws()
         → first_broken names plan ≡ Some j → IsIn j names × (IsWhole (at plan j) → ⊥) }
     ensures whole { (names : List ℕ) (plan : List Fraction)
         → first_broken names plan ≡ None → IsWholeOn names plan }
+{}
+
+/// How the measure of a search falls, from a box to one behind it.
+pub fn measure_laws()
     // The measures of the two boxes sum to at most that of the branched one, so they fall.
     ensures splits { (m : RobustModel) (names : List ℕ) (c : Certificate) (j : ℕ) (k : ℤ) → IsModel m
         → KeepsBothBounds m names → AllowsBranch m names c j k

@@ -1,6 +1,4 @@
-use Rattle.rob_reach.proofs.GrowingLemmas.{all_whole, allows_branch, asks_branch, broken_is, comes_allowed, measure_falls, measure_splits, path_short}
-use Rattle.rob_reach.proofs.RangeLemmas.{changes_bounded}
-use Rattle.rob_reach.proofs.SplitLemmas.{product_positive}
+use Rattle.rob_reach.proofs.GrowingLemmas.{all_whole, allows_branch, asks_branch, broken_is}
 use Rattle.rob_reach.proofs.growing.branching_laws.Goals as goal
 
 pub returns : goal.returns
@@ -9,10 +7,4 @@ returns c = record {
   allowed = allows_branch;
   broken = broken_is;
   whole = all_whole;
-  splits = λ m names c j k model bounded a. measure_splits m model names bounded c j k a;
-  falls = λ m names c j k model bounded a. measure_falls m model names bounded c j k a;
-  path = λ m names path model bounded h. path_short m model names bounded path h;
-  comes = comes_allowed;
-  bounded = λ m names b h. changes_bounded b.is_upper b.bound b.variable m.variables names h;
-  positive = λ m names. product_positive m.variables names;
 }
