@@ -8,7 +8,7 @@ use Rattle.rob_expand.specs.declared.room.Stop.{Stop}
 use Rattle.rob_expand.specs.declared.room.Stop.TheVariants.{TooMuch, Memory}
 use Rattle.rob_expand.specs.declared.count.Counted.{Counted}
 use Rattle.std.proofs.Common.{rules}
-use Rattle.rob_index.specs.Forms.{Ends}
+use Rattle.rob_index.specs.Forms.{Ends, Form, value_of}
 use Rattle.rob_expand.specs.declared.placed.Placed.{Placed as Code, the_lemmas}
 use Rattle.rob_expand.specs.declared.placed.Placed.TheVariants as code
 use Rattle.rob_expand.specs.declared.placed.Part.{Part as CodePart, fold_out-Part}
@@ -32,9 +32,19 @@ pub moved : {A : Type 0} (r : Result A Stop) (o w : Option A) → o ≡ w
     → MatchResult r (λ c. o ≡ Some c) (λ e. HasStop o e) → MatchResult r (λ c. w ≡ Some c) (λ e. HasStop w e)
 moved {A} r o w same given = subst (λ (x : Option A). MatchResult r (λ c. x ≡ Some c) (λ e. HasStop x e)) same given
 
+-- the value of a form that is told otherwise
+pub value_read : (vs : List ℤ) {n : ℤ} {f g : Form} → n ≡ value_of f vs → f ≡ g → n ≡ value_of g vs
+value_read vs n_is same = n_is ∙ ap (λ (f : Form). value_of f vs) same
+
 -- a sum over a range, as it is seen
 pub over_placed : (ends : Ends) (inner : _) → placed_of (code.Over ends inner) ≡ over ends (placed_of inner.value)
 over_placed ends inner = search (rules, the_lemmas)
+
+-- and so by its expression as another place shows it
+pub over_seen : (ends : Ends) (inner : _) (whole shown : Code) → whole ≡ code.Over ends inner → shown ≡ inner.value
+    → over ends (placed_of shown) ≡ placed_of whole
+over_seen ends inner whole shown is same =
+    ap (λ (p : Code). over ends (placed_of p)) same ∙ sym (ap placed_of is ∙ over_placed ends inner)
 
 -- a signed part is seen with its sign and its expression
 pub part_is : (x : CodePart) → part_of x ≡ record { minus = x.minus; inner = placed_of x.inner }

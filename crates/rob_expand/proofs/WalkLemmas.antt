@@ -40,6 +40,12 @@ module _ {A : Type 0} (f : A → List Name) where
       → fold add_name words (flat_map f old) ≡ result → words ≡ result
   words_all words old is so_far = ap (λ (l : List A). fold add_name words (flat_map f l)) (sym is) ∙ so_far
 
+  -- the same, where the names of all items are told otherwise
+  pub words_are : (words start : List Name) (old all : List A) (names : List Name) → old ≡ [] → names ≡ flat_map f all
+      → fold add_name words (flat_map f old) ≡ fold add_name start (flat_map f all) → words ≡ fold add_name start names
+  words_are words start old all names is told so_far =
+      words_all words old is so_far ∙ ap (fold add_name start) (sym told)
+
   -- ---- whether a name is too long
   pub long_more : (long here next : Bool) (old xs : List A) (x : A) {result : Bool} → old ≡ x ∷ xs
       → here ≡ list_any is_long_name (f x) → next ≡ (long || here)
@@ -56,6 +62,12 @@ module _ {A : Type 0} (f : A → List Name) where
       → (long || list_any is_long_name (flat_map f old)) ≡ result → long ≡ result
   long_all long old is so_far =
       sym (or_false long) ∙ ap (λ (l : List A). long || list_any is_long_name (flat_map f l)) (sym is) ∙ so_far
+
+  pub long_are : (long : Bool) (old all : List A) (names : List Name) → old ≡ [] → names ≡ flat_map f all
+      → (long || list_any is_long_name (flat_map f old)) ≡ list_any is_long_name (flat_map f all)
+      → long ≡ list_any is_long_name names
+  long_are long old all names is told so_far =
+      long_all long old is so_far ∙ ap (list_any is_long_name) (sym told)
 
 -- the same items
 module _ {A : Type 0} (f : A → List Name) (xs ys : List A) (same : xs ≡ ys) where

@@ -9,9 +9,9 @@ use Rattle.rob_expand.specs.declared.placed.Part.{Part as CodePart}
 use Rattle.rob_expand.specs.declared.placed.Placed.{Placed as Code}
 use Rattle.rob_expand.specs.Growing.{printed_at}
 use Rattle.rob_expand.specs.Making.{summed_of, made_each}
-use Rattle.rob_expand.specs.Placed.{Placed, over, placed_of}
-use Rattle.rob_expand.proofs.StepLemmas.{over_placed}
-use Rattle.rob_expand.proofs.WalkLemmas.{next_some, next_none, made_more, made_all}
+use Rattle.rob_expand.specs.Placed.{Placed, placed_of}
+use Rattle.rob_expand.proofs.StepLemmas.{over_seen}
+use Rattle.rob_expand.proofs.WalkLemmas.{left_is, left_none, next_some, next_none, made_more, made_all}
 use Rattle.rob_expand.proofs.MakeLemmas.{moved_if, part_made, parts_made, factor_made, factors_made, value_made, each_made, summed_made}
 use Rattle.rob_expand.proofs.make.+make.Goals as goal
 
@@ -65,15 +65,11 @@ make-returns-in-Over t c =
     let own = texts c.args.own.now.keys in
     let words = texts c.args.words.now.keys in
     let vs = c.args.values.now in
-    let whole : placed_of c.args.placed.now ≡ over c.in-Over.ends (placed_of c.in-Over.inner.value) =
-    ap placed_of c.in-Over.is ∙ over_placed c.in-Over.ends c.in-Over.inner in
-    let there : placed_of c.deref.result.now ≡ placed_of c.in-Over.inner.value = ap placed_of c.deref.ensures in
     let same : summed_of (made_each own words (placed_of c.deref.result.now) vs (values_of c.in-Over.ends vs))
     ≡ numbered_tree words (printed_at own (placed_of c.args.placed.now) vs) =
-    ap (λ (p : Placed). summed_of (made_each own words p vs (values_of c.in-Over.ends vs))) there
-    ∙ summed_made words
-    (map (λ v. printed_at own (placed_of c.in-Over.inner.value) (v ∷ vs)) (values_of c.in-Over.ends vs))
-    ∙ ap (λ (p : Placed). numbered_tree words (printed_at own p vs)) (sym whole) in
+    summed_made words (map (λ v. printed_at own (placed_of c.deref.result.now) (v ∷ vs)) (values_of c.in-Over.ends vs))
+    ∙ ap (λ (p : Placed). numbered_tree words (printed_at own p vs))
+    (over_seen c.in-Over.ends c.in-Over.inner c.args.placed.now c.deref.result.now c.in-Over.is c.deref.ensures) in
     record { made = moved_if c.make_over.result _ _ c.make_over.ensures.made (λ s e. e ∙ same) }
 
 pub make_over-values-preserved : goal.make_over-values-preserved

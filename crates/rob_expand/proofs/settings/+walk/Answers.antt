@@ -1,72 +1,55 @@
 use Rattle.std.proofs.Common.{◌≡◌, ◌∷◌, ◌++◌, length, List, ap, sym, ◌∙◌}
 use Rattle.std.specs.Prelude.{ℤ}
 use Rattle.std.proofs.lemmas.Result.{err_from_is_err_and}
-use Rattle.rob_index.specs.Forms.{Form, value_of, extensions}
+use Rattle.rob_index.specs.Forms.{extensions}
 use Rattle.rob_index.proofs.NestLemmas.{lt_from, lt_not}
 use Rattle.rob_expand.specs.Room.{left_of}
 use Rattle.rob_expand.specs.Settings.{between}
-use Rattle.rob_expand.proofs.StepLemmas.{refused, moved}
+use Rattle.rob_expand.proofs.StepLemmas.{refused, moved, value_read}
 use Rattle.rob_expand.proofs.SettingsLemmas.{between_none, walk_none, walk_some, walk_fewer, walk_appended, walk_left, walk_stop, walk_over, walk_made, walk_ended, first_range}
 use Rattle.rob_expand.proofs.settings.+walk.Goals as goal
 
 pub append_settings-returns-in_ok-upto-in-len1-up-clause-left :
     goal.append_settings-returns-in_ok-upto-in-len1-up-clause-left
 append_settings-returns-in_ok-upto-in-len1-up-clause-left t c =
-    let range = c.range-item.result in
-    let start : c.in_ok-from-in-len1-up.from ≡ value_of range.from c.args.values.now =
-    c.in_ok-from-in-len1-up.ensures.value ∙ ap (λ (f : Form). value_of f c.args.values.now) c.from.ensures.from in
-    let last : c.in_ok-upto-in-len1-up.upto ≡ value_of range.upto c.args.values.now =
-    c.in_ok-upto-in-len1-up.ensures.value ∙ ap (λ (f : Form). value_of f c.args.values.now) c.upto.ensures.upto in
     moved c.append_values.result _ _
-    (first_range c.args.ranges.now c.args.values.now range c.in_ok-from-in-len1-up.from c.in_ok-upto-in-len1-up.upto
-    c.args.room c.in-len1-up.len_at_least c.range-item.is start last)
+    (first_range c.args.ranges.now c.args.values.now c.range-item.result c.in_ok-from-in-len1-up.from
+    c.in_ok-upto-in-len1-up.upto c.args.room c.in-len1-up.len_at_least c.range-item.is
+    (value_read c.args.values.now c.in_ok-from-in-len1-up.ensures.value c.from.ensures.from)
+    (value_read c.args.values.now c.in_ok-upto-in-len1-up.ensures.value c.upto.ensures.upto))
     c.append_values.ensures.left
 
-pub append_values-returns-then-branch-clause-appended : goal.append_values-returns-then-branch-clause-appended
-append_values-returns-then-branch-clause-appended t c =
+pub append_values-returns-then-branch : goal.append_values-returns-then-branch
+append_values-returns-then-branch t c =
     let none = between_none c.args.upto.now c.args.inner.now c.args.values.now c.values.value
     (lt_from c.args.upto.now c.values.value (sym c.in_ok-is_less.ensures.less ∙ c.if-branch.true)) in
-    walk_made c.args.upto.now c.args.inner.now c.args.values.now c.values.value c.values.settings none
-    c.values.invariant.appended
+    let l = c.values in
+    record {
+      appended = walk_made c.args.upto.now c.args.inner.now c.args.values.now l.value l.settings none l.invariant.appended;
+      left = walk_ended c.args.upto.now c.args.inner.now c.args.values.now l.value l.left none l.invariant.left;
+    }
 
-pub append_values-returns-then-branch-clause-left : goal.append_values-returns-then-branch-clause-left
-append_values-returns-then-branch-clause-left t c =
-    let none = between_none c.args.upto.now c.args.inner.now c.args.values.now c.values.value
-    (lt_from c.args.upto.now c.values.value (sym c.in_ok-is_less.ensures.less ∙ c.if-branch.true)) in
-    walk_ended c.args.upto.now c.args.inner.now c.args.values.now c.values.value c.values.left none
-    c.values.invariant.left
-
-pub append_values-returns-in_default-clause-appended : goal.append_values-returns-in_default-clause-appended
-append_values-returns-in_default-clause-appended t c =
+pub append_values-returns-in_default : goal.append_values-returns-in_default
+append_values-returns-in_default t c =
     let none = walk_none c.args.upto.now c.args.inner.now c.args.values.now c.values.value c.in_ok-live.field-0
     c.in_default.is c.in_ok-live.ensures.live in
-    walk_made c.args.upto.now c.args.inner.now c.args.values.now c.values.value c.values.settings none
-    c.values.invariant.appended
+    let l = c.values in
+    record {
+      appended = walk_made c.args.upto.now c.args.inner.now c.args.values.now l.value l.settings none l.invariant.appended;
+      left = walk_ended c.args.upto.now c.args.inner.now c.args.values.now l.value l.left none l.invariant.left;
+    }
 
-pub append_values-returns-in_default-clause-left : goal.append_values-returns-in_default-clause-left
-append_values-returns-in_default-clause-left t c =
-    let none = walk_none c.args.upto.now c.args.inner.now c.args.values.now c.values.value c.in_ok-live.field-0
-    c.in_default.is c.in_ok-live.ensures.live in
-    walk_ended c.args.upto.now c.args.inner.now c.args.values.now c.values.value c.values.left none
-    c.values.invariant.left
-
-pub append_values-returns-then-branch-2-clause-appended : goal.append_values-returns-then-branch-2-clause-appended
-append_values-returns-then-branch-2-clause-appended t c =
+pub append_values-returns-then-branch-2 : goal.append_values-returns-then-branch-2
+append_values-returns-then-branch-2 t c =
     let some = walk_some c.args.upto.now c.args.inner.now c.args.values.now c.values.value c.in-Some.live
     c.in_ok-live.field-0 c.in-Some.is c.in_ok-live.ensures.live in
     let none = walk_over c.args.upto.now c.args.inner.now c.args.values.now c.values.value c.in-Some.live some.0 some.1
     (lt_from c.args.upto.now c.in-Some.live (sym c.in_ok-is_less-2.ensures.less ∙ c.if-branch-2.true)) in
-    walk_made c.args.upto.now c.args.inner.now c.args.values.now c.values.value c.values.settings none
-    c.values.invariant.appended
-
-pub append_values-returns-then-branch-2-clause-left : goal.append_values-returns-then-branch-2-clause-left
-append_values-returns-then-branch-2-clause-left t c =
-    let some = walk_some c.args.upto.now c.args.inner.now c.args.values.now c.values.value c.in-Some.live
-    c.in_ok-live.field-0 c.in-Some.is c.in_ok-live.ensures.live in
-    let none = walk_over c.args.upto.now c.args.inner.now c.args.values.now c.values.value c.in-Some.live some.0 some.1
-    (lt_from c.args.upto.now c.in-Some.live (sym c.in_ok-is_less-2.ensures.less ∙ c.if-branch-2.true)) in
-    walk_ended c.args.upto.now c.args.inner.now c.args.values.now c.values.value c.values.left none
-    c.values.invariant.left
+    let l = c.values in
+    record {
+      appended = walk_made c.args.upto.now c.args.inner.now c.args.values.now l.value l.settings none l.invariant.appended;
+      left = walk_ended c.args.upto.now c.args.inner.now c.args.values.now l.value l.left none l.invariant.left;
+    }
 
 pub append_values-returns-in_err-left-clause-left : goal.append_values-returns-in_err-left-clause-left
 append_values-returns-in_err-left-clause-left t c =
