@@ -1,150 +1,109 @@
 -- A sum over the values of a range: none, one, or more of them.
-use Rattle.std.proofs.Common.{◌≡◌, ℕ, ◌<◌, suc, Bool, true, false, List, Option, Some, None, refl, sym, ap, ◌∙◌, arith}
-use Rattle.std.specs.Prelude.{ℤ, pos, ◌+ℤ◌, int_lt}
-use Rattle.rob_index.specs.Expansion.{count, upwards}
-use Rattle.rob_index.specs.Counting.{parens}
-use Rattle.rob_index.specs.Forms.{Ends, value_of, values_of}
-use Rattle.rob_index.proofs.NestLemmas.{lt_from, lt_not}
-use Rattle.rob_expand.specs.declared.count.Shape.TheVariants.{Single, Sum}
+use Rattle.std.proofs.Common.{◌≡◌, ℕ, Bool, true, false, List, [], ◌∷◌, Option, Some, None, sym, ap, ◌∙◌, subst}
+use Rattle.std.specs.Prelude.{ℤ, set, Result, MatchResult, Err}
+use Rattle.rob_index.specs.Counting.{lead}
+use Rattle.rob_index.specs.Forms.{Ends, values_of}
 use Rattle.rob_expand.specs.declared.count.Counted.{Counted}
-use Rattle.rob_expand.specs.Room.{left_of, after}
-use Rattle.rob_expand.specs.Count.{of_shape, is_sum, part_left, each_left, over_left}
-use Rattle.rob_expand.proofs.RoomLemmas.{left_zero}
-use Rattle.rob_expand.proofs.StepLemmas.{part_some, part_none_first, part_none, part_none_last}
-use Rattle.rob_ranges.proofs.NestLemmas.{count_next, count_none}
+use Rattle.rob_expand.specs.declared.count.Inside.TheVariants as place
+use Rattle.rob_expand.specs.declared.count.Many.{Many}
+use Rattle.rob_expand.specs.declared.count.Many.TheVariants.{Empty, One, Several}
+use Rattle.rob_expand.specs.declared.count.Shape.TheVariants.{Single, Sum}
+use Rattle.rob_expand.specs.declared.placed.Placed.{Placed as Code}
+use Rattle.rob_expand.specs.declared.placed.Placed.TheVariants as code
+use Rattle.rob_expand.specs.declared.room.Stop.{Stop}
+use Rattle.rob_expand.specs.Count.{AreMany, of_shape, item_left, tree_left, each_left, over_left}
+use Rattle.rob_expand.specs.Placed.{Placed, over, placed_of}
+use Rattle.rob_expand.specs.Room.{left_of, after, HasStop}
+use Rattle.rob_expand.proofs.StepLemmas.{moved, over_seen, refused}
 
--- fewer values are left
-pub fewer : (value upto next : ℤ) → int_lt upto value ≡ false → next ≡ value +ℤ pos 1
-    → count next upto < count value upto
-fewer value upto next more is =
-    let a = count_next value upto (lt_not upto value more) in
-    let b = ap (λ (v : ℤ). count v upto) is in
-    omega (arith, a, b)
+-- what a call answers of what is left
+abbrev Tells : Option Counted → Result Counted Stop → Type 0
+Tells o r = MatchResult r (λ c. o ≡ Some c) (λ e. HasStop o e)
 
-module _ (limit : ℕ) (make : ℤ → ℕ → Option Counted) where
-  -- the values from one on
-  abbrev pub each_from : ℤ → ℤ → ℕ → Option ℕ
-  each_from value upto room = each_left limit make false (upwards value (count value upto)) room
+-- a sum over a range is counted by its expression as another place shows it
+pub over_told : (limit : ℕ) (vs : List ℤ) (room : ℕ) (ends : Ends) (inner : _) (whole shown : Code)
+    → whole ≡ code.Over ends inner → shown ≡ inner.value → (r : Result Counted Stop)
+    → Tells (over_left limit (λ v. tree_left limit (placed_of shown) (v ∷ vs)) (values_of ends vs) room) r
+    → Tells (tree_left limit (placed_of whole) vs room) r
+over_told limit vs room ends inner whole shown is same r given =
+    moved r (tree_left limit (over ends (placed_of shown)) vs room) (tree_left limit (placed_of whole) vs room)
+    (ap (λ (p : Placed). tree_left limit p vs room) (over_seen ends inner whole shown is same)) given
 
-  pub each_end : (value upto : ℤ) (room : ℕ) → int_lt upto value ≡ true → each_from value upto room ≡ Some room
-  each_end value upto room h =
-      ap (λ (n : ℕ). each_left limit make false (upwards value n) room) (count_none value upto (lt_from upto value h))
+module _ (limit : ℕ) (x : Code) (vs : List ℤ) where
+  -- the expression, at a value in front of the others
+  abbrev pub at_value : ℤ → ℕ → Option Counted
+  at_value v = tree_left limit (placed_of x) (v ∷ vs)
 
-  pub each_step : (value upto : ℤ) (room : ℕ) → int_lt upto value ≡ false
-      → each_from value upto room
-      ≡ after (part_left limit false false (make value) room) (each_from (value +ℤ pos 1) upto)
-  each_step value upto room h =
-      ap (λ (n : ℕ). each_left limit make false (upwards value n) room) (count_next value upto (lt_not upto value h))
+  module _ (all : List ℤ) (room : ℕ) {many : Many} (r : Result Counted Stop) where
+    abbrev whole : Option Counted
+    whole = over_left limit at_value all room
 
-  -- one value more
-  module _ (value upto : ℤ) (left : ℕ) {result : Option ℕ} (more : int_lt upto value ≡ false)
-      (so_far : each_from value upto left ≡ result) where
-    pub each_more : (signed parentheses behind : ℕ) (counted : Counted) (next : ℤ) → left_of 1 left ≡ Some signed
-        → make value signed ≡ Some counted → parentheses ≡ parens limit (is_sum counted.shape)
-        → left_of parentheses counted.left ≡ Some behind → next ≡ value +ℤ pos 1 → each_from next upto behind ≡ result
-    each_more signed parentheses behind counted next a b d e is =
-        ap (λ (v : ℤ). each_from v upto behind) is
-        ∙ sym (ap (λ (o : Option ℕ). after o (each_from (value +ℤ pos 1) upto))
-        (part_some limit false false (make value) left signed behind counted a b
-        (ap (λ (n : ℕ). left_of n counted.left) (sym d) ∙ e)))
-        ∙ sym (each_step value upto left more) ∙ so_far
+    pub over_empty : many ≡ Empty → AreMany all many → Tells (of_shape Single (left_of 1 room)) r → Tells whole r
+    over_empty is told given =
+        moved r (of_shape Single (left_of 1 room)) whole
+        (sym (ap (λ (l : List ℤ). over_left limit at_value l room) (subst (AreMany all) is told))) given
 
-    each_stop : part_left limit false false (make value) left ≡ None → result ≡ None
-    each_stop none =
-        sym so_far ∙ each_step value upto left more
-        ∙ ap (λ (o : Option ℕ). after o (each_from (value +ℤ pos 1) upto)) none
+    pub over_one : {value : ℤ} {inside : List ℤ} → many ≡ One value → AreMany all many → inside ≡ value ∷ vs
+        → Tells (tree_left limit (placed_of x) inside room) r → Tells whole r
+    over_one {value = value} {inside = inside} is told here given =
+        let only : all ≡ value ∷ [] = subst (AreMany all) is told in
+        moved r (tree_left limit (placed_of x) inside room) whole
+        (ap (λ (us : List ℤ). tree_left limit (placed_of x) us room) here
+        ∙ sym (ap (λ (l : List ℤ). over_left limit at_value l room) only)) given
 
-    pub each_stop_sign : left_of 1 left ≡ None → result ≡ None
-    each_stop_sign none = each_stop (part_none_first limit false false (make value) left none)
+    pub over_several : many ≡ Several → AreMany all many
+        → Tells (of_shape Sum (each_left limit at_value true all room)) r → Tells whole r
+    over_several is told given =
+        let more : (v : ℤ) × (w : ℤ) × (ws : List ℤ) × (all ≡ v ∷ w ∷ ws) = subst (AreMany all) is told in
+        moved r (of_shape Sum (each_left limit at_value true all room)) whole
+        (ap (λ (l : List ℤ). of_shape Sum (each_left limit at_value true l room)) more.3
+        ∙ sym (ap (λ (l : List ℤ). over_left limit at_value l room) more.3)) given
 
-    pub each_stop_inner : (signed : ℕ) → left_of 1 left ≡ Some signed → make value signed ≡ None → result ≡ None
-    each_stop_inner signed a none = each_stop (part_none limit false false (make value) left signed a none)
+-- ---- what is left behind some values, and behind all; and there is a place for a value in front of the others
+pub record HasEachLeft (limit : ℕ) (x : Code) (vs : List ℤ) (first : Bool) (run : List ℤ) (left : ℕ) (all : List ℤ)
+    (room : ℕ) (inside : List ℤ) : Type 0 where
+  pub same : each_left limit (at_value limit x vs) first run left
+      ≡ each_left limit (at_value limit x vs) true all room
+  pub before : ℤ
+  pub begun : inside ≡ before ∷ vs
 
-    pub each_stop_parens : (signed parentheses : ℕ) (counted : Counted) → left_of 1 left ≡ Some signed
-        → make value signed ≡ Some counted → parentheses ≡ parens limit (is_sum counted.shape)
-        → left_of parentheses counted.left ≡ None → result ≡ None
-    each_stop_parens signed parentheses counted a b d none =
-        each_stop (part_none_last limit false false (make value) left signed counted a b
-        (ap (λ (n : ℕ). left_of n counted.left) (sym d) ∙ none))
+module _ {limit : ℕ} {x : Code} {vs : List ℤ} {first : Bool} {run : List ℤ} {left : ℕ} {all : List ℤ} {room : ℕ}
+    {inside : List ℤ} (h : HasEachLeft limit x vs first run left all room inside) where
+  module _ {value : ℤ} {new now shown : List ℤ} {sign : ℕ} (is : run ≡ value ∷ new) (put : now ≡ set inside 0 value)
+      (as_shown : shown ≡ now) (sign_is : sign ≡ lead limit first false) where
+    abbrev value_item : Option ℕ
+    value_item = item_left limit sign place.Sum (tree_left limit (placed_of x) shown) left
 
-  module _ (from upto : ℤ) (room : ℕ) where
-    -- the whole
-    abbrev pub over : Option Counted
-    over = over_left limit make (upwards from (count from upto)) room
+    here : now ≡ value ∷ vs
+    here = put ∙ ap (λ (us : List ℤ). set us 0 value) h.begun
 
-    pub over_none : int_lt upto from ≡ true → over ≡ of_shape Single (left_of 1 room)
-    over_none h =
-        ap (λ (n : ℕ). over_left limit make (upwards from n) room) (count_none from upto (lt_from upto from h))
+    each_on : {o : Option ℕ} → value_item ≡ o
+        → each_left limit (at_value limit x vs) true all room
+        ≡ after o (each_left limit (at_value limit x vs) false new)
+    each_on paid =
+        sym h.same
+        ∙ ap (λ (l : List ℤ). each_left limit (at_value limit x vs) first l left) is
+        ∙ ap (λ (o : Option ℕ). after o (each_left limit (at_value limit x vs) false new))
+        (ap (λ (n : ℕ). item_left limit n place.Sum (at_value limit x vs value) left) (sym sign_is)
+        ∙ ap (λ (us : List ℤ). item_left limit sign place.Sum (tree_left limit (placed_of x) us) left)
+        (sym (as_shown ∙ here))
+        ∙ paid)
 
-    pub over_one : int_lt upto from ≡ false → int_lt upto (from +ℤ pos 1) ≡ true → over ≡ make from room
-    over_one h k =
-        ap (λ (n : ℕ). over_left limit make (upwards from n) room)
-        (count_next from upto (lt_not upto from h)
-        ∙ ap suc (count_none (from +ℤ pos 1) upto (lt_from upto (from +ℤ pos 1) k)))
+    -- one value more
+    pub each_more : {behind : ℕ} → value_item ≡ Some behind → HasEachLeft limit x vs false new behind all room now
+    each_more paid = record { same = sym (each_on paid); before = value; begun = here }
 
-    -- the first of more has no sign
-    first_is : (rest : ℕ → Option ℕ)
-        → after (part_left limit true false (make from) room) rest
-        ≡ after (after (make from room) (λ c. left_of (parens limit (is_sum c.shape)) c.left)) rest
-    first_is rest =
-        ap (λ (o : Option ℕ). after (after o (λ room. after (make from room)
-        (λ c. left_of (parens limit (is_sum c.shape)) c.left))) rest) (left_zero room)
+    -- a value that there is no room for
+    pub each_stop : {V : Type 0} {r : Result V Stop} (P : V → Type 0) (e : Stop)
+        → ((f : Stop) × (r ≡ Err f) × (f ≡ e)) → HasStop value_item e
+        → MatchResult r P (λ e. HasStop (of_shape Sum (each_left limit (at_value limit x vs) true all room)) e)
+    each_stop {r = r} P e p cause =
+        refused r P value_item (of_shape Sum (each_left limit (at_value limit x vs) true all room)) e p.0 p.1 p.2
+        (λ none. ap (of_shape Sum) (each_on none)) cause
 
-    pub over_more : int_lt upto from ≡ false → int_lt upto (from +ℤ pos 1) ≡ false
-        → over ≡ of_shape Sum (after (after (make from room) (λ c. left_of (parens limit (is_sum c.shape)) c.left))
-        (each_from (from +ℤ pos 1) upto))
-    over_more h k =
-        let a = count_next from upto (lt_not upto from h) in
-        let b = count_next (from +ℤ pos 1) upto (lt_not upto (from +ℤ pos 1) k) in
-        ap (λ (n : ℕ). over_left limit make (upwards from n) room) (a ∙ ap suc b)
-        ∙ ap (of_shape Sum)
-        (first_is (each_left limit make false (upwards (from +ℤ pos 1) (suc (count ((from +ℤ pos 1) +ℤ pos 1) upto)))))
-        ∙ ap (λ (n : ℕ). of_shape Sum
-        (after (after (make from room) (λ c. left_of (parens limit (is_sum c.shape)) c.left))
-        (each_left limit make false (upwards (from +ℤ pos 1) n)))) (sym b)
-
-    -- there is no room for the first
-    pub over_first_none : int_lt upto from ≡ false → make from room ≡ None → over ≡ None
-    over_first_none h none = go (int_lt upto (from +ℤ pos 1)) refl
-      where
-        go : (b : Bool) → int_lt upto (from +ℤ pos 1) ≡ b → over ≡ None
-        go true k = over_one h k ∙ none
-        go false k =
-            over_more h k
-            ∙ ap (λ (o : Option Counted). of_shape Sum
-            (after (after o (λ c. left_of (parens limit (is_sum c.shape)) c.left))
-            (each_from (from +ℤ pos 1) upto))) none
-
-    -- behind the first of more
-    behind_first : (c : Counted) (parentheses : ℕ) → int_lt upto from ≡ false → int_lt upto (from +ℤ pos 1) ≡ false
-        → make from room ≡ Some c → parentheses ≡ parens limit (is_sum c.shape)
-        → over ≡ of_shape Sum (after (left_of parentheses c.left) (each_from (from +ℤ pos 1) upto))
-    behind_first c parentheses h k some is =
-        over_more h k
-        ∙ ap (λ (o : Option Counted). of_shape Sum
-        (after (after o (λ c. left_of (parens limit (is_sum c.shape)) c.left))
-        (each_from (from +ℤ pos 1) upto))) some
-        ∙ ap (λ (n : ℕ). of_shape Sum (after (left_of n c.left) (each_from (from +ℤ pos 1) upto))) (sym is)
-
-    pub over_behind_none : (c : Counted) (parentheses : ℕ) → int_lt upto from ≡ false
-        → int_lt upto (from +ℤ pos 1) ≡ false
-        → make from room ≡ Some c → parentheses ≡ parens limit (is_sum c.shape) → left_of parentheses c.left ≡ None
-        → over ≡ None
-    over_behind_none c parentheses h k some is none =
-        behind_first c parentheses h k some is
-        ∙ ap (λ (o : Option ℕ). of_shape Sum (after o (each_from (from +ℤ pos 1) upto))) none
-
-    pub over_rest : (c : Counted) (parentheses behind : ℕ) (second : ℤ) → int_lt upto from ≡ false
-        → int_lt upto (from +ℤ pos 1) ≡ false → make from room ≡ Some c → parentheses ≡ parens limit (is_sum c.shape)
-        → left_of parentheses c.left ≡ Some behind → second ≡ from +ℤ pos 1
-        → over ≡ of_shape Sum (each_from second upto behind)
-    over_rest c parentheses behind second h k some is paid next =
-        behind_first c parentheses h k some is
-        ∙ ap (λ (o : Option ℕ). of_shape Sum (after o (each_from (from +ℤ pos 1) upto))) paid
-        ∙ ap (λ (v : ℤ). of_shape Sum (each_from v upto behind)) (sym next)
-
-  -- the values of a range
-  pub ends_are : (r : Ends) (vs : List ℤ) (from upto : ℤ) (room : ℕ) → from ≡ value_of r.from vs
-      → upto ≡ value_of r.upto vs
-      → over from upto room ≡ over_left limit make (values_of r vs) room
-  ends_are r vs from upto room a b = λ i. over_left limit make (upwards (a i) (count (a i) (b i))) room
+  pub each_end : run ≡ []
+      → of_shape Sum (each_left limit (at_value limit x vs) true all room)
+      ≡ Some (record { left = left; shape = Sum })
+  each_end none =
+      ap (of_shape Sum)
+      (sym h.same ∙ ap (λ (l : List ℤ). each_left limit (at_value limit x vs) first l left) none)

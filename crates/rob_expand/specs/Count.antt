@@ -1,11 +1,15 @@
 -- What is left of a room behind the canonical text of an expression in a setting, found without making it, and whether
 -- it stands in parentheses inside a sum or a product.
-use Rattle.std.specs.Prelude.{ℕ, Bool, true, false, ℤ, List, [], ◌∷◌, Option, Some, None}
+use Rattle.std.specs.Prelude.{◌≡◌, ℕ, Bool, true, false, ℤ, List, [], ◌∷◌, Option, Some, None}
 use Rattle.rob_index.specs.Forms.{values_of}
 use Rattle.rob_index.specs.Counting.{number_tokens, lead, star, parens}
 use Rattle.rob_expand.specs.declared.count.Shape.{Shape}
 use Rattle.rob_expand.specs.declared.count.Shape.TheVariants.{Single, Sum, Product}
 use Rattle.rob_expand.specs.declared.count.Counted.{Counted}
+use Rattle.rob_expand.specs.declared.count.Inside.{Inside}
+use Rattle.rob_expand.specs.declared.count.Inside.TheVariants as inside
+use Rattle.rob_expand.specs.declared.count.Many.{Many}
+use Rattle.rob_expand.specs.declared.count.Many.TheVariants.{Empty, One, Several}
 use Rattle.rob_expand.specs.Room.{left_of, after}
 use Rattle.rob_expand.specs.Placed.{Placed, number, name, sum, product, over, Parts, no_parts, part, Factors, no_factors, factor}
 
@@ -21,12 +25,29 @@ is_compound Sum = true
 is_compound Product = true
 is_compound Single = false
 
+-- it stands in parentheses there
+abbrev pub is_closed : Inside → Shape → Bool
+is_closed inside.Sum shape = is_sum shape
+is_closed inside.Product shape = is_compound shape
+
+-- that many values there are: none, that one alone, or more
+abbrev pub AreMany : List ℤ → Many → Type 0
+AreMany vs Empty = vs ≡ []
+AreMany vs (One v) = vs ≡ v ∷ []
+AreMany vs Several = (v : ℤ) × (w : ℤ) × (ws : List ℤ) × (vs ≡ v ∷ w ∷ ws)
+
 -- an expression of that shape, behind which this is left
 abbrev pub of_shape : Shape → Option ℕ → Option Counted
 of_shape shape None = None
 of_shape shape (Some left) = Some (record { left = left; shape = shape })
 
 module _ (limit : ℕ) where
+  -- an expression with so many tokens in front of it, and its parentheses
+  abbrev pub item_left : (front : ℕ) → Inside → (ℕ → Option Counted) → ℕ → Option ℕ
+  item_left front place make room =
+      after (left_of front room) (λ room.
+      after (make room) (λ c. left_of (parens limit (is_closed place c.shape)) c.left))
+
   -- a part of a sum: its sign, and its parentheses
   abbrev pub part_left : (first minus : Bool) → (ℕ → Option Counted) → ℕ → Option ℕ
   part_left first minus make room =

@@ -1,19 +1,20 @@
 //! How many tokens an expression's canonical text has in a setting, counted without making it: the count stops as soon
 //! as there is no room for more.
 
-ghost use Rattle.std.specs.Prelude.{◌≡◌, ℕ, ◌∷◌, map, true, false, MatchResult, Some};
-ghost use Rattle.rob_index.specs.Expansion.{count as span, upwards};
+ghost use Rattle.std.specs.Prelude.{◌≡◌, ℕ, ◌∷◌, map, true, IfOk, MatchResult, Some};
 ghost use Rattle.rob_index.specs.Forms.{values_of};
 ghost use Rattle.rob_index.specs.Counting as counting;
-ghost use Rattle.rob_expand.specs.declared.count.Shape.TheVariants.{Single};
+ghost use Rattle.rob_expand.specs.declared.count.Shape.TheVariants as Is;
 ghost use Rattle.rob_expand.specs.Room.{left_of, HasStop};
 ghost use Rattle.rob_expand.specs.Placed.{placed_of, part_of, parts_of, factors_of};
-ghost use Rattle.rob_expand.specs.Count.{is_sum, is_compound, of_shape, tree_left, parts_left, factors_left, over_left, each_left};
+ghost use Rattle.rob_expand.specs.Count.{AreMany, is_closed, is_compound, is_sum, of_shape, item_left, tree_left, parts_left, factors_left, over_left, each_left};
 
 use crate::placed::{Part, Placed};
 use crate::room::{Stop, spend};
-use crate::setting::{begun_with, next, put_first, with_value};
+use crate::setting::{begun_with, put_first, with_value};
 use crate::tokens::number_tokens;
+use rob_number::Memory;
+use rob_ranges::run::Run;
 use rob_ranges::{Ends, Whole};
 use std::alloc::Global;
 
@@ -33,6 +34,28 @@ pub struct Counted {
     pub shape: Shape,
 }
 
+/// What an expression stands in.
+#[derive(Clone, Copy)]
+pub enum Inside {
+    Sum,
+    Product,
+}
+
+/// The tokens in front of an expression, and what it stands in.
+#[derive(Clone, Copy)]
+pub struct Front {
+    pub tokens: u32,
+    pub inside: Inside,
+}
+
+/// How many values a range has.
+#[derive(Drop)]
+pub enum Many {
+    Empty,
+    One(Whole),
+    Several,
+}
+
 /// The tokens of the parentheses around it as a part of a sum.
 fn part_parens(shape: Shape) -> u32
     ensures parens { (limit : ℕ) → result ≡ counting.parens limit (is_sum shape) }
@@ -50,6 +73,31 @@ fn factor_parens(shape: Shape) -> u32
     match shape {
         Shape::Sum | Shape::Product => 2,
         Shape::Single => 0,
+    }
+}
+
+/// The tokens of the parentheses around it.
+fn parens(inside: Inside, shape: Shape) -> u32
+    ensures parens { (limit : ℕ) → result ≡ counting.parens limit (is_closed inside shape) }
+{
+    match inside {
+        Inside::Sum => part_parens(shape),
+        Inside::Product => factor_parens(shape),
+    }
+}
+
+/// How many values a range has at some values of those around it.
+fn how_many(alloc: Global, ends: &Ends, values: &[Whole]) -> Result<Many, Memory>
+    ensures many { IfOk result (AreMany (values_of ends.now values.now)) }
+{
+    let mut run = Run::new(alloc, ends, values)?;
+    let Some(value) = run.next(alloc)? else {
+        return Ok(Many::Empty);
+    };
+    let second = run.next(alloc)?;
+    match second {
+        Some(_) => Ok(Many::Several),
+        None => Ok(Many::One(value)),
     }
 }
 
@@ -90,13 +138,35 @@ pub fn count(
 /// A number or a name of so many tokens.
 fn single(tokens: u32, room: u32) -> Result<Counted, Stop>
     ensures counted { MatchResult result
-        (λ c. of_shape Single (left_of tokens room) ≡ Some c) (λ e. HasStop (of_shape Single (left_of tokens room)) e) }
+        (λ c. of_shape Is.Single (left_of tokens room) ≡ Some c)
+        (λ e. HasStop (of_shape Is.Single (left_of tokens room)) e) }
 {
     let left = spend(tokens, room)?;
     Ok(Counted {
         left,
         shape: Shape::Single,
     })
+}
+
+/// What is left behind an expression with the tokens in front of it and its parentheses.
+#[cycle(count)]
+fn count_item(
+    alloc: Global,
+    limit: u64,
+    front: Front,
+    inner: &Placed,
+    values: &[Whole],
+    room: u32,
+) -> Result<u32, Stop>
+    ensures left { MatchResult result
+        (λ left. item_left limit front.tokens front.inside (tree_left limit (placed_of inner.now) values.now) room
+        ≡ Some left)
+        (λ e. HasStop (item_left limit front.tokens front.inside (tree_left limit (placed_of inner.now) values.now)
+        room) e) }
+{
+    let begun = spend(front.tokens, room)?;
+    let counted = count(alloc, limit, inner, values, begun)?;
+    spend(parens(front.inside, counted.shape), counted.left)
 }
 
 /// What is left behind the parts of a sum.
@@ -115,9 +185,11 @@ fn count_parts(
     let mut left = room;
     let mut first = true;
     for part in parts {
-        let signed = spend(lead(first, part.minus), left)?;
-        let counted = count(alloc, limit, &part.inner, values, signed)?;
-        let behind = spend(part_parens(counted.shape), counted.left)?;
+        let front = Front {
+            tokens: lead(first, part.minus),
+            inside: Inside::Sum,
+        };
+        let behind = count_item(alloc, limit, front, &part.inner, values, left)?;
         left = behind;
         first = false;
     }
@@ -147,9 +219,11 @@ fn count_factors(
     let mut left = room;
     let mut first = true;
     for factor in factors {
-        let starred = spend(star(first), left)?;
-        let counted = count(alloc, limit, factor, values, starred)?;
-        let behind = spend(factor_parens(counted.shape), counted.left)?;
+        let front = Front {
+            tokens: star(first),
+            inside: Inside::Product,
+        };
+        let behind = count_item(alloc, limit, front, factor, values, left)?;
         left = behind;
         first = false;
     }
@@ -179,54 +253,51 @@ fn count_over(
         (λ e. HasStop (over_left limit (λ v. tree_left limit (placed_of inner.now) (v ∷ values.now))
         (values_of ends.now values.now) room) e) }
 {
-    let from = ends.from().value(alloc, values)?;
-    let upto = ends.upto().value(alloc, values)?;
-    if upto.is_less(alloc, &from)? {
-        return single(1, room);
+    let many = how_many(alloc, ends, values)?;
+    match many {
+        Many::Empty => single(1, room),
+        Many::One(value) => {
+            let inside = with_value(alloc, &value, values)?;
+            count(alloc, limit, inner, inside.items(), room)
+        }
+        Many::Several => count_each(alloc, limit, ends, inner, values, room),
     }
-    let inside = with_value(alloc, &from, values)?;
-    let first = count(alloc, limit, inner, inside.items(), room)?;
-    let second = next(alloc, &from)?;
-    if upto.is_less(alloc, &second)? {
-        return Ok(first);
+}
+
+/// What is left behind the values of a range, all added.
+#[cycle(count)]
+fn count_each(
+    alloc: Global,
+    limit: u64,
+    ends: &Ends,
+    inner: &Placed,
+    values: &[Whole],
+    room: u32,
+) -> Result<Counted, Stop>
+    ensures counted { MatchResult result
+        (λ c. of_shape Is.Sum (each_left limit (λ v. tree_left limit (placed_of inner.now) (v ∷ values.now)) true
+        (values_of ends.now values.now) room) ≡ Some c)
+        (λ e. HasStop (of_shape Is.Sum (each_left limit
+        (λ v. tree_left limit (placed_of inner.now) (v ∷ values.now)) true
+        (values_of ends.now values.now) room)) e) }
+{
+    let mut left = room;
+    let mut first = true;
+    let nothing = Whole::small(alloc, 0);
+    let mut inside = begun_with(alloc, &nothing, values)?;
+    let mut run = Run::new(alloc, ends, values)?;
+    'values: while let Some(value) = run.next(alloc)? {
+        put_first(alloc, &mut inside, &value)?;
+        let front = Front {
+            tokens: lead(first, false),
+            inside: Inside::Sum,
+        };
+        let behind = count_item(alloc, limit, front, inner, inside.as_slice(), left)?;
+        left = behind;
+        first = false;
     }
-    let behind = spend(part_parens(first.shape), first.left)?;
-    let left = count_more(alloc, limit, inner, values, second, &upto, behind)?;
     Ok(Counted {
         left,
         shape: Shape::Sum,
     })
-}
-
-/// What is left behind the values of a range from one on, a `+` in front of each.
-#[cycle(count)]
-fn count_more(
-    alloc: Global,
-    limit: u64,
-    inner: &Placed,
-    values: &[Whole],
-    from: Whole,
-    upto: &Whole,
-    room: u32,
-) -> Result<u32, Stop>
-    ensures left { MatchResult result
-        (λ left. each_left limit (λ v. tree_left limit (placed_of inner.now) (v ∷ values.now)) false
-        (upwards from (span from upto.now)) room ≡ Some left)
-        (λ e. HasStop (each_left limit (λ v. tree_left limit (placed_of inner.now) (v ∷ values.now)) false
-        (upwards from (span from upto.now)) room) e) }
-{
-    let mut left = room;
-    let mut inside = begun_with(alloc, &from, values)?;
-    let mut value = from;
-    'values: loop {
-        if upto.is_less(alloc, &value)? {
-            return Ok(left);
-        }
-        let signed = spend(1, left)?;
-        let counted = count(alloc, limit, inner, inside.as_slice(), signed)?;
-        let behind = spend(part_parens(counted.shape), counted.left)?;
-        left = behind;
-        value = next(alloc, &value)?;
-        put_first(alloc, &mut inside, &value)?;
-    }
 }
