@@ -22,7 +22,8 @@ use Rattle.rob_branch.specs.Leaves.{IsBoxNode, IsPassedNode, MayCheck, Stops}
 -- a branch whose nodes are told otherwise
 pub split_told : {n below above x y : Node} {j : ℕ} {k : ℤ} → n ≡ split j k below above → x ≡ below → y ≡ above
     → n ≡ split j k x y
-split_told {x = x} {y = y} {j = j} {k = k} is first second = is ∙ ap₂ (λ (a b : Node). split j k a b) (sym first) (sym second)
+split_told {x = x} {y = y} {j = j} {k = k} is first second =
+    is ∙ ap₂ (λ (a b : Node). split j k a b) (sym first) (sym second)
 
 -- what is asked of the box behind a branch, told otherwise
 pub side_checks : {limit : ℕ} {box side : RobustModel} {names : List ℕ} {b : Branch} {node : Node}

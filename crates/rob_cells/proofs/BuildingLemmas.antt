@@ -137,7 +137,8 @@ module _ {N : Type 0} (value : N → Fraction) (m : RobustModel) (cuts : List Cu
         adaptives = a i;
         rows = r i;
         row_sets = (rs
-            ∙ ap (λ ns. split.row_sets ++ ns) (number_for_each (row_of value) split.rows rows (cell_rows m c) r c _ refl))
+            ∙ ap (λ ns. split.row_sets ++ ns)
+            (number_for_each (row_of value) split.rows rows (cell_rows m c) r c _ refl))
             i;
       }
 

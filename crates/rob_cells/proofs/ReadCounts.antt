@@ -1,5 +1,5 @@
--- What the program counts of a valid model: what is taken away is there, what is multiplied is little, and the counts of
--- the split model are those that come of it.
+-- What the program counts of a valid model: what is taken away is there, what is multiplied is little, and the counts
+-- of the split model are those that come of it.
 use Rattle.std.proofs.Common.{◌≡◌, ℕ, ◌+◌, ◌-◌, ◌*◌, ◌≤◌, List, map, length, ap, sym, ◌∙◌, subst, arith}
 use Rattle.std.proofs.lemmas.List.{length-map}
 use Rattle.rob_algebra.specs.Fraction.{Fraction}

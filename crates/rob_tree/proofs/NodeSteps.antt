@@ -215,7 +215,8 @@ branch_read {limit = limit} {names = names} {naming = naming} {status = status} 
     }
 
 module _ {limit : ℕ} {m : RobustModel} {names : List ℕ} {status : Status} {text : List ℕ} {line b : ℕ}
-    {rest : List ℕ} {next more j : ℕ} {k : ℤ} (l : IsBranchRead limit m names status text line b rest next more j k) where
+    {rest : List ℕ} {next more j : ℕ} {k : ℤ}
+    (l : IsBranchRead limit m names status text line b rest next more j k) where
   -- what breaks a rule in the first of its nodes does in the branch
   pub below_cause : (e : TreeErr) → HasNodeCause limit m names status rest next (more + 1) e
       → HasNodeCause limit m names status text line b e
@@ -286,7 +287,8 @@ module _ {limit : ℕ} {m : RobustModel} {names : List ℕ} {status : Status} {t
         at.line at.branches =
         subst (λ z. IsNodeRead limit m names status text line b (split j z below above) at.rest.now at.line at.branches)
         (sym (seen_within limit k high l.small)) (both_read above at.rest.now at.line at.branches second) in
-        joined_read value limit m names status text line b r at (split j (to_z w64 (of_z w64 k)) below above) joined read
+        joined_read value limit m names status text line b r at (split j (to_z w64 (of_z w64 k)) below above) joined
+        read
 
 -- ---- a line that is no node's, and a leaf by its line
 pub head_told : (limit : ℕ) (m : RobustModel) (names : List ℕ) (status : Status) (text : List ℕ) (line b : ℕ)

@@ -53,14 +53,16 @@ grow_branch-grow_side-requires g t c κs within =
     let r = c.requires in
     let may = below_may r.branched g.met.N.Exact.limit_high r.valid.well_formed r.ready
     c.branch_below-at_most.ensures.branch in
-    (omega (arith, c.decreases), (within.0, (within.1, (r.valid, (r.ready.bounded, (branched_admits r.branched, may))))))
+    let some = branched_admits r.branched in
+    (omega (arith, c.decreases), (within.0, (within.1, (r.valid, (r.ready.bounded, (some, may))))))
 
 pub grow_branch-grow_side-requires-in-Ok : goal.grow_branch-grow_side-requires-in-Ok
 grow_branch-grow_side-requires-in-Ok g t c κs within =
     let r = c.requires in
     let may = above_may r.branched g.met.N.Exact.limit_high r.valid.well_formed r.ready
     c.branch_below-at_most.ensures.branch c.branch_above-at_least.ensures.branch c.in-Ok.ensures.grown in
-    (omega (arith, c.decreases), (within.0, (within.1, (r.valid, (r.ready.bounded, (branched_admits r.branched, may))))))
+    let some = branched_admits r.branched in
+    (omega (arith, c.decreases), (within.0, (within.1, (r.valid, (r.ready.bounded, (some, may))))))
 
 pub grow_branch-returns-in-Ok-grow_side-clause-grown : goal.grow_branch-returns-in-Ok-grow_side-clause-grown
 grow_branch-returns-in-Ok-grow_side-clause-grown g t c =

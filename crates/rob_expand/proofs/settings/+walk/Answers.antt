@@ -21,34 +21,34 @@ append_settings-returns-in_ok-upto-in-len1-up-clause-left t c =
 
 pub append_values-returns-then-branch : goal.append_values-returns-then-branch
 append_values-returns-then-branch t c =
-    let none = between_none c.args.upto.now c.args.inner.now c.args.values.now c.values.value
+    let e = between_none c.args.upto.now c.args.inner.now c.args.values.now c.values.value
     (lt_from c.args.upto.now c.values.value (sym c.in_ok-is_less.ensures.less ∙ c.if-branch.true)) in
     let l = c.values in
     record {
-      appended = walk_made c.args.upto.now c.args.inner.now c.args.values.now l.value l.settings none l.invariant.appended;
-      left = walk_ended c.args.upto.now c.args.inner.now c.args.values.now l.value l.left none l.invariant.left;
+      appended = walk_made c.args.upto.now c.args.inner.now c.args.values.now l.value l.settings e l.invariant.appended;
+      left = walk_ended c.args.upto.now c.args.inner.now c.args.values.now l.value l.left e l.invariant.left;
     }
 
 pub append_values-returns-in_default : goal.append_values-returns-in_default
 append_values-returns-in_default t c =
-    let none = walk_none c.args.upto.now c.args.inner.now c.args.values.now c.values.value c.in_ok-live.field-0
+    let e = walk_none c.args.upto.now c.args.inner.now c.args.values.now c.values.value c.in_ok-live.field-0
     c.in_default.is c.in_ok-live.ensures.live in
     let l = c.values in
     record {
-      appended = walk_made c.args.upto.now c.args.inner.now c.args.values.now l.value l.settings none l.invariant.appended;
-      left = walk_ended c.args.upto.now c.args.inner.now c.args.values.now l.value l.left none l.invariant.left;
+      appended = walk_made c.args.upto.now c.args.inner.now c.args.values.now l.value l.settings e l.invariant.appended;
+      left = walk_ended c.args.upto.now c.args.inner.now c.args.values.now l.value l.left e l.invariant.left;
     }
 
 pub append_values-returns-then-branch-2 : goal.append_values-returns-then-branch-2
 append_values-returns-then-branch-2 t c =
     let some = walk_some c.args.upto.now c.args.inner.now c.args.values.now c.values.value c.in-Some.live
     c.in_ok-live.field-0 c.in-Some.is c.in_ok-live.ensures.live in
-    let none = walk_over c.args.upto.now c.args.inner.now c.args.values.now c.values.value c.in-Some.live some.0 some.1
+    let e = walk_over c.args.upto.now c.args.inner.now c.args.values.now c.values.value c.in-Some.live some.0 some.1
     (lt_from c.args.upto.now c.in-Some.live (sym c.in_ok-is_less-2.ensures.less ∙ c.if-branch-2.true)) in
     let l = c.values in
     record {
-      appended = walk_made c.args.upto.now c.args.inner.now c.args.values.now l.value l.settings none l.invariant.appended;
-      left = walk_ended c.args.upto.now c.args.inner.now c.args.values.now l.value l.left none l.invariant.left;
+      appended = walk_made c.args.upto.now c.args.inner.now c.args.values.now l.value l.settings e l.invariant.appended;
+      left = walk_ended c.args.upto.now c.args.inner.now c.args.values.now l.value l.left e l.invariant.left;
     }
 
 pub append_values-returns-in_err-left-clause-left : goal.append_values-returns-in_err-left-clause-left

@@ -26,7 +26,8 @@ read_node-requires-in-Ok-read_node g t c κs within =
     let l = branch_read r.ready.scene c.in-Ok.ensures.head c.in-Branch.is in
     let first = c.in-Ok-read_node.ensures.read in
     let small = second_small l first r.small in
-    (omega (arith, c.decreases, second_shorter l first), (within.0, (within.1, (r.valid, (r.ready, (first.few, small))))))
+    let less = second_shorter l first in
+    (omega (arith, c.decreases, less), (within.0, (within.1, (r.valid, (r.ready, (first.few, small))))))
 
 pub returns-in-Err-read_node-2-clause-fault : goal.returns-in-Err-read_node-2-clause-fault
 returns-in-Err-read_node-2-clause-fault g t c =
