@@ -37,7 +37,8 @@ pub fn append_params_in<N: Exact>(
     params: &[Param<N>],
     set: &Text,
 ) -> Result<(), Memory>
-    ensures appended { OnOk result (map (parameter_of N.value) list.new ≡ map (parameter_of N.value) list.old
+    ensures appended { OnOk result (map (parameter_of N.value) list.new
+        ≡ map (parameter_of N.value) list.old
         ++ map (in_set set.now) (map (parameter_of N.value) params.now)) }
 {
     for param in params {

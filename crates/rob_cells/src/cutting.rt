@@ -36,7 +36,8 @@ pub fn cut_model<N: Exact>(
     ensures split { IfOk result (λ other. robust N.value other
         ≡ split_model (robust N.value model.now) (map (cut_of N.value) cuts.now)) }
     ensures valid { IfOk result (λ other. IsValid N.value other) }
-    ensures named { IfOk result (λ other. IsNamed (robust N.value model.now) → IsNamed (robust N.value other)) }
+    ensures named { IfOk result (λ other. IsNamed (robust N.value model.now)
+        → IsNamed (robust N.value other)) }
     // It has the statuses that the model has over pieces, and its sets are the cells.
     ensures pieces { IfOk result (λ other. HasPieceStatus (robust N.value model.now)
         (map (cut_of N.value) cuts.now) (robust N.value other)) }

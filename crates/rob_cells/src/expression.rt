@@ -54,7 +54,8 @@ fn terms_over<N: Exact>(
     requires valid { IsValid N.value model.now }
     requires some { 0 < c }
     requires few { c ≤ 8 }
-    requires inside { TermsInside (robust N.value model.now) (terms_of (map (signed_of N.value) terms.now)) }
+    requires inside { TermsInside (robust N.value model.now)
+        (terms_of (map (signed_of N.value) terms.now)) }
     ensures over { IfOk result (λ over. map (signed_of N.value) over
         ≡ map (signed_over (robust N.value model.now) c) (map (signed_of N.value) terms.now)) }
 {
@@ -80,9 +81,11 @@ fn factors_over<N: Exact>(
     requires valid { IsValid N.value model.now }
     requires some { 0 < c }
     requires few { c ≤ 8 }
-    requires inside { FactorsInside (robust N.value model.now) (factors_of (map (expression_of N.value) factors.now)) }
+    requires inside { FactorsInside (robust N.value model.now)
+        (factors_of (map (expression_of N.value) factors.now)) }
     ensures over { IfOk result (λ over. map (expression_of N.value) over
-        ≡ map (split.over_cell (robust N.value model.now) c) (map (expression_of N.value) factors.now)) }
+        ≡ map (split.over_cell (robust N.value model.now) c)
+        (map (expression_of N.value) factors.now)) }
 {
     let mut over = List::new(alloc);
     for factor in factors {

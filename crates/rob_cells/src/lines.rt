@@ -29,7 +29,8 @@ pub fn append_cell_lines<N: Exact>(
     requires few { c ≤ 8 }
     requires three { length cuts.now ≤ 3 }
     requires cuts { AreCuts (robust N.value model.now) (map (cut_of N.value) cuts.now) }
-    ensures appended { OnOk result (map (set_line_of N.value) list.new ≡ map (set_line_of N.value) list.old
+    ensures appended { OnOk result (map (set_line_of N.value) list.new
+        ≡ map (set_line_of N.value) list.old
         ++ split.cell_lines (robust N.value model.now) c (map (cut_of N.value) cuts.now)) }
 {
     append_lines(alloc, list, model, c)?;
@@ -46,8 +47,10 @@ fn append_lines<N: Exact>(
     requires valid { IsValid N.value model.now }
     requires some { 0 < c }
     requires few { c ≤ 8 }
-    ensures appended { OnOk result (map (set_line_of N.value) list.new ≡ map (set_line_of N.value) list.old
-        ++ map (split.line_over (robust N.value model.now) c) (map (set_line_of N.value) model.now.set_lines)) }
+    ensures appended { OnOk result (map (set_line_of N.value) list.new
+        ≡ map (set_line_of N.value) list.old
+        ++ map (split.line_over (robust N.value model.now) c)
+        (map (set_line_of N.value) model.now.set_lines)) }
 {
     for line in model.set_lines.items() {
         let next = line_over(alloc, model, c, line)?;
@@ -92,9 +95,11 @@ fn members_over<N: Exact>(
 ) -> Result<List<Member<N>>, Memory>
     requires valid { IsValid N.value model.now }
     requires few { c ≤ 8 }
-    requires inside { Each (IsMember (robust N.value model.now)) (map (member_of N.value) members.now) }
+    requires inside { Each (IsMember (robust N.value model.now))
+        (map (member_of N.value) members.now) }
     ensures over { IfOk result (λ over. map (member_of N.value) over
-        ≡ map (split.member_over (robust N.value model.now) c) (map (member_of N.value) members.now)) }
+        ≡ map (split.member_over (robust N.value model.now) c)
+        (map (member_of N.value) members.now)) }
 {
     let mut over = List::new(alloc);
     for member in members {
@@ -120,7 +125,8 @@ fn append_sides<N: Exact>(
     requires few { c ≤ 8 }
     requires three { length cuts.now ≤ 3 }
     requires cuts { AreCuts (robust N.value model.now) (map (cut_of N.value) cuts.now) }
-    ensures appended { OnOk result (map (set_line_of N.value) list.new ≡ map (set_line_of N.value) list.old
+    ensures appended { OnOk result (map (set_line_of N.value) list.new
+        ≡ map (set_line_of N.value) list.old
         ++ split.side_lines (robust N.value model.now) c (map (cut_of N.value) cuts.now)) }
 {
     for (j, cut) in cuts.iter().enumerate() {

@@ -34,7 +34,8 @@ pub fn has_good_names<N: Exact>(
 ) -> Result<bool, Memory>
     requires three { length cuts.now ≤ 3 }
     ensures test { IfOk result (λ good. Decides good
-        (HasGoodNames (split.split_model (robust N.value model.now) (map (cut_of N.value) cuts.now)))) }
+        (HasGoodNames (split.split_model (robust N.value model.now)
+        (map (cut_of N.value) cuts.now)))) }
 {
     let names = split_names(alloc, model, cuts)?;
     let distinct = are_distinct(alloc, names.items())?;
@@ -49,7 +50,8 @@ fn split_names<N: Exact>(
 ) -> Result<List<Text>, Memory>
     requires three { length cuts.now ≤ 3 }
     ensures names { IfOk result (λ names. names
-        ≡ declared_names (split.split_model (robust N.value model.now) (map (cut_of N.value) cuts.now))) }
+        ≡ declared_names
+        (split.split_model (robust N.value model.now) (map (cut_of N.value) cuts.now))) }
 {
     let cells = cell_count(cuts);
     let mut names = List::new(alloc);
@@ -167,7 +169,8 @@ fn append_bound_names<N: Exact>(
     c: u32,
 ) -> Result<(), Memory>
     ensures appended { OnOk result ((m : RobustModel) (k : ℕ) → names.new ≡ names.old
-        ++ map (λ (r : Row). r.name) (split.bound_rows m c k (map (adaptive_of N.value) adaptives.now))) }
+        ++ map (λ (r : Row). r.name)
+        (split.bound_rows m c k (map (adaptive_of N.value) adaptives.now))) }
 {
     for adaptive in adaptives {
         append_bound_name(alloc, names, &adaptive.name, b"_lower", c, adaptive.lower)?;
@@ -223,7 +226,8 @@ fn append_cell_copy_names<N: Exact>(
     c: u32,
 ) -> Result<(), Memory>
     ensures appended { OnOk result (names.new ≡ names.old
-        ++ map (λ (y : AdaptiveVariable). split.numbered y.name c) (map (adaptive_of N.value) adaptives.now)) }
+        ++ map (λ (y : AdaptiveVariable). split.numbered y.name c)
+        (map (adaptive_of N.value) adaptives.now)) }
 {
     for adaptive in adaptives {
         let name = numbered(copy_text(alloc, &adaptive.name)?, c)?;

@@ -40,7 +40,8 @@ fn cost_row<N: Exact>(alloc: Global, model: &Model<N>, c: u32) -> Result<RowDef<
     requires valid { IsValid N.value model.now }
     requires some { 0 < c }
     requires few { c ≤ 8 }
-    ensures row { IfOk result (λ row. row_of N.value row ≡ split.cost_row (robust N.value model.now) c) }
+    ensures row { IfOk result (λ row. row_of N.value row
+        ≡ split.cost_row (robust N.value model.now) c) }
 {
     Ok(RowDef {
         name: numbered(word(alloc, b"cost")?, c)?,
@@ -52,7 +53,8 @@ fn cost_row<N: Exact>(alloc: Global, model: &Model<N>, c: u32) -> Result<RowDef<
 
 /// How `cells_worst` is compared with a cell's cost.
 fn cost_rel(sense: Sense) -> Rel
-    ensures relation { (m : RobustModel) (c : ℕ) → relation_of result ≡ split.cost_relation m c (sense_of sense) }
+    ensures relation { (m : RobustModel) (c : ℕ)
+        → relation_of result ≡ split.cost_relation m c (sense_of sense) }
 {
     match sense {
         Sense::Minimise => Rel::AtLeast,
@@ -71,7 +73,8 @@ fn append_rows<N: Exact>(
     requires some { 0 < c }
     requires few { c ≤ 8 }
     ensures appended { OnOk result (map (row_of N.value) list.new ≡ map (row_of N.value) list.old
-        ++ map (split.row_over (robust N.value model.now) c) (map (row_of N.value) model.now.rows)) }
+        ++ map (split.row_over (robust N.value model.now) c)
+        (map (row_of N.value) model.now.rows)) }
 {
     for row in model.rows.items() {
         let next = row_over(alloc, model, c, row)?;
@@ -122,7 +125,8 @@ fn append_bound_rows<N: Exact>(
     requires some { 0 < c }
     requires few { c ≤ 8 }
     ensures appended { OnOk result (map (row_of N.value) list.new ≡ map (row_of N.value) list.old
-        ++ split.bound_rows (robust N.value model.now) c 0 (map (adaptive_of N.value) model.now.adaptives)) }
+        ++ split.bound_rows (robust N.value model.now) c 0
+        (map (adaptive_of N.value) model.now.adaptives)) }
 {
     let mut k: u32 = 0;
     for adaptive in model.adaptives.items() {

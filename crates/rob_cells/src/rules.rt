@@ -23,7 +23,8 @@ pub fn broken_rule<N: Exact>(
 ) -> Result<Option<u8>, Memory>
     requires valid { IsValid N.value model.now }
     requires few { length cuts.now ≤ 3 }
-    ensures rule { IfOk result (IsFirstBroken (robust N.value model.now) (map (cut_of N.value) cuts.now)) }
+    ensures rule { IfOk result (IsFirstBroken (robust N.value model.now)
+        (map (cut_of N.value) cuts.now)) }
     // Memory is refused only where the model has no named set.
     ensures alone { OnErr result (model.now.sets ≡ []) }
 {

@@ -52,7 +52,8 @@ impl Counts {
     /// Whether no limit is passed. The cells of at most three cuts are never too many.
     fn are_within(self) -> bool
         requires small { AreSmall self }
-        ensures test { (m : RobustModel) → AreCountsOf m self → length m.sets ≤ 8 → Decides result (IsWithinLimits m) }
+        ensures test { (m : RobustModel) → AreCountsOf m self → length m.sets ≤ 8
+            → Decides result (IsWithinLimits m) }
     {
         let rows_and_bounds = self.set_rows + 2 * (self.parameters + self.members) + 1;
         self.parameters <= MOST_PARAMETERS
@@ -68,7 +69,8 @@ impl Counts {
 fn split_counts<N: Exact>(model: &Model<N>, cuts: &[Cut<N>]) -> Counts
     requires valid { IsValid N.value model.now }
     requires three { length cuts.now ≤ 3 }
-    ensures counts { AreCountsOf (split_model (robust N.value model.now) (map (cut_of N.value) cuts.now)) result }
+    ensures counts { AreCountsOf (split_model (robust N.value model.now)
+        (map (cut_of N.value) cuts.now)) result }
     ensures small { AreSmall result }
 {
     let cells = cell_count(cuts) as u64;

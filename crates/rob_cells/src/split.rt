@@ -93,7 +93,8 @@ fn add_cell<N: Exact>(
     requires three { length cuts.now ≤ 3 }
     requires cuts { AreCuts (robust N.value model.now) (map (cut_of N.value) cuts.now) }
     ensures added { OnOk result (robust N.value split.new
-        ≡ with_cell (robust N.value model.now) (map (cut_of N.value) cuts.now) c (robust N.value split.old)) }
+        ≡ with_cell (robust N.value model.now) (map (cut_of N.value) cuts.now) c
+        (robust N.value split.old)) }
 {
     let set = numbered(word(alloc, b"cell")?, c)?;
     append_params_in(alloc, &mut split.params, model.params.items(), &set)?;

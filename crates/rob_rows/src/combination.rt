@@ -42,9 +42,11 @@ pub fn combine_lowest(
     requires p_size { nat_abs factors.p < 2 ^ 62 }
     requires q_size { nat_abs factors.q < 2 ^ 62 }
     requires rows { AreRowsWithin limit (length out.old) top.now low.now }
-    ensures part { OnOk result (IsPrimitivePart out.new (combination factors.p top.now factors.q low.now)) }
+    ensures part { OnOk result (IsPrimitivePart out.new
+        (combination factors.p top.now factors.q low.now)) }
     ensures within { OnOk result (IsWithin limit out.new) }
-    ensures wide { OnErr result (HasWidePart limit (combination factors.p top.now factors.q low.now)) }
+    ensures wide { OnErr result (HasWidePart limit
+        (combination factors.p top.now factors.q low.now)) }
 {
     if factors.p == 1 && factors.q == 0 {
         out.copy_from_slice(top);

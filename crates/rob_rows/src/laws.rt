@@ -28,8 +28,8 @@ pub fn primitive_part_laws()
 /// The law of the order that `lex_cmp` tells. It does nothing, and its clause is the claim.
 pub fn lexicographic_law()
     // The first place where p * b and q * a differ decides.
-    ensures first_difference { (a b : List ℤ) (p q : ℤ) → pos 0 <ℤ p → pos 0 <ℤ q → length a ≡ length b
-        → MatchOrdering (slice_cmp cmp_ℚ (quotients a p) (quotients b q))
+    ensures first_difference { (a b : List ℤ) (p q : ℤ) → pos 0 <ℤ p → pos 0 <ℤ q
+        → length a ≡ length b → MatchOrdering (slice_cmp cmp_ℚ (quotients a p) (quotients b q))
         (IsLexPositive (length a) (λ k. (p *ℤ at b k) -ℤ (q *ℤ at a k)))
         ((k : ℕ) → k < length a → (p *ℤ at b k) -ℤ (q *ℤ at a k) ≡ pos 0)
         (IsLexPositive (length a) (λ k. (q *ℤ at a k) -ℤ (p *ℤ at b k))) }

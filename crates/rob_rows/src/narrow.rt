@@ -39,7 +39,8 @@ pub fn bound_of(factors: Factors, bound: u64, other: u64, limit: u64) -> Option<
     requires limit { limit < 2 ^ 62 }
     requires bound_in { bound ≤ limit }
     requires other_in { other ≤ limit }
-    ensures bound { IfSome result (λ sum. sum ≡ nat_abs factors.p * bound + nat_abs factors.q * other) }
+    ensures bound { IfSome result (λ sum. sum
+        ≡ nat_abs factors.p * bound + nat_abs factors.q * other) }
     ensures within { IfSome result (λ sum. sum ≤ limit) }
     ensures wide { IfNone result (limit < nat_abs factors.p * bound + nat_abs factors.q * other) }
 {

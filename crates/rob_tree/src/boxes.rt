@@ -86,7 +86,8 @@ fn lesser<N: Exact>(declared: Option<N>, number: N) -> N
 
 /// The greater of a declared bound and a number.
 fn greater<N: Exact>(declared: Option<N>, number: N) -> N
-    ensures greater { N.value result ≡ boxes.greater (option_map N.value declared) (N.value number) }
+    ensures greater { N.value result
+        ≡ boxes.greater (option_map N.value declared) (N.value number) }
 {
     match declared {
         None => number,

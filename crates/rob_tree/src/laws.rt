@@ -22,17 +22,22 @@ pub fn spelling_laws()
     ensures spelled_once { (m : RobustModel) (limit : ℕ) (names : List ℕ) (t : Tree) (r s : List ℕ)
         → IsTextOfTree limit m names t r → IsTextOfTree limit m names t s → r ≡ s }
     // Where no name has a space or a line's end, the text of a tree whose numbers fit breaks no rule.
-    ensures breaks_none { (m : RobustModel) (limit : ℕ) (names : List ℕ) → IsModel m → IsNamed m → IsNamedInWords m
-        → limit ≤ 2 ^ 62 - 1 → KeepsBothBounds m names → (t : Tree) (text : List ℕ) → IsTextOfTree limit m names t text
+    ensures breaks_none { (m : RobustModel) (limit : ℕ) (names : List ℕ) → IsModel m → IsNamed m
+        → IsNamedInWords m
+        → limit ≤ 2 ^ 62 - 1 → KeepsBothBounds m names → (t : Tree) (text : List ℕ)
+        → IsTextOfTree limit m names t text
         → TreeFits limit m t → (rule line : ℕ) → HasCause limit m names text (Rule rule line) → ⊥ }
     // Such a text is that of one tree alone.
-    ensures read_once { (m : RobustModel) (limit : ℕ) (names : List ℕ) → IsModel m → IsNamed m → IsNamedInWords m
+    ensures read_once { (m : RobustModel) (limit : ℕ) (names : List ℕ) → IsModel m → IsNamed m
+        → IsNamedInWords m
         → limit ≤ 2 ^ 62 - 1 → KeepsBothBounds m names → (t u : Tree) (text : List ℕ)
         → IsTextOfTree limit m names t text → IsTextOfTree limit m names u text
         → TreeFits limit m t → TreeFits limit m u → t ≡ u }
     // A text breaks one rule, at one line.
-    ensures one_cause { (m : RobustModel) (limit : ℕ) (names : List ℕ) → IsModel m → IsNamed m → IsNamedInWords m
-        → limit ≤ 2 ^ 62 - 1 → KeepsBothBounds m names → (text : List ℕ) (rule line other number : ℕ)
-        → HasCause limit m names text (Rule rule line) → HasCause limit m names text (Rule other number)
-        → (rule ≡ other) × (line ≡ number) }
+    ensures one_cause { (m : RobustModel) (limit : ℕ) (names : List ℕ) → IsModel m → IsNamed m
+        → IsNamedInWords m
+        → limit ≤ 2 ^ 62 - 1 → KeepsBothBounds m names
+        → (text : List ℕ) (rule line other number : ℕ)
+        → HasCause limit m names text (Rule rule line)
+        → HasCause limit m names text (Rule other number) → (rule ≡ other) × (line ≡ number) }
 {}

@@ -138,7 +138,8 @@ fn read_leaf<L: Ledger>(word: &[u8], ledger: &mut L) -> Option<i64>
 /// The number that a line of the leaf that shows the status tells.
 fn best_of<L: Ledger>(line: &[u8], ledger: &mut L) -> Result<i64, Offence>
     ensures best { MatchResult result
-        (λ z. (nat_abs z ≤ greatest_leaf) × (words_in line.now ≡ codes "best" ∷ (signed_decimal z ∷ [])))
+        (λ z. (nat_abs z ≤ greatest_leaf)
+        × (words_in line.now ≡ codes "best" ∷ (signed_decimal z ∷ [])))
         (λ o. IsBestFault (words_in line.now) o) }
     ensures counted { NeverFell L.ops L.wides ledger.old ledger.new }
 {

@@ -104,8 +104,10 @@ fn read_branch<N: Exact, L: Ledger>(
     line: &[u8],
     ledger: &mut L,
 ) -> Result<Head, Offence>
-    requires scene { IsSceneOf (robust N.value scene.model.now) scene.named.now (naming scene.names.now) }
-    requires other { (line.now ≢ codes "leaf") × ((status_of scene.status ≡ unbounded) → line.now ≢ codes "open") }
+    requires scene { IsSceneOf (robust N.value scene.model.now) scene.named.now
+        (naming scene.names.now) }
+    requires other { (line.now ≢ codes "leaf")
+        × ((status_of scene.status ≡ unbounded) → line.now ≢ codes "open") }
     ensures head { MatchResult result
         (λ h. IsHead N.limit scene.entry.named.now (naming scene.entry.names.now).columns
         (status_of scene.entry.status) branches (words_in line.now) h)
@@ -147,7 +149,8 @@ fn head_of<N: Exact, L: Ledger>(
     line: &[u8],
     ledger: &mut L,
 ) -> Result<Head, Offence>
-    requires scene { IsSceneOf (robust N.value scene.model.now) scene.named.now (naming scene.names.now) }
+    requires scene { IsSceneOf (robust N.value scene.model.now) scene.named.now
+        (naming scene.names.now) }
     ensures head { MatchResult result
         (λ h. IsHead N.limit scene.entry.named.now (naming scene.entry.names.now).columns
         (status_of scene.entry.status) branches (words_in line.now) h)
@@ -170,7 +173,8 @@ fn read_head<'a, N: Exact, L: Ledger>(
     at: Mark<'a>,
     ledger: &mut L,
 ) -> Result<HeadRead<'a>, Offence>
-    requires scene { IsSceneOf (robust N.value scene.model.now) scene.named.now (naming scene.names.now) }
+    requires scene { IsSceneOf (robust N.value scene.model.now) scene.named.now
+        (naming scene.names.now) }
     requires small { at.line + length at.rest.now < 2 ^ 32 }
     ensures head { MatchResult result
         (λ h. IsHeadRead N.limit scene.entry.named.now (naming scene.entry.names.now).columns
@@ -208,8 +212,10 @@ fn read_leaf<'a, N: Exact, L: Ledger>(
     requires few { at.branches < 1000 }
     requires short { length at.rest.now ≤ 2 ^ 30 }
     requires small { at.line + length at.rest.now ≤ 2 ^ 30 + 1 }
-    ensures read { IfOk result (λ r. IsLeafRead N.limit (robust N.value scene.entry.model.now) at.entry.rest.now
-        at.entry.line at.entry.branches (node_of N.value r.node) r.at.rest.now r.at.line r.at.branches) }
+    ensures read { IfOk result (λ r. IsLeafRead N.limit
+        (robust N.value scene.entry.model.now) at.entry.rest.now
+        at.entry.line at.entry.branches
+        (node_of N.value r.node) r.at.rest.now r.at.line r.at.branches) }
     ensures fault { IfErr result (HasLeafCause N.limit (robust N.value scene.entry.model.now)
         at.entry.rest.now at.entry.line) }
     ensures counted { NeverFell L.ops L.wides ledger.old ledger.new }
@@ -238,7 +244,8 @@ fn joined<'a, N: Exact>(
     above: NodeRead<'a, N>,
 ) -> Result<NodeRead<'a, N>, TreeErr>
     ensures joined { IfOk result (λ r. (r.at ≡ above.entry.at)
-        × (node_of N.value r.node ≡ split column k (node_of N.value below) (node_of N.value above.entry.node))) }
+        × (node_of N.value r.node
+        ≡ split column k (node_of N.value below) (node_of N.value above.entry.node))) }
     ensures memory { IfErr result (λ e. e ≡ Memory) }
 {
     let node = split_node(alloc, column, k, below, above.node)?;
@@ -253,13 +260,16 @@ pub fn read_node<'a, N: Exact, L: Ledger>(
     ledger: &mut L,
 ) -> Result<NodeRead<'a, N>, TreeErr>
     requires valid { IsValid N.value scene.model.now }
-    requires ready { CanReadNodes (robust N.value scene.model.now) scene.named.now (naming scene.names.now) }
+    requires ready { CanReadNodes (robust N.value scene.model.now) scene.named.now
+        (naming scene.names.now) }
     requires few { at.branches < 1000 }
     requires small { at.line + length at.rest.now ≤ 2 ^ 30 + 1 }
-    ensures read { IfOk result (λ r. IsNodeRead N.limit (robust N.value scene.entry.model.now) scene.entry.named.now
+    ensures read { IfOk result (λ r. IsNodeRead N.limit
+        (robust N.value scene.entry.model.now) scene.entry.named.now
         (status_of scene.entry.status) at.entry.rest.now at.entry.line at.entry.branches
         (node_of N.value r.node) r.at.rest.now r.at.line r.at.branches) }
-    ensures fault { IfErr result (HasNodeCause N.limit (robust N.value scene.entry.model.now) scene.entry.named.now
+    ensures fault { IfErr result (HasNodeCause N.limit
+        (robust N.value scene.entry.model.now) scene.entry.named.now
         (status_of scene.entry.status) at.entry.rest.now at.entry.line at.entry.branches) }
     ensures counted { NeverFell L.ops L.wides ledger.old ledger.new }
 {

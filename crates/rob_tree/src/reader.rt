@@ -39,11 +39,13 @@ fn is_leaf_number(status: Status, best: i64, branches: u32) -> bool
 /// The tree of a root that was read, with nothing behind it and `best` naming a leaf.
 fn finished<N: Exact>(claim: Claim<N>, best: i64, root: NodeRead<'_, N>) -> Result<Tree<N>, TreeErr>
     requires few { root.at.branches < 1000 }
-    ensures ended { IfOk result (λ tree. IsEnded (status_of claim.status) best root.entry.at.rest.now
-        root.entry.at.branches) }
+    ensures ended { IfOk result (λ tree. IsEnded
+        (status_of claim.status) best root.entry.at.rest.now root.entry.at.branches) }
     ensures tree { IfOk result (λ tree. tree_of N.value tree
-        ≡ tree_with (status_of claim.status) (N.value claim.value) best (node_of N.value root.entry.node)) }
-    ensures fault { IfErr result (HasEndCause (status_of claim.status) best root.entry.at.rest.now root.entry.at.line
+        ≡ tree_with (status_of claim.status) (N.value claim.value) best
+        (node_of N.value root.entry.node)) }
+    ensures fault { IfErr result (HasEndCause
+        (status_of claim.status) best root.entry.at.rest.now root.entry.at.line
         root.entry.at.branches) }
 {
     if !root.at.rest.is_empty() {
@@ -69,13 +71,17 @@ fn read_root<N: Exact, L: Ledger>(
     ledger: &mut L,
 ) -> Result<Tree<N>, TreeErr>
     requires valid { IsValid N.value scene.model.now }
-    requires ready { CanReadNodes (robust N.value scene.model.now) scene.named.now (naming scene.names.now) }
+    requires ready { CanReadNodes (robust N.value scene.model.now) scene.named.now
+        (naming scene.names.now) }
     requires same { scene.status ≡ claim.status }
     requires small { shown.line + length shown.rest.now ≤ 2 ^ 30 + 1 }
     requires best { nat_abs shown.best ≤ greatest_leaf }
-    ensures read { IfOk result (λ tree. IsRootRead N.limit (robust N.value scene.entry.model.now) scene.entry.named.now
-        (status_of claim.status) shown.entry.best (N.value claim.value) shown.entry.rest.now (tree_of N.value tree)) }
-    ensures fault { IfErr result (HasRootCause N.limit (robust N.value scene.entry.model.now) scene.entry.named.now
+    ensures read { IfOk result (λ tree. IsRootRead N.limit
+        (robust N.value scene.entry.model.now) scene.entry.named.now
+        (status_of claim.status) shown.entry.best (N.value claim.value) shown.entry.rest.now
+        (tree_of N.value tree)) }
+    ensures fault { IfErr result (HasRootCause N.limit
+        (robust N.value scene.entry.model.now) scene.entry.named.now
         (status_of claim.status) shown.entry.best shown.entry.rest.now shown.entry.line) }
     ensures counted { NeverFell L.ops L.wides ledger.old ledger.new }
 {

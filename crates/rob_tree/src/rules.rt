@@ -62,7 +62,8 @@ fn range_at<N: Exact>(model: &Model<N>, column: u32) -> u64
 /// The product of two numbers, the first at most 1,000, or none where it is over 1,000.
 fn few(so_far: u64, range: u64) -> Option<u64>
     requires few { so_far ≤ 1000 }
-    ensures product { MatchOption result (1000 < so_far * range) (λ x. (x ≡ so_far * range) × (x ≤ 1000)) }
+    ensures product { MatchOption result (1000 < so_far * range)
+        (λ x. (x ≡ so_far * range) × (x ≤ 1000)) }
 {
     let product = so_far as u128 * range as u128;
     if product <= 1000 {
@@ -74,7 +75,8 @@ fn few(so_far: u64, range: u64) -> Option<u64>
 
 /// Whether the product of the ranges is at most 1,000.
 fn are_few<N: Exact>(model: &Model<N>, names: &[u32]) -> bool
-    ensures test { result ≡ leb (ranges.product_of_ranges (robust N.value model.now).variables names.now) 1000 }
+    ensures test { result ≡ leb (ranges.product_of_ranges
+        (robust N.value model.now).variables names.now) 1000 }
 {
     let mut so_far = 1;
     for column in names {

@@ -25,7 +25,8 @@ use std::alloc::Global;
 pub fn write_tree<N: Exact>(alloc: Global, model: &Model<N>, tree: &Tree<N>) -> Result<Text, Memory>
     requires valid { IsValid N.value model.now }
     requires shape { IsTreeOf N.limit (robust N.value model.now) (tree_of N.value tree.now) }
-    ensures text { IfOk result (λ text. text ≡ tree_text (robust N.value model.now) (tree_of N.value tree.now)) }
+    ensures text { IfOk result (λ text. text
+        ≡ tree_text (robust N.value model.now) (tree_of N.value tree.now)) }
 {
     let mut text = Text::new(alloc);
     put_claim(&mut text, tree)?;
@@ -48,7 +49,8 @@ fn put_claim<N: Exact>(out: &mut Text, tree: &Tree<N>) -> Result<(), Memory>
 
 /// Appends the line of the leaf that shows it, where one does.
 fn put_best<N: Exact>(out: &mut Text, tree: &Tree<N>) -> Result<(), Memory>
-    ensures appended { OnOk result (out.new ≡ out.old ++ best_text (status_of tree.now.status) tree.now.best) }
+    ensures appended { OnOk result (out.new
+        ≡ out.old ++ best_text (status_of tree.now.status) tree.now.best) }
 {
     match tree.status {
         Status::Optimal => put_number(out, tree.best),
@@ -59,7 +61,8 @@ fn put_best<N: Exact>(out: &mut Text, tree: &Tree<N>) -> Result<(), Memory>
 
 /// Appends the line of a leaf's number.
 fn put_number(out: &mut Text, best: u32) -> Result<(), Memory>
-    ensures appended { OnOk result (out.new ≡ out.old ++ spaced (codes "best" ∷ (decimal best ∷ []))) }
+    ensures appended { OnOk result (out.new
+        ≡ out.old ++ spaced (codes "best" ∷ (decimal best ∷ []))) }
 {
     let mut buffer = Buffer::new();
     put_words(out, b"best", buffer.format(best).as_bytes())
@@ -98,7 +101,8 @@ fn put_leaf<N: Exact>(
     requires valid { IsValid N.value model.now }
     requires shape { HasShape (robust N.value model.now) (certificate_of N.value cert.now) }
     ensures appended { OnOk result (out.new ≡ out.old
-        ++ (spaced (codes "leaf" ∷ []) ++ cert_text (robust N.value model.now) (certificate_of N.value cert.now))) }
+        ++ (spaced (codes "leaf" ∷ []) ++ cert_text (robust N.value model.now)
+        (certificate_of N.value cert.now))) }
 {
     out.push(b"leaf\n")?;
     let text = write_cert(alloc, model, cert)?;
