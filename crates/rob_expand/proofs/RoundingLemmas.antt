@@ -37,11 +37,11 @@ rest_is (negsuc a) n r over is =
     let low : a % n < n = mod-lt a over in
     let q = a / n in
     let next = pos q +ℤ pos 1 in
-    let turned : negsuc q ≡ negsuc 0 *ℤ next = omega (arith, ints) in
+    let negated : negsuc q ≡ negsuc 0 *ℤ next = omega (arith, ints) in
     let product : pos n *ℤ pos q ≡ pos (q * n) = ap pos (mul_comm n q) in
     let apart : pos n *ℤ next ≡ (pos n *ℤ pos q) +ℤ (pos n *ℤ pos 1) = mul-add (pos n) (pos q) (pos 1) in
     let e : pos n *ℤ negsuc q ≡ negsuc 0 *ℤ (pos n *ℤ next) =
-    ap (λ (z : ℤ). pos n *ℤ z) turned ∙ mul_left_comm (pos n) (negsuc 0) next in
+    ap (λ (z : ℤ). pos n *ℤ z) negated ∙ mul_left_comm (pos n) (negsuc 0) next in
     record {
       quotient = negsuc (a / n);
       whole = omega (arith, ints, parts, same, e, apart, product, low);
