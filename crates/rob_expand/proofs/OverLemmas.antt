@@ -67,6 +67,14 @@ pub record HasEachLeft (limit : ℕ) (x : Code) (vs : List ℤ) (first : Bool) (
   pub before : ℤ
   pub begun : inside ≡ before ∷ vs
 
+pub each_begun : {limit : ℕ} {x : Code} {vs run all inside : List ℤ} {room : ℕ} {before : ℤ} → run ≡ all
+    → inside ≡ before ∷ vs → HasEachLeft limit x vs true run room all room inside
+each_begun {limit = limit} {x = x} {vs = vs} {room = room} {before = before} is begun = record {
+  same = ap (λ (l : List ℤ). each_left limit (at_value limit x vs) true l room) is;
+  before = before;
+  begun = begun;
+}
+
 module _ {limit : ℕ} {x : Code} {vs : List ℤ} {first : Bool} {run : List ℤ} {left : ℕ} {all : List ℤ} {room : ℕ}
     {inside : List ℤ} (h : HasEachLeft limit x vs first run left all room inside) where
   module _ {value : ℤ} {new now shown : List ℤ} {sign : ℕ} (is : run ≡ value ∷ new) (put : now ≡ set inside 0 value)
