@@ -2,7 +2,7 @@
 use Rattle.std.proofs.Common.{◌≡◌, ◌≢◌, ◌⊎◌, ◌↔◌, ℕ, ◌+◌, ◌-◌, ◌<◌, ◌≤◌, refl, sym, ap, ◌∙◌, subst, arith, inl, inr, Bool, true, false, not, List, map, length, get_or, set, Result, Ok, Err, OnErr}
 use Rattle.std.specs.Prelude.{IfOk, IsTrue, IsFalse}
 use Rattle.std.proofs.lemmas.Bool.{cases_eq, cases_lt}
-use Rattle.std.proofs.lemmas.List.{length-set, get_or-set_same, get_or-set_other}
+use Rattle.std.proofs.lemmas.List.{length-map, length-set, map-set, get_or_default, get_or-set_same, get_or-set_other}
 use Rattle.std.proofs.lemmas.Int.{ints}
 use lib.IntN.{ℤ, pos, ◌*ℤ◌, ◌-ℤ◌}
 use lib.Signed.{◌<ℤ◌}
@@ -12,6 +12,7 @@ use Rattle.rob_linear.specs.Multiples.{IsClearedBy}
 use Rattle.rob_linear.proofs.Square.{cases_zero}
 use Rattle.rob_entries.specs.Maps.{IsMapped, AreMarked}
 use Rattle.rob_entries.specs.Updates.{AreListed}
+use Rattle.rob_entries.proofs.MappedRows.{number_read}
 use Rattle.rob_entries.proofs.WrittenRows.{part, stored, row_at, stored_here, stored_other, stored_length}
 
 -- the negation of a test
@@ -41,6 +42,35 @@ marked_write numbers marks h k x mark l zero =
             ∙ h.zeros j (subst (λ n. j < n) (length-set numbers k x) jl) d.1
       ];
     }
+
+-- two numbers change places
+pub swapped : {X : Type 0} (f : X → ℤ) (items : List X) (a b : ℕ) (x y : X) → a < length items → b < length items
+    → x ≡ get_or items a x → y ≡ get_or items b y
+    → map f (set (set items a y) b x) ≡ set (set (map f items) a (at (map f items) b)) b (at (map f items) a)
+swapped f items a b x y al bl ex ey =
+    map-set f (set items a y) b x ∙ ap (λ (t : List ℤ). set t b (f x)) (map-set f items a y)
+    ∙ ap (λ z. set (set (map f items) a (f y)) b z) (number_read f items a x al ex)
+    ∙ ap (λ z. set (set (map f items) a z) b (at (map f items) a)) (number_read f items b y bl ey)
+
+-- and so do their marks
+pub marked_swap : {X : Type 0} (f : X → ℤ) (items : List X) (marks : List Bool) → IsMapped (map f items) marks
+    → (a b : ℕ) (x y : X) (m n : Bool) → a < length items → b < length items → x ≡ get_or items a x
+    → y ≡ get_or items b y → m ≡ get_or marks a m → n ≡ get_or marks b n
+    → IsMapped (map f (set (set items a y) b x)) (set (set marks a n) b m)
+marked_swap f items marks h a b x y m n al bl ex ey em en =
+    let size : length marks ≡ length items = h.size ∙ length-map items f in
+    let na : f x ≡ at (map f items) a = number_read f items a x al ex in
+    let nb : f y ≡ at (map f items) b = number_read f items b y bl ey in
+    let ma : get_or marks a true ≡ m = get_or_default marks a true m (omega arith) ∙ sym em in
+    let mb : get_or marks b true ≡ n = get_or_default marks b true n (omega arith) ∙ sym en in
+    let la : a < length (map f items) = subst (λ k. a < k) (sym (length-map items f)) al in
+    let lb : b < length (map f items) = subst (λ k. b < k) (sym (length-map items f)) bl in
+    let first : IsMapped (set (map f items) a (f y)) (set marks a n) =
+    marked_write (map f items) marks h a (f y) n la (λ e. nb ∙ h.zeros b lb (mb ∙ e)) in
+    subst (λ (t : List ℤ). IsMapped t (set (set marks a n) b m))
+    (sym (map-set f (set items a y) b x ∙ ap (λ (t : List ℤ). set t b (f x)) (map-set f items a y)))
+    (marked_write (set (map f items) a (f y)) (set marks a n) first b (f x) m
+    (subst (λ k. b < k) (sym (length-set (map f items) a (f y))) lb) (λ e. na ∙ h.zeros a la (ma ∙ e)))
 
 -- ---- the marks of listed places
 -- a mark that is off stands at one of the first places, where the row is 0; or it was off, and stands at none of them

@@ -176,15 +176,20 @@ impl<E: Entry> Cells<E> {
         self.marks[k] = mark_of(entry);
     }
 
-    /// Exchanges the numbers at two places.
+    /// Exchanges the numbers at two places, and their marks.
     pub fn swap(&mut self, a: usize, b: usize)
         requires a_in { a < length self.old }
         requires b_in { b < length self.old }
         ensures swapped { self.new ≡ set (set self.old a (at self.old b)) b (at self.old a) }
     {
-        let entry = self.get(a);
-        self.set(a, self.get(b));
-        self.set(b, entry);
+        let first = self.items[a];
+        let second = self.items[b];
+        let first_mark = self.marks[a];
+        let second_mark = self.marks[b];
+        self.items[a] = second;
+        self.items[b] = first;
+        self.marks[a] = second_mark;
+        self.marks[b] = first_mark;
     }
 
     /// Negates a row's entries.
