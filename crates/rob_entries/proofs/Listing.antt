@@ -14,24 +14,32 @@ pub record IsListedTo (row : Vector) (k : ℕ) (places : List ℕ) (listed : ℕ
   pub all : (i : ℕ) → i < k → row i ≢ pos 0 → (j : ℕ) × (j < listed) × (i ≡ get_or places j 0)
 
 module _ (row : Vector) (k : ℕ) (places : List ℕ) (listed : ℕ) (h : IsListedTo row k places listed) where
-  -- a place where the row is 0
-  pub skip_place : row k ≡ pos 0 → IsListedTo row (k + 1) places listed
-  skip_place z = record {
-    few = let l : listed ≤ k = h.few in omega arith;
-    inside = λ j jl. let l : get_or places j 0 < k = h.inside j jl in omega arith;
-    rising = h.rising;
-    all = λ i il some. elim (cases_eq i k) [
-      | inl e ↦ absurd (some (ap row e ∙ z))
-      | inr d ↦ h.all i (omega arith) some
-    ];
-  }
-
   -- a place more
   here : listed < length places → get_or (set places listed k) listed 0 ≡ k
   here l = get_or-set_same places listed k 0 l
 
   before : (j : ℕ) → j < listed → get_or (set places listed k) j 0 ≡ get_or places j 0
   before j l = get_or-set_other places listed j k 0 (λ e. absurd (omega arith))
+
+  -- a place where the row is 0 is written behind the list
+  pub skip_place : row k ≡ pos 0 → IsListedTo row (k + 1) (set places listed k) listed
+  skip_place z = record {
+    few = let l : listed ≤ k = h.few in omega arith;
+    inside = λ j jl.
+        let s : get_or (set places listed k) j 0 ≡ get_or places j 0 = before j jl in
+        let l : get_or places j 0 < k = h.inside j jl in
+        omega arith;
+    rising = λ i j il jl.
+        let s : get_or (set places listed k) i 0 ≡ get_or places i 0 = before i (omega arith) in
+        let t : get_or (set places listed k) j 0 ≡ get_or places j 0 = before j jl in
+        let l : get_or places i 0 < get_or places j 0 = h.rising i j il jl in
+        omega arith;
+    all = λ i il some. elim (cases_eq i k) [
+      | inl e ↦ absurd (some (ap row e ∙ z))
+      | inr d ↦
+          let a = h.all i (omega arith) some in (a.0, a.1, a.2 ∙ sym (before a.0 a.1))
+    ];
+  }
 
   pub list_place : listed < length places → IsListedTo row (k + 1) (set places listed k) (listed + 1)
   list_place room = record {

@@ -183,7 +183,8 @@ impl<E: Entry> PivotRow<E> {
     }
 }
 
-/// Lists the places where the row is not 0 at the front of `places`, and tells how many there are.
+/// Lists the places where the row is not 0 at the front of `places`, and tells how many there are. Each place is
+/// written behind the list, whether or not it stays there, since a branch on it would often be mispredicted.
 fn list_places<E: Entry>(row: &[E], places: &mut [usize]) -> usize
     requires room { length places.old ≡ length row.now }
     ensures few { result ≤ length places.new }
@@ -193,8 +194,8 @@ fn list_places<E: Entry>(row: &[E], places: &mut [usize]) -> usize
     let mut listed = 0;
     for k in 0..row.len() {
         let some = !row[k].is_zero();
+        places[listed] = k;
         if some {
-            places[listed] = k;
             listed += 1;
         }
     }

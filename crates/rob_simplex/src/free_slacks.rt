@@ -33,8 +33,8 @@ impl<E: Entry> Dictionary<E> {
         let mut listed = 0;
         for k in 0..seen {
             let place = self.places[n + k];
+            order[listed] = k;
             if place < first {
-                order[listed] = k;
                 listed += 1;
             }
         }

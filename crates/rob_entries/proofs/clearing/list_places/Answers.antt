@@ -14,14 +14,12 @@ loop-k-preserved g c =
     number_read g.E.Entry.value c.args.row.now k c.index-row-k.result c.loop-k-test.true c.index-row-k.is in
     elim c.if-some.branch [
       | then-some w ↦
-          subst (λ t. IsListedTo row (k + 1) t c.if-some.listed) (sym w.places-is)
-          (subst (λ n. IsListedTo row (k + 1) (set c.loop-k.places c.loop-k.listed k) n) (sym w.listed-is)
-          (list_place row k c.loop-k.places c.loop-k.listed c.loop-k.invariant (omega arith)))
+          subst (λ n. IsListedTo row (k + 1) (set c.loop-k.places c.loop-k.listed k) n) (sym w.listed-is)
+          (list_place row k c.loop-k.places c.loop-k.listed c.loop-k.invariant (omega arith))
       | else-some w ↦
           let z : g.E.Entry.value c.index-row-k.result ≡ pos 0 = search rules in
-          subst (λ t. IsListedTo row (k + 1) t c.if-some.listed) (sym w.places-is)
-          (subst (λ n. IsListedTo row (k + 1) c.loop-k.places n) (sym w.listed-is)
-          (skip_place row k c.loop-k.places c.loop-k.listed c.loop-k.invariant (sym e ∙ z)))
+          subst (λ n. IsListedTo row (k + 1) (set c.loop-k.places c.loop-k.listed k) n) (sym w.listed-is)
+          (skip_place row k c.loop-k.places c.loop-k.listed c.loop-k.invariant (sym e ∙ z))
     ]
 
 pub returns-clause-listed : goal.returns-clause-listed

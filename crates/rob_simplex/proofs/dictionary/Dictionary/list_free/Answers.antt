@@ -21,15 +21,13 @@ loop-k-preserved g c =
     ∙ ap (λ (t : Table). columns_of t.places (t.columns + c.loop-k.k)) c.self.view_is in
     elim c.if-place-first.branch [
       | then-place-first w ↦
-          subst (λ t. IsListedTo row (k + 1) t c.if-place-first.listed) (sym w.order-is)
-          (subst (λ n. IsListedTo row (k + 1) (set c.loop-k.order c.loop-k.listed k) n) (sym w.listed-is)
-          (list_place row k c.loop-k.order c.loop-k.listed c.loop-k.invariant (omega arith)))
+          subst (λ n. IsListedTo row (k + 1) (set c.loop-k.order c.loop-k.listed k) n) (sym w.listed-is)
+          (list_place row k c.loop-k.order c.loop-k.listed c.loop-k.invariant (omega arith))
       | else-place-first w ↦
           let high : c.self.inside.columns + 3 ≤ c.index-place.result.now = omega (arith, w.if-place-first.false) in
-          subst (λ t. IsListedTo row (k + 1) t c.if-place-first.listed) (sym w.order-is)
-          (subst (λ n. IsListedTo row (k + 1) c.loop-k.order n) (sym w.listed-is)
+          subst (λ n. IsListedTo row (k + 1) (set c.loop-k.order c.loop-k.listed k) n) (sym w.listed-is)
           (skip_place row k c.loop-k.order c.loop-k.listed c.loop-k.invariant
-          (free_zero c.args.self.now k (omega arith))))
+          (free_zero c.args.self.now k (omega arith)))
     ]
 
 pub returns-clause-free : goal.returns-clause-free
