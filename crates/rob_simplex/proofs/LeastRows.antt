@@ -5,7 +5,8 @@ use Rattle.std.proofs.lemmas.Bool.{cases_eq}
 use Rattle.std.proofs.lemmas.Bool.Decides.{nat_tests}
 use Rattle.std.specs.Option.{IfSome, MatchOption}
 use lib.IntN.{ℤ, pos, neg_ℤ}
-use lib.Signed.{◌<ℤ◌}
+use lib.Signed.{◌<ℤ◌, ◌≤ℤ◌}
+use Rattle.rob_algebra.specs.Integer.{le_total}
 use Rattle.rob_linear.specs.Vectors.{Matrix, Vector}
 use Rattle.rob_linear.specs.Programs.{auxiliary_tag}
 use Rattle.rob_linear.specs.Turns.{key, ComesBefore}
@@ -19,6 +20,12 @@ use Rattle.rob_simplex.proofs.RatioLemmas.{lex_decided, lex_none}
 -- ---- a number negated
 pub negative_of : (z : ℤ) → pos 0 <ℤ neg_ℤ z → z <ℤ pos 0
 negative_of z h = omega (arith, ints)
+
+pub positive_of : (z : ℤ) → z <ℤ pos 0 → pos 0 <ℤ neg_ℤ z
+positive_of z h = omega (arith, ints)
+
+pub not_below_of : (z : ℤ) → ¬ (pos 0 <ℤ neg_ℤ z) → pos 0 ≤ℤ z
+not_below_of z h = elim (le_total (pos 0) z) [ inl l ↦ l | inr l ↦ absurd (h (positive_of z l)) ]
 
 -- ---- the sign of a key
 module _ (n m : ℕ) (r : Vector) where

@@ -3,8 +3,9 @@ use Rattle.std.proofs.Common.{◌≡◌, ℕ, zero, suc, ◌+◌, ◌<◌, ◌�
 use Rattle.std.proofs.lemmas.Bool.{cases_eq, cases_order}
 use Rattle.std.proofs.lemmas.Bool.Decides.{nat_tests}
 use Rattle.std.proofs.lemmas.Int.{ints}
-use lib.IntN.{ℤ, pos, ◌-ℤ◌, ◌*ℤ◌}
-use lib.Signed.{◌<ℤ◌}
+use lib.IntN.{ℤ, pos, neg_ℤ, ◌-ℤ◌, ◌*ℤ◌}
+use lib.Signed.{◌<ℤ◌, ◌≤ℤ◌}
+use Rattle.rob_algebra.specs.Integer.{mul_nonneg, mul-pos_z, mul-neg, le_of_lt_z}
 use Rattle.rob_linear.specs.Vectors.{Vector}
 use Rattle.rob_linear.specs.Programs.{auxiliary_tag}
 use Rattle.rob_linear.specs.Turns.{IsLexPositive, key, ComesBefore}
@@ -15,6 +16,15 @@ pub both_zero : (a p b q : ℤ) → a ≡ pos 0 → b ≡ pos 0 → (p *ℤ b) -
 both_zero a p b q ea eb =
     subst (λ x. (p *ℤ x) -ℤ (q *ℤ a) ≡ pos 0) (sym eb)
     (subst (λ y. (p *ℤ pos 0) -ℤ (q *ℤ y) ≡ pos 0) (sym ea) (omega (arith, ints)))
+
+-- over positive divisors a number that isn't below 0 is not less than one that is
+pub apart : (p a q b : ℤ) → pos 0 <ℤ p → pos 0 <ℤ q → pos 0 ≤ℤ a → b <ℤ pos 0 → ((p *ℤ b) -ℤ (q *ℤ a)) <ℤ pos 0
+apart p a q b hp hq ha hb =
+    let low : pos 0 <ℤ neg_ℤ b = omega (arith, ints) in
+    let first : pos 0 <ℤ (p *ℤ neg_ℤ b) = mul-pos_z p (neg_ℤ b) hp low in
+    let is : p *ℤ neg_ℤ b ≡ neg_ℤ (p *ℤ b) = mul-neg p b in
+    let second : pos 0 ≤ℤ (q *ℤ a) = mul_nonneg q a (le_of_lt_z (pos 0) q hq) ha in
+    omega (arith, ints)
 
 -- the first place that is not 0 decides
 pub lex_decided : (n : ℕ) (f : ℕ → ℤ) (k : ℕ) (b : Bool) → k < n → ((j : ℕ) → j < k → f j ≡ pos 0) → Decided b (f k)

@@ -1,7 +1,7 @@
 //! The least row over minus its entry in the auxiliary column: of the rows that are negative there and
 //! lexicographically negative, the one that comes first.
 
-ghost use Rattle.std.specs.Prelude.{◌≡◌, ◌<◌, ◌≤◌, ◌<ℤ◌, ◌↔◌, suc, pos, neg_ℤ, IsTrue, IfSome, MatchOption};
+ghost use Rattle.std.specs.Prelude.{◌≡◌, ◌≢◌, ◌<◌, ◌≤◌, ◌+◌, ◌<ℤ◌, ◌≤ℤ◌, ◌↔◌, ℕ, suc, pos, neg_ℤ, IsTrue, IfSome, MatchOption};
 ghost use Rattle.std.specs.Bool.{OnTrue};
 ghost use Rattle.rob_linear.specs.Turns.{key};
 ghost use Rattle.rob_linear.specs.Beside.{IsLexNegative};
@@ -78,10 +78,34 @@ impl<E: Entry> Dictionary<E> {
         match best {
             None => self.is_negative(i),
             Some(e) => {
+                if self.is_behind(i, e) {
+                    return false;
+                }
                 self.comes_before(free, i, divisor, e, self.minus_entry(e, column))
                     && self.is_negative(i)
             }
         }
+    }
+
+    /// Whether row e is below 0 on its right side, and row i is not: then row i doesn't come before it, whatever their
+    /// divisors are. Two numbers tell so of most rows.
+    #[inline(always)]
+    fn is_behind(&self, i: usize, e: usize) -> bool
+        requires i_in { i < positions self.now }
+        requires e_in { e < positions self.now }
+        ensures not_below { IsTrue result
+            → pos 0 ≤ℤ rows_of self.now i (self.now.columns + positions self.now + 2) }
+        ensures below { IsTrue result
+            → rows_of self.now e (self.now.columns + positions self.now + 2) <ℤ pos 0 }
+    {
+        let m = self.basis.len();
+        if is_positive(self.minus_entry(i, self.columns + m + 2)) {
+            return false;
+        }
+        if !is_positive(self.minus_entry(e, self.columns + m + 2)) {
+            return false;
+        }
+        true
     }
 
     /// Whether a row is negative in a column and on its right side.
