@@ -19,7 +19,8 @@ pub struct Pivot {
     pub width: usize,
 }
 
-/// Row i is cleared of its entry at the pivot's.
+/// Row i is cleared of its entry at the pivot's. Few rows are, so this is a call, and the loop over all rows is short.
+#[inline(never)]
 pub fn clear_row<E: Entry>(
     rows: &mut Cells<E>,
     bounds: &mut [u128],
