@@ -61,7 +61,8 @@ impl<E: Entry> Dictionary<E> {
         self.dense_entry(i, column).minus()
     }
 
-    /// Whether row i may be the least, and comes before the best row so far. Its sign is looked at last.
+    /// Whether row i may be the least, and comes before the best row so far. Its sign is looked at before the two are
+    /// compared: of rows that are 0 on their right sides few are negative, and they would tie with the best one.
     fn is_lower(&self, free: Free, column: usize, i: usize, best: Option<usize>) -> bool
         requires free { AreFree self.now free.seen free.slacks.now }
         requires column_in { column < width_of self.now }
@@ -81,8 +82,10 @@ impl<E: Entry> Dictionary<E> {
                 if self.is_behind(i, e) {
                     return false;
                 }
+                if !self.is_negative(i) {
+                    return false;
+                }
                 self.comes_before(free, i, divisor, e, self.minus_entry(e, column))
-                    && self.is_negative(i)
             }
         }
     }

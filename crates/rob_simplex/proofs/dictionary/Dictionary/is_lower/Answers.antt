@@ -1,4 +1,4 @@
-use Rattle.std.proofs.Common.{◌≡◌, ℕ, ◌+◌, ◌<◌, refl, sym, subst, pos, neg_ℤ, IsTrue, ◌↔◌, Option, true, false}
+use Rattle.std.proofs.Common.{ℕ, ◌+◌, ◌<◌, refl, sym, subst, pos, neg_ℤ, IsTrue, ◌↔◌, Option, false}
 use Rattle.std.specs.Option.{IfSome}
 use lib.IntN.{ℤ}
 use lib.Signed.{◌<ℤ◌}
@@ -31,8 +31,19 @@ returns-then-is_behind g c =
           (sym c.in-Some.is) ((λ h. absurd (cc)), λ x. d.1 x.1);
     }
 
-pub returns-then-comes_before : goal.returns-then-comes_before
-returns-then-comes_before g c =
+pub returns-then-not-is_negative : goal.returns-then-not-is_negative
+returns-then-not-is_negative g c =
+    let t = c.args.self.now in
+    record {
+      decides =
+          subst (λ (best : Option ℕ).
+          IsTrue false ↔ IsLower t.columns (positions t) (rows_of t) c.args.column c.args.i best)
+          (sym c.in-Some.is)
+          ((λ h. absurd (cc)), λ x. c.if-not-is_negative.ensures.decides.1 x.2);
+    }
+
+pub returns-in-Some : goal.returns-in-Some
+returns-in-Some g c =
     let t = c.args.self.now in
     let S = shape t.columns (positions t) in
     let d : IsTrue c.comes_before.result ↔ ComesBefore S (rows_of t c.args.i) (neg_ℤ (rows_of t c.args.i c.args.column))
@@ -48,31 +59,7 @@ returns-then-comes_before g c =
     record {
       decides =
           subst (λ (best : Option ℕ).
-          IsTrue c.is_negative-then-comes_before.result ↔ IsLower t.columns (positions t) (rows_of t) c.args.column
-          c.args.i best) (sym c.in-Some.is) (
-            (λ h. (negative, d.0 c.if-comes_before.true, c.is_negative-then-comes_before.ensures.decides.0 h)),
-            λ x.
-                c.is_negative-then-comes_before.ensures.decides.1 x.2,
-          );
-    }
-
-pub returns-else-comes_before : goal.returns-else-comes_before
-returns-else-comes_before g c =
-    let t = c.args.self.now in
-    let S = shape t.columns (positions t) in
-    let d : IsTrue c.comes_before.result ↔ ComesBefore S (rows_of t c.args.i) (neg_ℤ (rows_of t c.args.i c.args.column))
-    (rows_of t c.in-Some.e) (neg_ℤ (rows_of t c.in-Some.e c.args.column)) =
-    subst (λ (q : ℤ). IsTrue c.comes_before.result ↔ ComesBefore S (rows_of t c.args.i)
-    (neg_ℤ (rows_of t c.args.i c.args.column)) (rows_of t c.in-Some.e) q) c.minus_entry.ensures.entry
-    (subst (λ (p : ℤ). IsTrue c.comes_before.result ↔ ComesBefore S (rows_of t c.args.i) p (rows_of t c.in-Some.e)
-    (g.E.Entry.value c.minus_entry.result)) c.minus_entry-divisor.ensures.entry c.comes_before.ensures.decides) in
-    record {
-      decides =
-          subst (λ (best : Option ℕ).
           IsTrue c.comes_before.result ↔ IsLower t.columns (positions t) (rows_of t) c.args.column c.args.i best)
-          (sym c.in-Some.is) (
-            (λ h. absurd (let x : c.comes_before.result ≡ true = h in let f : c.comes_before.result ≡ false =
-                c.if-comes_before.false in cc)),
-            λ x. d.1 x.1,
-          );
+          (sym c.in-Some.is)
+          ((λ h. (negative, d.0 h, c.if-not-is_negative.ensures.decides.0 refl)), λ x. d.1 x.1);
     }
