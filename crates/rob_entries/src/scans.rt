@@ -5,7 +5,7 @@ ghost use Rattle.std.specs.Prelude.{◌≡◌, ◌+◌, ◌<◌, ◌≤◌, ℕ,
 ghost use Rattle.rob_entries.specs.Choices.{IsFloor};
 
 /// How many marks are looked at together.
-const PART: usize = 32;
+const PART: usize = 16;
 
 /// Whether a mark is on.
 #[inline(always)]
@@ -58,11 +58,11 @@ fn lowest_between(
 
 /// The same among so many places.
 fn lowest_in_part(marks: &[bool], near: &[usize], from: usize, low: usize, before: usize) -> usize
-    requires marks_in { from + 32 ≤ length marks.now }
-    requires near_in { from + 32 ≤ length near.now }
+    requires marks_in { from + 16 ≤ length marks.now }
+    requires near_in { from + 16 ≤ length near.now }
     ensures low { result ≤ before }
     ensures floor { IsFloor marks.now (λ k. slice_index_or near.now k 0) from
-        (from + 32) low result }
+        (from + 16) low result }
 {
     if has_some(&marks[from..from + PART]) {
         lowest_between(marks, near, from, from + PART, low, before)

@@ -6,4 +6,4 @@ use Rattle.rob_entries.proofs.scans.lowest_marked.Given as goal
 
 abbrev pub invariant-loop-part : goal.invariant-loop-part
 invariant-loop-part l =
-    (l.best ≤ l.fn.before) × IsFloor l.fn.marks (λ k. get_or l.fn.near k 0) 0 (l.part * 32) l.fn.low l.best
+    (l.best ≤ l.fn.before) × IsFloor l.fn.marks (λ k. get_or l.fn.near k 0) 0 (l.part * 16) l.fn.low l.best
