@@ -117,13 +117,6 @@ module _ {X : Type 0} (f : X → ℤ) (cells : List ℤ) (items now : List X) (l
     stored_here k l =
         ap (λ (t : List ℤ). at t (a + k)) stored_numbers ∙ put_here cells (map f s) a w k inside new_length l
 
-    pub stored_reached : (size : ℕ) → Any (λ entry. nat_abs entry ≡ size) (map f s) → (k : ℕ) × (k < w)
-        × (nat_abs (at (map f stored) (a + k)) ≡ size)
-    stored_reached size h =
-        let kl : h.0 < length (map f s) = h.2 in
-        let l : h.0 < w = omega (arith, new_length) in
-        (h.0, l, ap nat_abs (stored_here h.0 l ∙ get_or_default (map f s) h.0 (pos 0) h.1 kl ∙ h.3) ∙ h.4)
-
     pub stored_other : (k : ℕ) → (k < a) ⊎ (a + w ≤ k) → at (map f stored) k ≡ at cells k
     stored_other k c =
         ap (λ (t : List ℤ). at t k) stored_numbers

@@ -206,25 +206,21 @@ impl<E: Entry> Cells<E> {
         negate(&mut self.items.as_mut_slice()[start..start + width], bound);
     }
 
-    /// Divides a row by what divides all its entries, and tells the greatest of their sizes.
-    pub fn reduce(&mut self, start: usize, width: usize, limit: u128) -> u128
+    /// Divides a row by what divides all its entries. They stay within the limit.
+    pub fn reduce(&mut self, start: usize, width: usize, limit: u128)
         requires inside { start + width ≤ length self.old }
         requires limit { limit ≤ E.top }
         requires within { (k : ℕ) → k < width → nat_abs (at self.old (start + k)) ≤ limit }
         ensures row { IsMultipleOf width (λ k. at self.old (start + k))
             (λ k. at self.new (start + k)) }
         ensures lowest { content (take width (drop start self.new)) ≤ 1 }
-        ensures bound { (k : ℕ) → k < width → nat_abs (at self.new (start + k)) ≤ result }
-        ensures reached { 0 < result → (k : ℕ) × (k < width)
-            × (nat_abs (at self.new (start + k)) ≡ result) }
-        ensures low { result ≤ limit }
+        ensures bounded { (k : ℕ) → k < width → nat_abs (at self.new (start + k)) ≤ limit }
         ensures others { (k : ℕ) → (k < start) ⊎ (start + width ≤ k) → at self.new k
             ≡ at self.old k }
         ensures size { length self.new ≡ length self.old }
     {
         let row = &mut self.items.as_mut_slice()[start..start + width];
         E::reduce(row, limit);
-        E::largest(row)
     }
 
     // ---- clear

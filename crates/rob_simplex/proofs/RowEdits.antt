@@ -48,6 +48,19 @@ read_negated w places i r r' h c = elim (cases_lt (places c) w) [
   ]
 ]
 
+-- ---- a row changed, under its old bound
+pub kept_bounds : (limit width : ℕ) (rows new : List ℤ) (bounds : List ℕ) (i : ℕ) → HasBounds limit width rows bounds
+    → length new ≡ length rows → ((k : ℕ) → k < width → nat_abs (row_at new width i k) ≤ bound_at bounds i)
+    → ((j k : ℕ) → j ≢ i → k < width → row_at new width j k ≡ row_at rows width j k) → HasBounds limit width new bounds
+kept_bounds limit width rows new bounds i h ln here others = record {
+  size = ln ∙ h.size;
+  within = λ j k jl kl. elim (cases_eq j i) [
+    | inl e ↦ subst (λ (t : ℕ). nat_abs (row_at new width t k) ≤ bound_at bounds t) (sym e) (here k kl)
+    | inr d ↦ subst (λ t. nat_abs t ≤ bound_at bounds j) (sym (others j k d kl)) (h.within j k jl kl)
+  ];
+  low = h.low;
+}
+
 -- ---- a row negated, under its old bound
 pub negated_bounds : (limit width : ℕ) (rows new : List ℤ) (bounds : List ℕ) (i : ℕ) → HasBounds limit width rows bounds
     → length new ≡ length rows → ((k : ℕ) → k < width → row_at new width i k ≡ neg_ℤ (row_at rows width i k))

@@ -7,29 +7,29 @@ ghost use Rattle.rob_simplex.specs.Dictionaries.{positions, rows_of, kept_row_of
 use crate::dictionary::Dictionary;
 use rob_entries::{Cells, Entry};
 
-/// Divides row i by what divides all its entries, and takes the greatest of their sizes as its bound.
-fn reduce_row<E: Entry>(rows: &mut Cells<E>, bounds: &mut [u128], i: usize, width: usize)
-    requires bounded { HasBounds E.top width rows.old bounds.old }
-    requires inside { i < length bounds.old }
+/// Divides row i by what divides all its entries. Its bound stays, and the row that clears others finds its own.
+fn reduce_row<E: Entry>(rows: &mut Cells<E>, bounds: &[u128], i: usize, width: usize)
+    requires bounded { HasBounds E.top width rows.old bounds.now }
+    requires inside { i < length bounds.now }
     ensures row { (d : ℤ) × (pos 0 <ℤ d)
         × ((k : ℕ) → k < width → d *ℤ row_at rows.new width i k ≡ row_at rows.old width i k) }
     ensures others { IsUnchangedBut i width (row_at rows.old width) (row_at rows.new width) }
-    ensures bounded { HasBounds E.top width rows.new bounds.new }
+    ensures bounded { HasBounds E.top width rows.new bounds.now }
 {
     let _ = rows.len();
-    bounds[i] = rows.reduce(i * width, width, E::TOP);
+    rows.reduce(i * width, width, bounds[i]);
 }
 
 /// Divides row i by what divides all its entries, unless its own entry, the last one, is 1, which nothing but 1
 /// divides.
-fn reduce_unless_one<E: Entry>(rows: &mut Cells<E>, bounds: &mut [u128], i: usize, width: usize)
-    requires bounded { HasBounds E.top width rows.old bounds.old }
-    requires inside { i < length bounds.old }
+fn reduce_unless_one<E: Entry>(rows: &mut Cells<E>, bounds: &[u128], i: usize, width: usize)
+    requires bounded { HasBounds E.top width rows.old bounds.now }
+    requires inside { i < length bounds.now }
     requires width { 1 ≤ width }
     ensures row { (d : ℤ) × (pos 0 <ℤ d)
         × ((k : ℕ) → k < width → d *ℤ row_at rows.new width i k ≡ row_at rows.old width i k) }
     ensures others { IsUnchangedBut i width (row_at rows.old width) (row_at rows.new width) }
-    ensures bounded { HasBounds E.top width rows.new bounds.new }
+    ensures bounded { HasBounds E.top width rows.new bounds.now }
 {
     let _ = rows.len();
     if rows.get(i * width + (width - 1)).size() == 1 {
@@ -64,7 +64,7 @@ impl<E: Entry> Dictionary<E> {
         ensures sized { IsSized self.old self.new }
     {
         let width = self.columns + 4;
-        reduce_unless_one(&mut self.rows, self.bounds.as_mut_slice(), row, width);
+        reduce_unless_one(&mut self.rows, self.bounds.as_slice(), row, width);
     }
 
     /// Negates a row.

@@ -39,7 +39,7 @@ impl<E: Entry> Dictionary<E> {
         ensures size { length weights.new ≡ length weights.old }
     {
         self.slacks(row, weights);
-        let _ = weights.reduce(0, self.basis.len(), E::TOP);
+        weights.reduce(0, self.basis.len(), E::TOP);
     }
 
     /// The slack entries of a row.

@@ -4,8 +4,8 @@ use Rattle.rob_algebra.specs.Fraction.{pos_lt}
 use lib.IntN.{ℤ}
 use Rattle.rob_entries.specs.Maps.{IsMapped}
 use Rattle.rob_entries.proofs.MapLemmas.{mapped_back, part_zero}
-use Rattle.rob_entries.proofs.ClearingLemmas.{part_multiple}
-use Rattle.rob_entries.proofs.WrittenRows.{part, row_within, row_length, row_at, stored_here, stored_other, stored_reached}
+use Rattle.rob_entries.proofs.ClearingLemmas.{part_multiple, divisor_positive}
+use Rattle.rob_entries.proofs.WrittenRows.{part, row_within, row_length, row_at, stored_here, stored_other}
 use Rattle.rob_entries.proofs.cells.Cells.reduce.Goals as goal
 
 pub reduce-requires-clause-within : goal.reduce-requires-clause-within
@@ -40,8 +40,8 @@ returns-clause-row g c =
           c.args.width c.requires.inside k l;
     }
 
-pub returns-clause-bound : goal.returns-clause-bound
-returns-clause-bound g c k l =
+pub returns-clause-bounded : goal.returns-clause-bounded
+returns-clause-bounded g c k l =
     let value = g.E.Entry.value in
     let n : length (part c.as_mut_slice.result.now c.args.start c.args.width) ≡ c.args.width =
     row_length value c.args.self.now c.self.inside.items.items c.as_mut_slice.result.now c.self.inside.items.len
@@ -49,18 +49,11 @@ returns-clause-bound g c k l =
     c.args.width c.requires.inside in
     let wide : length (map g.E.Entry.value c.reduce.new.row) ≡ c.args.width =
     length-map c.reduce.new.row value ∙ c.reduce.auto.row ∙ n in
-    subst (λ t. nat_abs t ≤ c.largest.result)
+    subst (λ t. nat_abs t ≤ c.args.limit)
     (sym (stored_here value c.args.self.now c.self.inside.items.items c.as_mut_slice.result.now c.self.inside.items.len
     c.self.view_is c.as_mut_slice.ensures.value c.self.inside.items.ok.0 c.args.start c.args.width c.requires.inside
     c.reduce.new.row c.reduce.auto.row k l))
-    (c.largest.ensures.bound k (pos 0) (omega arith))
-
-pub returns-clause-reached : goal.returns-clause-reached
-returns-clause-reached g c h =
-    stored_reached g.E.Entry.value c.args.self.now c.self.inside.items.items c.as_mut_slice.result.now
-    c.self.inside.items.len c.self.view_is c.as_mut_slice.ensures.value c.self.inside.items.ok.0 c.args.start
-    c.args.width c.requires.inside
-    c.reduce.new.row c.reduce.auto.row c.largest.result (c.largest.ensures.reached h)
+    (c.reduce.ensures.bounded k (pos 0) (omega arith))
 
 pub returns-clause-others : goal.returns-clause-others
 returns-clause-others g c =

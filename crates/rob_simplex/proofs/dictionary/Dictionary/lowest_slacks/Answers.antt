@@ -52,6 +52,6 @@ returns-clause-within g c =
     let et : c.TOP.result ≡ g.E.Entry.top = c.TOP.ensures ∙ g.met.E.Entry.top_told in
     let ls : length c.slacks.new.weights ≡ positions c.args.self.now = c.slacks.ensures.size ∙ c.requires.size in
     within_from c.args.self.now.limit c.reduce.new.self
-    (λ i l. let b : nat_abs (at c.reduce.new.self i) ≤ c.reduce.result =
-    subst (λ k. nat_abs (at c.reduce.new.self k) ≤ c.reduce.result) (let e : 0 + i ≡ i = omega arith in e)
-    (c.reduce.ensures.bound i (omega (arith, c.reduce.ensures.size))) in omega (arith, b, c.reduce.ensures.low, el, et))
+    (λ i l. let b : nat_abs (at c.reduce.new.self i) ≤ c.TOP.result =
+    subst (λ k. nat_abs (at c.reduce.new.self k) ≤ c.TOP.result) (let e : 0 + i ≡ i = omega arith in e)
+    (c.reduce.ensures.bounded i (omega (arith, c.reduce.ensures.size))) in omega (arith, b, el, et))
