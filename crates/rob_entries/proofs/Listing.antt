@@ -1,9 +1,11 @@
 -- The places where a row is not 0, listed one after another.
-use Rattle.std.proofs.Common.{◌≡◌, ◌≢◌, ℕ, ◌+◌, ◌<◌, ◌≤◌, sym, ap, ◌∙◌, subst, arith, inl, inr, List, length, get_or, set, take}
-use Rattle.std.proofs.lemmas.Bool.{cases_eq}
-use Rattle.std.proofs.lemmas.List.{get_or-take, length-take, get_or-set_same, get_or-set_other}
-use lib.IntN.{pos}
-use Rattle.rob_linear.specs.Vectors.{Vector}
+use Rattle.std.proofs.Common.{◌≡◌, ◌≢◌, ◌⊎◌, ℕ, ◌+◌, ◌<◌, ◌≤◌, max, sym, ap, ◌∙◌, subst, arith, inl, inr, List, length, get_or, set, take, nat_abs, Any}
+use Rattle.std.proofs.lemmas.Bool.{cases_eq, cases_lt}
+use Rattle.std.proofs.lemmas.List.{get_or_default, get_or-take, length-take, get_or-set_same, get_or-set_other}
+use lib.IntN.{ℤ, pos}
+use Rattle.rob_linear.specs.Vectors.{Vector, at}
+use Rattle.rob_linear.proofs.Square.{cases_zero}
+use Rattle.rob_rows.specs.PrimitiveParts.{IsWithin}
 use Rattle.rob_entries.specs.Updates.{AreListed}
 
 -- of the places before k those where the row is not 0 stand at the front of the list
@@ -86,3 +88,41 @@ all_listed width row places listed few h =
           (subst (λ t. get_or places i 0 < t) (sym (at_front j (omega arith))) (h.rising i j il (omega arith)));
       all = λ i il some. let a = h.all i il some in (a.0, omega arith, a.2 ∙ sym (at_front a.0 a.1));
     }
+
+-- ---- the sizes of listed numbers
+-- what the listed ones are within, all are within
+pub listed_within : (width most : ℕ) (row : List ℤ) (places : List ℕ) → AreListed width (at row) places
+    → length row ≡ width → ((j : ℕ) → j < length places → nat_abs (at row (get_or places j 0)) ≤ most)
+    → IsWithin most row
+listed_within width most row places listed size h k d kl =
+    let inside : k < width = omega arith in
+    subst (λ z. nat_abs z ≤ most) (sym (get_or_default row k d (pos 0) kl))
+    (elim (cases_zero (at row k)) [
+      | inl z ↦ subst (λ t. nat_abs t ≤ most) (sym z) (omega arith)
+      | inr some ↦
+          let a = listed.all k inside some in
+          subst (λ p. nat_abs (at row p) ≤ most) (sym a.2) (h a.0 a.1)
+    ])
+
+-- 0, or the size of one of them
+abbrev pub IsSizeOf : List ℤ → ℕ → Type 0
+IsSizeOf row size = (size ≡ 0) ⊎ ((k : ℕ) × (k < length row) × (nat_abs (at row k) ≡ size))
+
+pub size_more : (row : List ℤ) (size k entry : ℕ) → k < length row → entry ≡ nat_abs (at row k) → IsSizeOf row size
+    → IsSizeOf row (max entry size)
+size_more row size k entry kl e h =
+    elim (cases_lt size entry) [
+      | inl l ↦ inr (k, kl, sym e ∙ omega arith)
+      | inr l ↦ elim h [
+        | inl z ↦ inl (omega arith)
+        | inr r ↦ inr (r.0, r.1, r.2 ∙ omega arith)
+      ]
+    ]
+
+pub size_told : (row : List ℤ) (size : ℕ) → IsSizeOf row size → 0 < size → Any (λ entry. nat_abs entry ≡ size) row
+size_told row size h p =
+    elim h [
+      | inl z ↦ absurd (omega arith)
+      | inr r ↦
+          (r.0, get_or row r.0 (pos 0), r.1, get_or_default row r.0 (get_or row r.0 (pos 0)) (pos 0) r.1, r.2)
+    ]

@@ -4,7 +4,7 @@
 //! A number that bounds the entries of each row shows where the entries' type suffices. Else the row is put in lowest
 //! terms.
 
-ghost use Rattle.std.specs.Prelude.{◌≡◌, ℕ, ◌+◌, ◌<◌, ◌≤◌, ◌*ℤ◌, ◌-ℤ◌, ◌<ℤ◌, pos, map, length, take, IfOk, OnOk, OnErr};
+ghost use Rattle.std.specs.Prelude.{◌≡◌, ℕ, ◌+◌, ◌<◌, ◌≤◌, ◌*ℤ◌, ◌-ℤ◌, ◌<ℤ◌, pos, nat_abs, map, length, take, Any, IfOk, OnOk, OnErr};
 ghost use Rattle.rob_linear.specs.Vectors.{at};
 ghost use Rattle.rob_linear.specs.Multiples.{IsClearedBy};
 ghost use Rattle.rob_rows.specs.PrimitiveParts.{combination, IsPrimitivePart, IsWithin, HasWidePart};
@@ -72,7 +72,10 @@ impl<E: Entry> PivotRow<E> {
         self.entries.as_mut_slice().copy_from_slice(row);
         E::reduce(self.entries.as_mut_slice(), bound);
         self.listed = list_places(self.entries.as_slice(), self.places.as_mut_slice());
-        self.bound = E::largest(self.entries.as_slice());
+        self.bound = largest_listed(
+            self.entries.as_slice(),
+            &self.places.as_slice()[..self.listed],
+        );
     }
 
     /// The row, which begins at `start`, p times, less q times this one, with its marks.
@@ -200,4 +203,18 @@ fn list_places<E: Entry>(row: &[E], places: &mut [usize]) -> usize
         }
     }
     listed
+}
+
+/// The greatest size of a row's entries, 0 where there is none. Those that are not 0 are listed, and no others are
+/// looked at.
+fn largest_listed<E: Entry>(row: &[E], places: &[usize]) -> u128
+    requires listed { AreListed (length row.now) (at (map E.value row.now)) places.now }
+    ensures bound { IsWithin result (map E.value row.now) }
+    ensures reached { 0 < result → Any (λ entry. nat_abs entry ≡ result) (map E.value row.now) }
+{
+    let mut largest = 0;
+    for k in places {
+        largest = row[*k].size().max(largest);
+    }
+    largest
 }
