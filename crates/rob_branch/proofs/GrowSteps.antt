@@ -17,7 +17,7 @@ use Rattle.rob_reach.proofs.RangeLemmas.{bounded_in, changes_bounded}
 use Rattle.rob_reach.proofs.RuleLemmas.{rules_kept}
 use Rattle.rob_reach.proofs.SplitLemmas.{product_positive}
 use Rattle.rob_reach.specs.Boxes as boxes
-use Rattle.rob_reach.specs.Growing.{Decides, IsAllowed, Search, Visits, branches, outcome, start}
+use Rattle.rob_reach.specs.Growing.{IsAllowed, Search, Visits, branches, outcome, start}
 use Rattle.rob_reach.specs.Ranges.{KeepsBothBounds, is_bounded, product_of_ranges, whole_rule}
 use Rattle.rob_reach.specs.Trees.{IsIn}
 use Rattle.rob_tree.specs.View.{branch_of}

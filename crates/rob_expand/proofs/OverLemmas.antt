@@ -1,5 +1,5 @@
 -- A sum over the values of a range: none, one, or more of them.
-use Rattle.std.proofs.Common.{◌≡◌, ℕ, Bool, true, false, List, [], ◌∷◌, Option, Some, None, sym, ap, ◌∙◌, subst}
+use Rattle.std.proofs.Common.{◌≡◌, ℕ, Bool, true, false, List, [], ◌∷◌, Option, Some, sym, ap, ◌∙◌, subst}
 use Rattle.std.specs.Prelude.{ℤ, set, Result, MatchResult, Err}
 use Rattle.rob_index.specs.Counting.{lead}
 use Rattle.rob_index.specs.Forms.{Ends, values_of}
