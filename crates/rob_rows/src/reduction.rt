@@ -58,12 +58,16 @@ fn divide(row: &mut [i64], common: Divisor, limit: u64) -> Result<(), Wide>
     Ok(())
 }
 
-/// The greatest common divisor of the entries. Nothing but 1 divides 1, so the search ends there.
+/// The greatest common divisor of the entries. Most of them are 0, which each number divides, and nothing but 1 divides
+/// 1, so the search ends there.
 fn content_of(row: &[i64]) -> Divisor
     ensures content { result.value ≡ content row.now }
 {
     let mut common = Divisor::new(0);
     for entry in row {
+        if *entry == 0 {
+            continue;
+        }
         common = common.common(entry.unsigned_abs() as u128);
         if common.value() == 1 {
             return common;

@@ -1,11 +1,22 @@
-use Rattle.std.proofs.Common.{◌≡◌, ◌∙◌, ap, sym, arith, rules, pos, nat_abs, get_or, take}
+use Rattle.std.proofs.Common.{◌≡◌, ◌∙◌, ap, sym, arith, rules, pos, nat_abs, get_or, take, to_z}
 use mir.Syntax.{w64}
 use mir.Val.{SFits}
-use Rattle.rob_algebra.specs.Gcd.{gcd}
+use Rattle.rob_algebra.specs.Gcd.{gcd, gcd-zero}
 use Rattle.rob_rows.specs.PrimitiveParts.{content}
-use Rattle.rob_rows.proofs.Contents.{content_stays_one}
+use Rattle.rob_rows.proofs.Contents.{content-take, content_stays_one}
 use Rattle.rob_rows.proofs.Reductions.{seen}
 use Rattle.rob_rows.proofs.reduction.content_of.Goals as goal
+
+pub loop-entry-preserved-then-entry-eq0 : goal.loop-entry-preserved-then-entry-eq0
+loop-entry-preserved-then-entry-eq0 c =
+    let row = c.args.row.now in
+    let i = c.loop-entry.entry-index in
+    let fits : SFits w64 (get_or c.args.row.now c.loop-entry.entry-index (pos 0)) = search rules in
+    let none : nat_abs (get_or c.args.row.now c.loop-entry.entry-index (pos 0)) ≡ 0 =
+    ap nat_abs (sym (seen (get_or row i (pos 0)) fits) ∙ ap (to_z w64) c.if-entry-eq0.true) in
+    c.loop-entry.invariant
+    ∙ sym (content-take row i c.loop-entry-test.true
+    ∙ gcd-zero (content (take i row)) (nat_abs (get_or row i (pos 0))) none)
 
 pub returns-then-value-eq1 : goal.returns-then-value-eq1
 returns-then-value-eq1 c =
