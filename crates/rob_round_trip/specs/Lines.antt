@@ -10,7 +10,9 @@ use Rattle.rob_syntax.specs.Trees.{tree_of}
 use Rattle.rob_syntax.specs.declared.syntax.Relation.{Relation}
 use Rattle.rob_syntax.specs.declared.syntax.Statement.{Statement}
 use Rattle.rob_syntax.specs.declared.syntax.Statement.TheVariants as parsed
-use Rattle.rob_write.specs.Canonical.{Naming, Written, adaptive_words, declared_set_words, goal_words, over_words, parameter_words, row_words, set_words, variable_words}
+use Rattle.rob_write.specs.Pages.{Written}
+use Rattle.rob_write.specs.ExpressionWords.{Naming}
+use Rattle.rob_write.specs.StatementWords.{adaptive_words, declared_set_words, goal_words, over_words, parameter_words, row_words, set_words, variable_words}
 
 -- the named sets are counted from 1
 abbrev pub CountsSetsFromOne : List (Option Sort) → Type 0

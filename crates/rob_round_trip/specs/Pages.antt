@@ -11,7 +11,7 @@ use Rattle.rob_syntax.specs.declared.symbol.Keyword.TheVariants.{Sum, For, To, M
 use Rattle.rob_syntax.specs.declared.symbol.Mark.TheVariants.{Open, Close}
 use Rattle.rob_syntax.specs.declared.symbol.Symbol.{Symbol}
 use Rattle.rob_syntax.specs.Names.{IsWord}
-use Rattle.rob_write.specs.Canonical.{Written, name, digits, keyword, sign, negative, line_end, bytes_of, put_line, blank}
+use Rattle.rob_write.specs.Pages.{Written, name, digits, keyword, sign, negative, line_end, bytes_of, put_line, blank}
 use Rattle.rob_index.specs.Reading.{one}
 use Rattle.rob_syntax.specs.Symbols.{add_word, keyword_among, keywords, word_at, symbol_at, words_of, lines_of}
 

@@ -14,7 +14,10 @@ use Rattle.rob_rules.specs.declared.sort.Sort.TheVariants as sort
 use Rattle.rob_rules.specs.declared.sort.Sort.TheVariants.{Parameter, Decision, Policy, RowName}
 use Rattle.rob_syntax.specs.declared.symbol.Symbol.TheVariants as symbol
 use Rattle.rob_syntax.specs.declared.syntax.Statement.{Statement}
-use Rattle.rob_write.specs.Canonical.{Written, Naming, expression_words, lines_of, written_model}
+use Rattle.rob_write.specs.Pages.{Written}
+use Rattle.rob_write.specs.WrittenModel.{written_model}
+use Rattle.rob_write.specs.ExpressionWords.{Naming, expression_words}
+use Rattle.rob_write.specs.Canonical.{lines_of}
 use Rattle.rob_rules.specs.Degrees.{sort_at}
 use Rattle.rob_syntax.specs.Grammar.{Expr, spell_expr, tree_expr}
 use Rattle.rob_parse.specs.Models.{expression, word_of, in_sets, model_of}

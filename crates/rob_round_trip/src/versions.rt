@@ -26,7 +26,7 @@ ghost use Rattle.rob_syntax.specs.Symbols.{lines_of};
 ghost use Rattle.rob_syntax.specs.Versions.{text_lines};
 ghost use Rattle.rob_syntax.specs.declared.symbol.Symbol.{Symbol};
 ghost use Rattle.rob_syntax.specs.declared.syntax.Statement.{Statement};
-ghost use Rattle.rob_write.specs.Canonical.{Naming};
+ghost use Rattle.rob_write.specs.ExpressionWords.{Naming};
 
 /// On no line of symbols of a text that has tokens, whatever its version, more than 50 parentheses are open at once, as
 /// rob_index counts them; nor on one that is read.

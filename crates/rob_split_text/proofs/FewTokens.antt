@@ -11,7 +11,11 @@ use Rattle.rob_split_text.specs.SplitTexts.{HasFewTokens}
 use Rattle.rob_index.specs.Reading.{one}
 use Rattle.rob_syntax.specs.Symbols.{symbol_at}
 use Rattle.rob_syntax.specs.declared.symbol.Symbol.{Symbol}
-use Rattle.rob_write.specs.Canonical.{Naming, Written, adaptive_words, bytes_of, declared_set_words, digits, keyword, line_end, lines_of, lines_over, model_text, name, naming_of, negative, over_words, parameter_words, row_words, set_words, sign, variable_words, written_model}
+use Rattle.rob_write.specs.Pages.{Written, bytes_of, digits, keyword, line_end, name, negative, sign}
+use Rattle.rob_write.specs.WrittenModel.{written_model}
+use Rattle.rob_write.specs.ExpressionWords.{Naming, naming_of}
+use Rattle.rob_write.specs.StatementWords.{adaptive_words, declared_set_words, lines_over, over_words, parameter_words, row_words, set_words, variable_words}
+use Rattle.rob_write.specs.Canonical.{lines_of, model_text}
 
 -- ---- lines with a word
 abbrev HasWord : List Written → Type 0

@@ -8,7 +8,9 @@ use Rattle.rob_meaning.specs.RobustModel.{Relation, at_least, at_most, equal}
 use Rattle.rob_pieces.specs.SplitModel.{as_side, side_of_sign}
 use Rattle.rob_round_trip.proofs.Lengths.DepthSteps.{IsFlat, stays, step_of_word}
 use Rattle.rob_syntax.specs.declared.symbol.Mark.TheVariants as mark
-use Rattle.rob_write.specs.Canonical.{Naming, Written, bound_words, comma, digits, expression_words, listed, minus_words, name_at, number_words, over_words, relation_word, sign}
+use Rattle.rob_write.specs.Pages.{Written, digits, sign}
+use Rattle.rob_write.specs.ExpressionWords.{Naming, comma, expression_words, listed, minus_words, name_at, number_words}
+use Rattle.rob_write.specs.StatementWords.{bound_words, over_words, relation_word}
 
 -- no word opens or closes a parenthesis
 abbrev pub AreFlat : List Written → Type 0

@@ -23,7 +23,8 @@ use Rattle.rob_round_trip.specs.Readable.{FactorsReadable, HasReadableParts, IsB
 use Rattle.rob_split_text.proofs.FormedSplits.{each_bound_written}
 use Rattle.rob_split_text.proofs.WrittenSplits.{bounds_written, factors_renamed, line_renamed, lines_written, renamed, row_renamed, rows_written, side_written, sides_written, terms_renamed, written_split}
 use Rattle.rob_split_text.specs.SplitTexts.{HaveFittingLevels}
-use Rattle.rob_write.specs.Canonical.{Naming, naming_of, written_model}
+use Rattle.rob_write.specs.WrittenModel.{written_model}
+use Rattle.rob_write.specs.ExpressionWords.{Naming, naming_of}
 
 -- ---- a number as a side
 pos_not_below : (x : ℤ) (n : ℕ) → x ≡ pos n → int_lt x (pos 0) ≡ false

@@ -16,7 +16,10 @@ use Rattle.rob_split_text.proofs.FormedSplits.{each_bound_written, no_condition}
 use Rattle.rob_split_text.proofs.WrittenSplits.{bound_written, bounds_written, cost_written, factors_renamed, line_renamed, lines_written, renamed, row_renamed, rows_written, side_written, sides_written, terms_renamed, written_split}
 use Rattle.rob_syntax.specs.declared.symbol.Mark.{Mark}
 use Rattle.rob_syntax.specs.declared.symbol.Mark.TheVariants as mark
-use Rattle.rob_write.specs.Canonical.{Naming, Written, adaptive_words, comma, comparison_words, declared_set_words, digits, enclosed, expression_words, factor_words, goal_word, goal_words, is_compound, is_sum, keyword, lead, line_end, lines_alone, lines_over, listed, member_words, name, name_at, naming_alone, negative, number_words, over_words, paren, parameter_words, relation_word, row_words, set_words, sign, term_words, times, variable_words}
+use Rattle.rob_write.specs.Pages.{Written, digits, keyword, line_end, name, negative, sign}
+use Rattle.rob_write.specs.ExpressionWords.{Naming, comma, enclosed, expression_words, factor_words, is_compound, is_sum, lead, listed, name_at, number_words, paren, term_words, times}
+use Rattle.rob_write.specs.StatementWords.{adaptive_words, comparison_words, declared_set_words, goal_word, goal_words, lines_over, member_words, over_words, parameter_words, relation_word, row_words, set_words, variable_words}
+use Rattle.rob_write.specs.Canonical.{lines_alone, naming_alone}
 use Rattle.rob_split_text.proofs.FlatWords.{AreFlat, bound_flat, relation_flat, over_flat, side_flat, names_flat}
 
 -- ---- steps of words

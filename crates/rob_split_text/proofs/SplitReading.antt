@@ -33,7 +33,10 @@ use Rattle.rob_split_text.proofs.SpelledSplits.{split_spelled}
 use Rattle.rob_split_text.proofs.WrittenSplits.{line_renamed, lines_cells, lines_fit, lines_written, rows_cells, rows_fit, side_written, sides_written, split_in_sets, written_split}
 use Rattle.rob_split_text.specs.SplitTexts.{HasFewTokens, HaveFittingLevels}
 use Rattle.rob_syntax.specs.Names.{IsSpelled}
-use Rattle.rob_write.specs.Canonical.{adaptive_words, declared_set_words, goal_words, lines_alone, lines_of, lines_over, model_text, naming_of, over_words, parameter_words, row_words, set_words, variable_words, written_model}
+use Rattle.rob_write.specs.WrittenModel.{written_model}
+use Rattle.rob_write.specs.ExpressionWords.{naming_of}
+use Rattle.rob_write.specs.StatementWords.{adaptive_words, declared_set_words, goal_words, lines_over, over_words, parameter_words, row_words, set_words, variable_words}
+use Rattle.rob_write.specs.Canonical.{lines_alone, lines_of, model_text}
 
 all_alike : {A : Type 0} (P : ℕ → Type 0) (c : ℕ) (xs : List A) → P c → Each P (map (λ item. c) xs)
 all_alike P c [] h = tt

@@ -10,7 +10,10 @@ use Rattle.rob_model.specs.declared.expr.Term.{Term}
 use Rattle.rob_model.proofs.PartLemmas.{drop_at, signed_is}
 use Rattle.rob_write.specs.declared.page.Page.{Page}
 use Rattle.rob_syntax.specs.declared.symbol.Mark.TheVariants.{Open, Close}
-use Rattle.rob_write.specs.Canonical.{Written, Naming, line_end, put, put_line, paren, enclosed, lead, times, is_compound, is_sum, expression_words, factor_words, factors_written, lines_over, over_words, term_words, terms_written, written}
+use Rattle.rob_write.specs.Pages.{Written, line_end, put, put_line}
+use Rattle.rob_write.specs.WrittenModel.{factors_written, terms_written, written}
+use Rattle.rob_write.specs.ExpressionWords.{Naming, paren, enclosed, lead, times, is_compound, is_sum, expression_words, factor_words, term_words}
+use Rattle.rob_write.specs.StatementWords.{lines_over, over_words}
 
 -- the name of the item at a place
 pub name_here : {A B : Type 0} (view : A → B) (named : B → List ℕ) (xs : List A) (k : ℕ) (x : A) → k < length xs

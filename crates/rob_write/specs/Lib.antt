@@ -1,1 +1,5 @@
+pub mod Pages
+pub mod WrittenModel
+pub mod ExpressionWords
+pub mod StatementWords
 pub mod Canonical

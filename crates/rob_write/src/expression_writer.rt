@@ -3,8 +3,11 @@
 ghost use Rattle.std.specs.Prelude.{◌≡◌, true, [], get_or, map, fold, OnOk, option_map};
 ghost use Rattle.rob_meaning.specs.RobustModel.{Parameter, Variable, AdaptiveVariable, written_count};
 ghost use Rattle.rob_model.specs.View.{robust, expression_of, signed_of, terms_of, factors_of, relation_of, parameter_of, variable_of, adaptive_of};
-ghost use Rattle.rob_write.specs.Canonical.{put, name_at, naming_of, number_words, divisor_words, bound_words, paren, expression_words, term_words, factor_words, comparison_words, relation_word, minus_words, written, terms_written, factors_written};
-ghost use Rattle.rob_write.specs.Canonical as spec;
+ghost use Rattle.rob_write.specs.Pages.{put};
+ghost use Rattle.rob_write.specs.WrittenModel.{written, terms_written, factors_written};
+ghost use Rattle.rob_write.specs.ExpressionWords.{name_at, naming_of, number_words, divisor_words, paren, expression_words, term_words, factor_words, minus_words};
+ghost use Rattle.rob_write.specs.StatementWords.{bound_words, comparison_words, relation_word};
+ghost use Rattle.rob_write.specs.ExpressionWords as spec;
 
 use crate::page::Page;
 use crate::written::{written_number, written_params};

@@ -1,7 +1,8 @@
 //! What is written of sets: the lines that declare them, and what ends a line.
 
 ghost use Rattle.std.specs.Prelude.{◌≡◌, [], get_or, map, fold, OnOk};
-ghost use Rattle.rob_write.specs.Canonical.{put, put_line, declared_set_words, over_words};
+ghost use Rattle.rob_write.specs.Pages.{put, put_line};
+ghost use Rattle.rob_write.specs.StatementWords.{declared_set_words, over_words};
 
 use crate::page::Page;
 use rob_number::{Memory, Text};

@@ -1,8 +1,8 @@
 //! A page on which a canonical text is written, word by word. It keeps whether a space comes next.
 
 ghost use Rattle.std.specs.Prelude.{◌≡◌, ◌++◌, OnOk};
-ghost use Rattle.rob_write.specs.Canonical.{put, name, digits, keyword, sign, negative, line_end, gap};
-ghost use Rattle.rob_write.specs.Canonical as spec;
+ghost use Rattle.rob_write.specs.Pages.{put, name, digits, keyword, sign, negative, line_end, gap};
+ghost use Rattle.rob_write.specs.Pages as spec;
 
 use itoa::Buffer;
 use rob_number::{Memory, Text};

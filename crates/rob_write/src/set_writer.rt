@@ -3,7 +3,10 @@
 ghost use Rattle.std.specs.Prelude.{◌≡◌, true, map, fold, OnOk};
 ghost use Rattle.rob_meaning.specs.RobustModel.{written_count, written_parameters};
 ghost use Rattle.rob_model.specs.View.{robust, member_of, parameter_of, set_line_of};
-ghost use Rattle.rob_write.specs.Canonical.{put, put_line, naming_of, listed, member_words, parameter_words, set_words, declared_set_words, lines_over, member_written, line_written, written_model};
+ghost use Rattle.rob_write.specs.Pages.{put, put_line};
+ghost use Rattle.rob_write.specs.WrittenModel.{member_written, line_written, written_model};
+ghost use Rattle.rob_write.specs.ExpressionWords.{naming_of, listed};
+ghost use Rattle.rob_write.specs.StatementWords.{member_words, parameter_words, set_words, declared_set_words, lines_over};
 
 use crate::expression_writer::{
     put_bounds, put_comma, put_comparison, put_number, put_parameter_name,

@@ -3,7 +3,11 @@
 ghost use Rattle.std.specs.Prelude.{◌≡◌, ◌++◌, true, [], ◌∷◌, map, fold, OnOk, IfOk};
 ghost use Rattle.rob_meaning.specs.RobustModel.{written_count};
 ghost use Rattle.rob_model.specs.View.{robust, sense_of, variable_of, adaptive_of, row_of};
-ghost use Rattle.rob_write.specs.Canonical.{put, put_line, name_at, naming_of, listed, goal_word, goal_words, variable_words, adaptive_words, row_words, model_text, over_words, lines_over, row_written, written_model};
+ghost use Rattle.rob_write.specs.Pages.{put, put_line};
+ghost use Rattle.rob_write.specs.WrittenModel.{row_written, written_model};
+ghost use Rattle.rob_write.specs.ExpressionWords.{name_at, naming_of, listed};
+ghost use Rattle.rob_write.specs.StatementWords.{goal_word, goal_words, variable_words, adaptive_words, row_words, over_words, lines_over};
+ghost use Rattle.rob_write.specs.Canonical.{model_text};
 
 use crate::expression_writer::{
     put_bounds, put_comma, put_comparison, put_expression, put_parameter_name,

@@ -14,7 +14,9 @@ use Rattle.rob_model.specs.Limits.{IsWithinLimits}
 use Rattle.rob_rules.specs.declared.sort.Sort.{Sort}
 use Rattle.rob_syntax.specs.declared.symbol.Symbol.{Symbol}
 use Rattle.rob_syntax.specs.declared.syntax.Statement.{Statement}
-use Rattle.rob_write.specs.Canonical.{naming_of, lines_of, model_text, written_model}
+use Rattle.rob_write.specs.WrittenModel.{written_model}
+use Rattle.rob_write.specs.ExpressionWords.{naming_of}
+use Rattle.rob_write.specs.Canonical.{lines_of, model_text}
 use Rattle.rob_rules.specs.Degrees.{sort_at, products}
 use Rattle.rob_rules.specs.Faults.{is_unknown, expressions}
 use Rattle.rob_parse.specs.Modelled.{ReadsModel}

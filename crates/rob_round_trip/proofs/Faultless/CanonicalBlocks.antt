@@ -14,7 +14,10 @@ use Rattle.rob_rules.specs.declared.sort.Sort.TheVariants.{Parameter, Decision, 
 use Rattle.rob_syntax.specs.declared.symbol.Symbol.{Symbol}
 use Rattle.rob_syntax.specs.declared.syntax.Statement.{Statement}
 use Rattle.rob_syntax.specs.declared.syntax.Statement.TheVariants as parsed
-use Rattle.rob_write.specs.Canonical.{Naming, beside, declared_set_words, line_written, over_words, placed_words, row_written, written_model, naming_of, parameter_words, variable_words, adaptive_words, set_words, row_words, lines_of}
+use Rattle.rob_write.specs.WrittenModel.{line_written, row_written, written_model}
+use Rattle.rob_write.specs.ExpressionWords.{Naming, naming_of}
+use Rattle.rob_write.specs.StatementWords.{beside, declared_set_words, over_words, placed_words, parameter_words, variable_words, adaptive_words, set_words, row_words}
+use Rattle.rob_write.specs.Canonical.{lines_of}
 use Rattle.rob_parse.specs.Models.{goal_in}
 use Rattle.rob_round_trip.specs.Pages.{symbols_on}
 use Rattle.rob_syntax.specs.Names.{IsSpelled}

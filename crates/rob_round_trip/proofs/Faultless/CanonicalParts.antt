@@ -5,7 +5,11 @@ use Rattle.rob_meaning.specs.RobustModel.{RobustModel, written_parameters}
 use Rattle.rob_syntax.specs.declared.syntax.Goal.{Goal}
 use Rattle.rob_syntax.specs.declared.syntax.Statement.{Statement}
 use Rattle.rob_syntax.specs.declared.syntax.Statement.TheVariants as parsed
-use Rattle.rob_write.specs.Canonical.{Written, declared_set_words, lines_over, over_words, written_model, naming_of, parameter_words, variable_words, adaptive_words, set_words, row_words, goal_words, lines_of}
+use Rattle.rob_write.specs.Pages.{Written}
+use Rattle.rob_write.specs.WrittenModel.{written_model}
+use Rattle.rob_write.specs.ExpressionWords.{naming_of}
+use Rattle.rob_write.specs.StatementWords.{declared_set_words, lines_over, over_words, parameter_words, variable_words, adaptive_words, set_words, row_words, goal_words}
+use Rattle.rob_write.specs.Canonical.{lines_of}
 use Rattle.rob_parse.specs.Models.{goal_in}
 use Rattle.rob_round_trip.specs.Pages.{symbols_on}
 use Rattle.rob_round_trip.specs.Readable.{AreStatements}

@@ -11,7 +11,7 @@ use Rattle.rob_meaning.specs.RobustModel.{RobustModel, written_parameters}
 use Rattle.rob_rules.specs.declared.sort.Sort.{Sort}
 use Rattle.rob_rules.specs.declared.sort.Sort.TheVariants as sort
 use Rattle.rob_rules.specs.declared.sort.Sort.TheVariants.{Parameter, Decision, Policy, RowName}
-use Rattle.rob_write.specs.Canonical.{naming_of}
+use Rattle.rob_write.specs.ExpressionWords.{naming_of}
 use Rattle.rob_rules.specs.Degrees.{sort_at}
 use Rattle.rob_parse.specs.Models.{word_of}
 use Rattle.rob_syntax.specs.Names.{IsWord, IsSpelled}

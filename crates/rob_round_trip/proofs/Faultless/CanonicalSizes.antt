@@ -11,7 +11,7 @@ use Rattle.rob_rules.proofs.SizeLemmas.{within}
 use Rattle.rob_parse.specs.Models.{in_sets}
 use Rattle.rob_parse.proofs.Sizes.LimitLemmas.{in_sets_sizes}
 use Rattle.rob_parse.proofs.Sizes.StatementSizes.{added, within_again}
-use Rattle.rob_write.specs.Canonical.{written_model}
+use Rattle.rob_write.specs.WrittenModel.{written_model}
 
 -- the sizes of a model's statements, from what it has written and how many sets it names
 abbrev pub written_sizes : RobustModel → Sizes

@@ -6,7 +6,7 @@ use Rattle.rob_rules.specs.declared.sort.Sort.{Sort}
 use Rattle.rob_rules.specs.declared.size.Sizes.{Sizes}
 use Rattle.rob_syntax.specs.declared.symbol.Symbol.{Symbol}
 use Rattle.rob_syntax.specs.declared.syntax.Statement.{Statement}
-use Rattle.rob_write.specs.Canonical.{Written}
+use Rattle.rob_write.specs.Pages.{Written}
 use Rattle.rob_rules.specs.Faults.{is_declared}
 use Rattle.rob_round_trip.specs.Pages.{symbols_on}
 use Rattle.rob_round_trip.specs.Readable.{AreStatements}

@@ -19,7 +19,7 @@ use Rattle.rob_syntax.specs.declared.syntax.Goal.{Goal}
 use Rattle.rob_syntax.specs.declared.syntax.Sense.TheVariants as sense
 use Rattle.rob_syntax.specs.declared.syntax.Statement.{Statement}
 use Rattle.rob_syntax.specs.declared.syntax.Statement.TheVariants as parsed
-use Rattle.rob_write.specs.Canonical.{Written}
+use Rattle.rob_write.specs.Pages.{Written}
 use Rattle.rob_rules.specs.Faults.{expressions, first_fault}
 use Rattle.rob_parse.specs.Models.{expression, adaptives, set_lines, rows}
 use Rattle.rob_round_trip.specs.Pages.{symbols_on}

@@ -4,7 +4,7 @@ use Rattle.std.specs.Prelude.{◌&&◌, Option}
 use Rattle.std.specs.List.{list_any}
 use Rattle.rob_rules.specs.declared.sort.Sort.{Sort}
 use Rattle.rob_syntax.specs.declared.syntax.Statement.{Statement}
-use Rattle.rob_write.specs.Canonical.{Naming}
+use Rattle.rob_write.specs.ExpressionWords.{Naming}
 use Rattle.rob_rules.specs.Faults.{has_twice, has_zero_divisor, is_certain, is_listing, is_of_set, is_over, is_over_none, is_unknown, names_decision, over_of}
 use Rattle.rob_rules.specs.Leaves.{members_of, statement_leaves}
 use Rattle.rob_rules.specs.Scopes.{Earlier}

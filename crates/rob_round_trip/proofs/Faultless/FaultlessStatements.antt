@@ -33,7 +33,9 @@ use Rattle.rob_syntax.specs.declared.symbol.Symbol.TheVariants.{Name, Reserved, 
 use Rattle.rob_syntax.specs.declared.syntax.Member.{Member}
 use Rattle.rob_syntax.specs.declared.syntax.Policy.{Policy as Rule}
 use Rattle.rob_syntax.specs.declared.syntax.Statement.{Statement}
-use Rattle.rob_write.specs.Canonical.{Naming, Written, adaptive_words, bound_words, comparison_words, declared_set_words, expression_words, goal_words, listed, member_words, name as name_word, name_at, number_words, over_words, parameter_words, relation_word, row_words, set_words, sign, variable_words}
+use Rattle.rob_write.specs.Pages.{Written, name as name_word, sign}
+use Rattle.rob_write.specs.ExpressionWords.{Naming, expression_words, listed, name_at, number_words}
+use Rattle.rob_write.specs.StatementWords.{adaptive_words, bound_words, comparison_words, declared_set_words, goal_words, member_words, over_words, parameter_words, relation_word, row_words, set_words, variable_words}
 use Rattle.rob_round_trip.proofs.Faultless.FaultlessParts.{HasNoFault, parameters_only}
 use Rattle.rob_round_trip.proofs.Faultless.FaultlessProducts.{none_of_both}
 use Rattle.rob_round_trip.proofs.Faultless.FineLeaves.{IsFineLeaf, all_usable, all_within, fine_numeral, no_zero_divisor, not_zero}

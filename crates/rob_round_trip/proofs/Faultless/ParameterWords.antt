@@ -13,7 +13,7 @@ use Rattle.rob_rules.specs.declared.sort.Sort.{Sort}
 use Rattle.rob_rules.specs.declared.sort.Sort.TheVariants as sort
 use Rattle.rob_rules.specs.declared.sort.Sort.TheVariants.{Decision, Parameter, Policy, RowName}
 use Rattle.rob_syntax.specs.Trees.{Operands, Summands, Tree, name, no_operands, no_summands, number, operand, product, sum, summand}
-use Rattle.rob_write.specs.Canonical.{Naming, enclosed, expression_words, factor_words, is_compound, is_sum, lead, term_words, times}
+use Rattle.rob_write.specs.ExpressionWords.{Naming, enclosed, expression_words, factor_words, is_compound, is_sum, lead, term_words, times}
 use Rattle.rob_round_trip.proofs.Faultless.FaultlessParts.{parameters_only}
 use Rattle.rob_round_trip.proofs.Faultless.FaultlessProducts.{none_of_both}
 use Rattle.rob_round_trip.specs.Readable.{FactorsReadable, IsReadable, TermsReadable}

@@ -16,7 +16,9 @@ use Rattle.rob_syntax.specs.declared.syntax.Sense.TheVariants as sense
 use Rattle.rob_syntax.specs.declared.syntax.Goal.{Goal}
 use Rattle.rob_syntax.specs.declared.syntax.Statement.{Statement}
 use Rattle.rob_syntax.specs.declared.syntax.Statement.TheVariants as parsed
-use Rattle.rob_write.specs.Canonical.{Written, declared_set_words, Naming, name_at, sign, listed, number_words, bound_words, member_words, comparison_words, expression_words, parameter_words, variable_words, adaptive_words, set_words, row_words, goal_word, goal_words}
+use Rattle.rob_write.specs.Pages.{Written, sign}
+use Rattle.rob_write.specs.ExpressionWords.{Naming, name_at, listed, number_words, expression_words}
+use Rattle.rob_write.specs.StatementWords.{declared_set_words, bound_words, member_words, comparison_words, parameter_words, variable_words, adaptive_words, set_words, row_words, goal_word, goal_words}
 use Rattle.rob_syntax.specs.Grammar.{tree_expr}
 use Rattle.rob_syntax.specs.Lists.{spell_more, spell_list}
 use Rattle.rob_round_trip.specs.Pages.{symbols_on}

@@ -25,7 +25,8 @@ use Rattle.rob_syntax.specs.Numbered.{numbered, numbered_factors, numbered_membe
 use Rattle.rob_syntax.specs.Seen.{seen_bounds, seen_rel, seen_sense}
 use Rattle.rob_syntax.specs.Symbols.{number_of}
 use Rattle.rob_syntax.specs.Trees.{Part, operands_of, part_of, summand, summands_of, tree_of}
-use Rattle.rob_write.specs.Canonical.{Naming, Written, line_end}
+use Rattle.rob_write.specs.Pages.{Written, line_end}
+use Rattle.rob_write.specs.ExpressionWords.{Naming}
 
 -- ---- with names for numbers again it is the plain statement, each name renamed
 bounds_again : (b : Option plain.Bounds) → option_map seen_bounds (option_map own_bounds b) ≡ b

@@ -31,7 +31,7 @@ use Rattle.rob_syntax.specs.Symbols.{words_of}
 use Rattle.rob_syntax.specs.Versions.{text_lines, text_version}
 use Rattle.rob_syntax.specs.declared.symbol.Symbol.{Symbol}
 use Rattle.rob_syntax.specs.declared.syntax.Statement.{Statement}
-use Rattle.rob_write.specs.Canonical.{Naming}
+use Rattle.rob_write.specs.ExpressionWords.{Naming}
 
 -- what holds of each line as it is seen holds of one of them
 pub seen_among : (Q : List is.Symbol → Type 0) (ls : List (List Symbol))

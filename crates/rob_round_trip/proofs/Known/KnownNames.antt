@@ -15,7 +15,7 @@ use Rattle.rob_rules.specs.declared.sort.Sort.TheVariants as sort
 use Rattle.rob_rules.specs.declared.sort.Sort.TheVariants.{Parameter, Decision, Policy, RowName}
 use Rattle.rob_syntax.specs.declared.syntax.Statement.{Statement}
 use Rattle.rob_syntax.specs.declared.syntax.Statement.TheVariants as parsed
-use Rattle.rob_write.specs.Canonical.{naming_of}
+use Rattle.rob_write.specs.ExpressionWords.{naming_of}
 use Rattle.rob_rules.specs.Degrees.{sort_at}
 use Rattle.rob_rules.specs.Faults.{first_fault, has_fault, in_order, is_over_none, is_set, over_of}
 use Rattle.rob_parse.specs.Modelled.{EndsInSet, IsOfSet}

@@ -28,7 +28,9 @@ use Rattle.rob_syntax.specs.declared.syntax.Member.{Member}
 use Rattle.rob_syntax.specs.declared.syntax.Relation.{Relation}
 use Rattle.rob_syntax.specs.declared.syntax.Statement.{Statement}
 use Rattle.rob_syntax.specs.declared.syntax.Statement.TheVariants as parsed
-use Rattle.rob_write.specs.Canonical.{Naming, Written, bound_words, comma, comparison_words, enclosed, expression_words, factor_words, is_compound, is_sum, keyword, lead, line_end, listed, member_words, name_at, number_words, over_words, relation_word, sign, term_words, times}
+use Rattle.rob_write.specs.Pages.{Written, keyword, line_end, sign}
+use Rattle.rob_write.specs.ExpressionWords.{Naming, comma, enclosed, expression_words, factor_words, is_compound, is_sum, lead, listed, name_at, number_words, term_words, times}
+use Rattle.rob_write.specs.StatementWords.{bound_words, comparison_words, member_words, over_words, relation_word}
 
 -- ---- parts of expressions
 enclosed_length : (b : Bool) (ws : List Written) → length (enclosed b ws) ≡ (if b then 2 else 0) + length ws

@@ -15,7 +15,8 @@ use Rattle.rob_syntax.specs.Seen.{seen_numeral, seen_signed}
 use Rattle.rob_syntax.specs.declared.symbol.Mark.TheVariants as mark
 use Rattle.rob_syntax.specs.declared.syntax.Numeral.{Numeral}
 use Rattle.rob_syntax.specs.declared.syntax.Signed.{Signed}
-use Rattle.rob_write.specs.Canonical.{digits, divisor_words, minus_words, number_words, sign}
+use Rattle.rob_write.specs.Pages.{digits, sign}
+use Rattle.rob_write.specs.ExpressionWords.{divisor_words, minus_words, number_words}
 
 -- ---- fractions from pairs
 -- a divisor of 1 goes

@@ -6,7 +6,7 @@ use Rattle.rob_syntax.specs.declared.symbol.Mark.{Mark}
 use Rattle.rob_syntax.specs.declared.symbol.Mark.TheVariants as mark
 use Rattle.rob_syntax.specs.declared.symbol.Symbol.{Symbol}
 use Rattle.rob_syntax.specs.declared.symbol.Symbol.TheVariants.{Sign}
-use Rattle.rob_write.specs.Canonical.{Written, name, digits, keyword, sign, negative, line_end}
+use Rattle.rob_write.specs.Pages.{Written, name, digits, keyword, sign, negative, line_end}
 use Rattle.rob_round_trip.specs.Pages.{IsShallow}
 
 -- ---- how deep one stands

@@ -28,7 +28,9 @@ use Rattle.rob_syntax.specs.declared.syntax.Sense.{Sense}
 use Rattle.rob_syntax.specs.declared.syntax.Sense.TheVariants as sense
 use Rattle.rob_syntax.specs.declared.syntax.Statement.{Statement}
 use Rattle.rob_syntax.specs.declared.syntax.Statement.TheVariants as parsed
-use Rattle.rob_write.specs.Canonical.{Naming, Written, bound_words, comma, comparison_words, digits, divisor_words, enclosed, expression_words, factor_words, goal_word, is_compound, is_sum, lead, listed, member_words, minus_words, name_at, negative, number_words, over_words, relation_word, sign, term_words, times}
+use Rattle.rob_write.specs.Pages.{Written, digits, negative, sign}
+use Rattle.rob_write.specs.ExpressionWords.{Naming, comma, divisor_words, enclosed, expression_words, factor_words, is_compound, is_sum, lead, listed, minus_words, name_at, number_words, term_words, times}
+use Rattle.rob_write.specs.StatementWords.{bound_words, comparison_words, goal_word, member_words, over_words, relation_word}
 
 -- ---- parts without parentheses
 low_minus : (b : Bool) → IsLow (minus_words b) 0

@@ -4,7 +4,8 @@ use Rattle.rob_index.specs.Depths.{one_if}
 use Rattle.rob_lex.specs.Offences.{most_open}
 use Rattle.rob_round_trip.proofs.Lengths.DepthSteps.{IsFlat, Shallow, depth_of, depth_of-append, depth_of-flat, shallow_flat, shallow_join, stays, step_of_word}
 use Rattle.rob_syntax.specs.declared.symbol.Mark.TheVariants as mark
-use Rattle.rob_write.specs.Canonical.{Written, enclosed, sign}
+use Rattle.rob_write.specs.Pages.{Written, sign}
+use Rattle.rob_write.specs.ExpressionWords.{enclosed}
 
 -- the words open n at most, and as many are open behind them as in front
 pub record IsLow (ws : List Written) (n : ℕ) : Type 0 where

@@ -12,7 +12,11 @@ use Rattle.rob_meaning.proofs.EachLemmas.{each_append}
 use Rattle.rob_rules.specs.declared.sort.Sort.{Sort}
 use Rattle.rob_syntax.specs.declared.syntax.Statement.{Statement}
 use Rattle.rob_syntax.specs.declared.syntax.Statement.TheVariants as parsed
-use Rattle.rob_write.specs.Canonical.{Written, declared_set_words, lines_over, over_words, written_model, line_end, Naming, naming_of, parameter_words, set_words, variable_words, adaptive_words, goal_words, row_words, lines_of}
+use Rattle.rob_write.specs.Pages.{Written, line_end}
+use Rattle.rob_write.specs.WrittenModel.{written_model}
+use Rattle.rob_write.specs.ExpressionWords.{Naming, naming_of}
+use Rattle.rob_write.specs.StatementWords.{declared_set_words, lines_over, over_words, parameter_words, set_words, variable_words, adaptive_words, goal_words, row_words}
+use Rattle.rob_write.specs.Canonical.{lines_of}
 use Rattle.rob_parse.specs.Modelled.{ReadsModel}
 use Rattle.rob_parse.specs.Models.{line_sets, objective_set, parameters, row_sets, set_lines, sets, variables, adaptives, rows, goal_in, sense_in, objective_of, written_of}
 use Rattle.rob_round_trip.specs.Pages.{IsShallow, ended}

@@ -15,7 +15,7 @@ use Rattle.rob_syntax.specs.declared.symbol.Mark.TheVariants as mark
 use Rattle.rob_write.specs.declared.page.Edge.{Edge}
 use Rattle.rob_write.specs.declared.page.Edge.TheVariants.{Tight, Named, Apart}
 use Rattle.rob_write.specs.declared.page.Page.{Page}
-use Rattle.rob_write.specs.Canonical.{Written, name, digits, keyword, sign, negative, line_end, keyword_text, mark_text, bytes_of, edge_behind, is_close, gap, put, put_line}
+use Rattle.rob_write.specs.Pages.{Written, name, digits, keyword, sign, negative, line_end, keyword_text, mark_text, bytes_of, edge_behind, is_close, gap, put, put_line}
 use Rattle.rob_syntax.specs.Names.{GoesOn, IsWord}
 use Rattle.rob_round_trip.specs.Pages.{IsUsed, ended, kind_of}
 use Rattle.rob_round_trip.proofs.Pages.DigitLemmas.{AreDigits, decimal_digits, decimal_some}

@@ -9,7 +9,7 @@ use Rattle.rob_lex.specs.Offences.{most_tokens, AreTokens}
 use Rattle.rob_lex.specs.Slices.{Lexed, lexed}
 use Rattle.rob_meaning.specs.Places.{Each}
 use Rattle.rob_syntax.specs.declared.symbol.Symbol.{Symbol}
-use Rattle.rob_write.specs.Canonical.{Written, name, digits, keyword, sign, negative, line_end, bytes_of}
+use Rattle.rob_write.specs.Pages.{Written, name, digits, keyword, sign, negative, line_end, bytes_of}
 use Rattle.rob_round_trip.specs.Pages.{IsToken, IsWritable, IsLine, IsReadAs, ended, page_text, kind_of, words_on, symbols_on}
 use Rattle.rob_index.specs.Reading.{one}
 use Rattle.rob_syntax.specs.Symbols.{add_word, add_token, token_lines, word_at, symbol_at, symbols_of, bytes_of as token_bytes, words_of, lines_of}

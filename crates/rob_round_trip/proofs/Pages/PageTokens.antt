@@ -20,7 +20,7 @@ use Rattle.rob_write.specs.declared.page.Edge.{Edge}
 use Rattle.rob_write.specs.declared.page.Edge.TheVariants.{Tight}
 use Rattle.rob_write.specs.declared.page.Page.{Page}
 use Rattle.rob_meaning.specs.Places.{Each}
-use Rattle.rob_write.specs.Canonical.{Written, name, digits, keyword, sign, negative, line_end, keyword_text, bytes_of, edge_behind, is_close, gap, blank}
+use Rattle.rob_write.specs.Pages.{Written, name, digits, keyword, sign, negative, line_end, keyword_text, bytes_of, edge_behind, is_close, gap, blank}
 use Rattle.rob_syntax.specs.Names.{IsWord}
 use Rattle.rob_round_trip.specs.Pages.{IsToken, IsWritable, depth_behind, MayOpen, IsShallow, IsLine, ended, page_text, kind_of}
 use Rattle.rob_round_trip.proofs.Pages.DigitLemmas.{AreDigits, decimal_digits, decimal_some}

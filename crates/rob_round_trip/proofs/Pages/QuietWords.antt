@@ -12,7 +12,7 @@ use Rattle.rob_syntax.specs.declared.symbol.Keyword.TheVariants as word
 use Rattle.rob_syntax.specs.declared.symbol.Mark.{Mark}
 use Rattle.rob_syntax.specs.declared.symbol.Mark.TheVariants as mark
 use Rattle.rob_syntax.specs.Symbols.{keyword_among, keywords}
-use Rattle.rob_write.specs.Canonical.{Written, name, digits, keyword, sign, negative, line_end, keyword_text, mark_text, bytes_of}
+use Rattle.rob_write.specs.Pages.{Written, name, digits, keyword, sign, negative, line_end, keyword_text, mark_text, bytes_of}
 use Rattle.rob_round_trip.specs.Pages.{IsToken, IsUsed, IsWritable, ended}
 use Rattle.rob_round_trip.proofs.Pages.DigitLemmas.{AreDigits, decimal_digits}
 

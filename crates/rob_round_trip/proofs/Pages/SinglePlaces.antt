@@ -7,7 +7,7 @@ use Rattle.rob_lex.specs.Places.{behind, depth_at}
 use Rattle.rob_lex.specs.Weights.{total}
 use Rattle.rob_syntax.specs.declared.symbol.Mark.{Mark}
 use Rattle.rob_syntax.specs.declared.symbol.Mark.TheVariants as mark
-use Rattle.rob_write.specs.Canonical.{Written, name, digits, keyword, sign, negative, line_end, bytes_of}
+use Rattle.rob_write.specs.Pages.{Written, name, digits, keyword, sign, negative, line_end, bytes_of}
 use Rattle.rob_round_trip.specs.Pages.{depth_behind, kind_of}
 use Rattle.rob_round_trip.proofs.Pages.QuietWords.{IsQuiet}
 

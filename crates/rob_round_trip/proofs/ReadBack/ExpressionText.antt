@@ -17,7 +17,8 @@ use Rattle.rob_syntax.specs.declared.symbol.Mark.TheVariants as mark
 use Rattle.rob_syntax.specs.declared.syntax.Syntax.{Syntax}
 use Rattle.rob_syntax.specs.declared.syntax.Syntax.TheVariants as syntax
 use Rattle.rob_syntax.specs.declared.syntax.Summand.{Summand}
-use Rattle.rob_write.specs.Canonical.{Written, name, sign, bytes_of, Naming, expression_words, term_words, factor_words, is_sum, is_compound, enclosed, lead}
+use Rattle.rob_write.specs.Pages.{Written, name, sign, bytes_of}
+use Rattle.rob_write.specs.ExpressionWords.{Naming, expression_words, term_words, factor_words, is_sum, is_compound, enclosed, lead}
 use Rattle.rob_syntax.specs.Grammar.{Factor, Factors, Term, Terms, Expr, number, parens, no_factors, times as g_times, term, no_terms, signed, expr, name as g_name, spell_minus, sign_of, spell_factor, spell_factors, spell_term, spell_terms, spell_expr, tree_factor, tree_factors, tree_term, tree_terms, tree_expr}
 use Rattle.rob_parse.specs.Models.{expression, terms, factors, named}
 use Rattle.rob_round_trip.specs.Pages.{kind_of, symbols_on}

@@ -11,7 +11,11 @@ use Rattle.rob_syntax.specs.declared.symbol.Symbol.{Symbol}
 use Rattle.rob_syntax.specs.declared.syntax.Goal.{Goal}
 use Rattle.rob_syntax.specs.declared.syntax.Statement.{Statement}
 use Rattle.rob_syntax.specs.declared.syntax.Statement.TheVariants as parsed
-use Rattle.rob_write.specs.Canonical.{Written, declared_set_words, line_written, lines_over, over_words, row_written, written_model, Naming, naming_of, expression_words, parameter_words, variable_words, adaptive_words, set_words, row_words, goal_words, lines_of}
+use Rattle.rob_write.specs.Pages.{Written}
+use Rattle.rob_write.specs.WrittenModel.{line_written, row_written, written_model}
+use Rattle.rob_write.specs.ExpressionWords.{Naming, naming_of, expression_words}
+use Rattle.rob_write.specs.StatementWords.{declared_set_words, lines_over, over_words, parameter_words, variable_words, adaptive_words, set_words, row_words, goal_words}
+use Rattle.rob_write.specs.Canonical.{lines_of}
 use Rattle.rob_syntax.specs.Grammar.{tree_expr}
 use Rattle.rob_parse.specs.Models.{in_sets, line_sets, objective_set, row_sets, sets, written_of, parameters, variables, adaptives, set_lines, rows, goal_in, sense_in, objective_of, model_of}
 use Rattle.rob_round_trip.specs.Pages.{symbols_on}

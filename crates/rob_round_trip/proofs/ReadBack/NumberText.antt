@@ -10,7 +10,8 @@ use Rattle.rob_syntax.specs.declared.symbol.Symbol.TheVariants.{Digits, Sign}
 use Rattle.rob_syntax.specs.declared.symbol.Mark.TheVariants as mark
 use Rattle.rob_syntax.specs.declared.syntax.Numeral.{Numeral}
 use Rattle.rob_syntax.specs.declared.syntax.Signed.{Signed}
-use Rattle.rob_write.specs.Canonical.{digits, sign, divisor_words, minus_words, number_words}
+use Rattle.rob_write.specs.Pages.{digits, sign}
+use Rattle.rob_write.specs.ExpressionWords.{divisor_words, minus_words, number_words}
 use Rattle.rob_syntax.specs.Grammar.{spell_divisor, spell_number, spell_minus}
 use Rattle.rob_meaning.specs.Values.{signed}
 use Rattle.rob_parse.specs.Models.{fraction, signed_fraction}

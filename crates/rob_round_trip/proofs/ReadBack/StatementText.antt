@@ -18,7 +18,9 @@ use Rattle.rob_syntax.specs.declared.syntax.Rel.TheVariants as rel
 use Rattle.rob_syntax.specs.declared.syntax.Sense.{Sense}
 use Rattle.rob_syntax.specs.declared.syntax.Sense.TheVariants as sense
 use Rattle.rob_syntax.specs.declared.syntax.Member.{Member}
-use Rattle.rob_write.specs.Canonical.{over_words, Written, name, keyword, sign, Naming, number_words, bound_words, listed, expression_words, relation_word, comparison_words, member_words, goal_word}
+use Rattle.rob_write.specs.Pages.{Written, name, keyword, sign}
+use Rattle.rob_write.specs.ExpressionWords.{Naming, number_words, listed, expression_words}
+use Rattle.rob_write.specs.StatementWords.{over_words, bound_words, relation_word, comparison_words, member_words, goal_word}
 use Rattle.rob_syntax.specs.Lists.{spell_more, spell_list}
 use Rattle.rob_parse.specs.Models.{set_at, set_number, lower_bound, upper_bound, relation_of, sense_of, member, expression, parameter_number, parameter_at}
 use Rattle.rob_round_trip.specs.Pages.{symbols_on}

@@ -9,7 +9,10 @@ use Rattle.rob_meaning.specs.RobustModel as model
 use Rattle.rob_meaning.specs.RobustModel.{AdaptiveVariable, Member, RobustModel, Row, SetLine, budget, line}
 use Rattle.rob_syntax.specs.declared.symbol.Keyword.TheVariants as word
 use Rattle.rob_syntax.specs.declared.symbol.Mark.TheVariants as mark
-use Rattle.rob_write.specs.Canonical.{IsNotOver, Naming, Written, bound_words, comma, comparison_words, digits, divisor_words, enclosed, expression_words, factor_words, goal_word, is_compound, is_sum, keyword, lead, listed, member_words, minus_words, name_at, negative, number_words, paren, relation_word, sign, term_words, times, adaptive_words, lines_alone, naming_alone, parameter_words, row_words, set_words, variable_words}
+use Rattle.rob_write.specs.Pages.{Written, digits, keyword, negative, sign}
+use Rattle.rob_write.specs.ExpressionWords.{Naming, comma, divisor_words, enclosed, expression_words, factor_words, is_compound, is_sum, lead, listed, minus_words, name_at, number_words, paren, term_words, times}
+use Rattle.rob_write.specs.StatementWords.{bound_words, comparison_words, goal_word, member_words, relation_word, adaptive_words, parameter_words, row_words, set_words, variable_words}
+use Rattle.rob_write.specs.Canonical.{IsNotOver, lines_alone, naming_alone}
 
 -- ---- no word `over` in them
 abbrev Quiet : List Written → Type 0

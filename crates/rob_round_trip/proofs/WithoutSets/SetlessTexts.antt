@@ -10,7 +10,11 @@ use Rattle.rob_meaning.specs.RobustModel.{AdaptiveVariable, Member, Parameter, R
 use Rattle.rob_rules.specs.declared.sort.Sort.{Sort}
 use Rattle.rob_syntax.specs.declared.syntax.Statement.{Statement}
 use Rattle.rob_syntax.specs.declared.syntax.Statement.TheVariants as parsed
-use Rattle.rob_write.specs.Canonical.{Written, adaptive_words, declared_set_words, goal_words, lines_alone, lines_of, lines_over, naming_alone, naming_of, over_words, parameter_words, row_words, set_words, variable_words, written_model}
+use Rattle.rob_write.specs.Pages.{Written}
+use Rattle.rob_write.specs.WrittenModel.{written_model}
+use Rattle.rob_write.specs.ExpressionWords.{naming_of}
+use Rattle.rob_write.specs.StatementWords.{adaptive_words, declared_set_words, goal_words, lines_over, over_words, parameter_words, row_words, set_words, variable_words}
+use Rattle.rob_write.specs.Canonical.{lines_alone, lines_of, naming_alone}
 use Rattle.rob_parse.specs.Modelled.{HasNoOver, NamesNoSet, ReadsModel, written_alone}
 use Rattle.rob_parse.specs.Models.{each_taken, factors_taken, goal_in, in_sets, line_sets, line_taken, member_taken, model_of, objective_set, row_sets, row_taken, rows, set_at, set_lines, sets, taken, terms_taken, written_of}
 use Rattle.rob_round_trip.specs.Readable.{IsPlaced}

@@ -13,7 +13,11 @@ use Rattle.rob_syntax.specs.declared.symbol.Keyword.TheVariants as word
 use Rattle.rob_syntax.specs.declared.symbol.Keyword.{Keyword}
 use Rattle.rob_syntax.specs.declared.symbol.Symbol.{Symbol}
 use Rattle.rob_syntax.specs.declared.symbol.Symbol.TheVariants.{Name, Reserved}
-use Rattle.rob_write.specs.Canonical.{beside, over_words, placed_words, row_written, written_model, Written, name, digits, keyword, sign, negative, line_end, bytes_of, naming_of, name_at, listed, bound_words, comparison_words, set_words, row_words, goal_words, lines_of}
+use Rattle.rob_write.specs.Pages.{Written, name, digits, keyword, sign, negative, line_end, bytes_of}
+use Rattle.rob_write.specs.WrittenModel.{row_written, written_model}
+use Rattle.rob_write.specs.ExpressionWords.{naming_of, name_at, listed}
+use Rattle.rob_write.specs.StatementWords.{beside, over_words, placed_words, bound_words, comparison_words, set_words, row_words, goal_words}
+use Rattle.rob_write.specs.Canonical.{lines_of}
 use Rattle.rob_round_trip.specs.Pages.{ended, kind_of, words_on}
 use Rattle.rob_syntax.specs.Names.{IsSpelled}
 use Rattle.rob_round_trip.specs.Readable.{IsDeclarable, AreDeclarable}

@@ -9,7 +9,7 @@ use Rattle.rob_parse.proofs.Sets.InSets.{length-each_taken}
 use Rattle.rob_parse.proofs.Building.ModelLemmas.{well_formed_written, written_by}
 use Rattle.rob_parse.proofs.Building.PlacedLemmas.{names, of_lines, of_objective, of_rows, of_lines_there, of_objective_there, of_rows_there}
 use Rattle.rob_parse.proofs.Sets.SetNumbers.{lines_beside, rows_beside}
-use Rattle.rob_write.specs.Canonical.{written_model}
+use Rattle.rob_write.specs.WrittenModel.{written_model}
 use Rattle.rob_round_trip.specs.Readable.{IsPlaced}
 use Rattle.rob_round_trip.proofs.Written.WrittenBack.{written_is}
 

@@ -15,7 +15,8 @@ use Rattle.rob_syntax.specs.declared.syntax.Statement.{Statement}
 use Rattle.rob_syntax.specs.declared.syntax.Statement.TheVariants as parsed
 use Rattle.rob_syntax.specs.declared.syntax.Syntax.{Syntax}
 use Rattle.rob_parse.specs.Building.{FitsNumber, FitsTree, FitsMember, FitsStatement}
-use Rattle.rob_write.specs.Canonical.{Naming, naming_of, written_model}
+use Rattle.rob_write.specs.WrittenModel.{written_model}
+use Rattle.rob_write.specs.ExpressionWords.{Naming, naming_of}
 use Rattle.rob_rules.specs.Degrees.{sort_at}
 use Rattle.rob_rules.specs.Faults.{is_of_set, is_unknown, names_decision, first_fault}
 use Rattle.rob_parse.specs.Modelled.{ReadsModel}

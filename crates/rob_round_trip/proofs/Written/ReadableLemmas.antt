@@ -16,7 +16,7 @@ use Rattle.rob_syntax.specs.declared.syntax.Signed.{Signed}
 use Rattle.rob_syntax.specs.declared.syntax.Bounds.{Bounds}
 use Rattle.rob_syntax.specs.declared.syntax.Bounds.TheVariants.{Between, AtLeast, AtMost}
 use Rattle.rob_parse.specs.Building.{FitsNumber, FitsBounds, FitsTree, FitsSummands, FitsOperands}
-use Rattle.rob_write.specs.Canonical.{Naming}
+use Rattle.rob_write.specs.ExpressionWords.{Naming}
 use Rattle.rob_rules.specs.Degrees.{sort_at}
 use Rattle.rob_rules.specs.Faults.{is_usable}
 use Rattle.rob_parse.specs.Models.{fraction, signed_fraction, lower_bound, upper_bound, expression, terms, factors, named}

@@ -13,7 +13,11 @@ use Rattle.std.proofs.lemmas.List.{length-map}
 use Rattle.rob_syntax.specs.declared.symbol.Mark.{Mark}
 use Rattle.rob_syntax.specs.declared.symbol.Mark.TheVariants as mark
 use Rattle.rob_syntax.specs.declared.symbol.Keyword.TheVariants as word
-use Rattle.rob_write.specs.Canonical.{declared_set_words, line_written, lines_over, over_words, row_written, written_model, Written, name, digits, keyword, sign, Naming, naming_of, name_at, minus_words, divisor_words, number_words, is_sum, is_compound, paren, enclosed, lead, times, comma, listed, expression_words, term_words, factor_words, relation_word, bound_words, member_words, comparison_words, parameter_words, variable_words, adaptive_words, set_words, row_words, goal_word, goal_words, lines_of}
+use Rattle.rob_write.specs.Pages.{Written, name, digits, keyword, sign}
+use Rattle.rob_write.specs.WrittenModel.{line_written, row_written, written_model}
+use Rattle.rob_write.specs.ExpressionWords.{Naming, naming_of, name_at, minus_words, divisor_words, number_words, is_sum, is_compound, paren, enclosed, lead, times, comma, listed, expression_words, term_words, factor_words}
+use Rattle.rob_write.specs.StatementWords.{declared_set_words, lines_over, over_words, relation_word, bound_words, member_words, comparison_words, parameter_words, variable_words, adaptive_words, set_words, row_words, goal_word, goal_words}
+use Rattle.rob_write.specs.Canonical.{lines_of}
 use Rattle.rob_round_trip.specs.Pages.{IsWritable}
 use Rattle.rob_syntax.specs.Names.{IsSpelled}
 use Rattle.rob_round_trip.specs.Readable.{IsBound, IsReadable, TermsReadable, FactorsReadable, IsReadableMember, IsReadableSetLine, IsReadableModel}

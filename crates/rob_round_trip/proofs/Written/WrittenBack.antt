@@ -7,7 +7,7 @@ use Rattle.rob_meaning.specs.RobustModel.{Member, RobustModel, Row, SetLine, bud
 use Rattle.rob_meaning.specs.WellFormed.{FactorsInside, IsExpression, IsInside, IsMember, IsModel, IsSetLine, TermsInside}
 use Rattle.rob_parse.specs.Models.{adaptive_taken, each_taken, factors_taken, in_sets, line_taken, member_taken, row_taken, taken, terms_taken}
 use Rattle.rob_parse.proofs.Sets.InSets as placed
-use Rattle.rob_write.specs.Canonical.{factors_written, line_written, member_written, row_written, terms_written, written, written_model}
+use Rattle.rob_write.specs.WrittenModel.{factors_written, line_written, member_written, row_written, terms_written, written, written_model}
 
 module _ (w : RobustModel) (alone : w.sets ≡ []) (names : List (List ℕ)) (of_lines : List ℕ) (of_objective : ℕ)
     (of_rows : List ℕ) where

@@ -23,7 +23,9 @@ use Rattle.rob_top.specs.WorkedModels.{demand_within_a_budget, greatest}
 use Rattle.rob_top.specs.declared.ended.Ended.{Ended}
 use Rattle.rob_top.specs.declared.ended.Ended.TheVariants.{Printed}
 use Rattle.rob_words.specs.declared.verb.Verb.TheVariants as verbs
-use Rattle.rob_write.specs.Canonical.{model_text, naming_of, written_model}
+use Rattle.rob_write.specs.WrittenModel.{written_model}
+use Rattle.rob_write.specs.ExpressionWords.{naming_of}
+use Rattle.rob_write.specs.Canonical.{model_text}
 
 -- ---- minimise x, where x >= d for each d in [0, 2], within a budget of 1 round 1 by 1
 its_spelling : Each IsSpelledName (declared_names demand_within_a_budget)

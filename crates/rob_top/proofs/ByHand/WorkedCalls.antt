@@ -23,7 +23,9 @@ use Rattle.rob_meaning.specs.WellFormed.{IsModel}
 use Rattle.rob_outside.specs.Files.{file_of, found_at, whole}
 use Rattle.rob_model.specs.Limits.{IsWithinLimits, model_size, most_columns, most_members, most_parameters, most_rows, most_set_lines, most_sets, most_size}
 use Rattle.rob_round_trip.proofs.Canonical.CanonicalReading.{canonical_reads}
-use Rattle.rob_write.specs.Canonical.{model_text, naming_of, written_model}
+use Rattle.rob_write.specs.WrittenModel.{written_model}
+use Rattle.rob_write.specs.ExpressionWords.{naming_of}
+use Rattle.rob_write.specs.Canonical.{model_text}
 use Rattle.rob_parse.specs.Modelled.{ReadsModel}
 use Rattle.rob_lex.specs.Bytes.{begins_word}
 use Rattle.rob_syntax.specs.Symbols.{keyword_among, keywords}

@@ -14,7 +14,9 @@ use Rattle.rob_meaning.specs.Places.{0ℚ, 1ℚ}
 use Rattle.rob_meaning.specs.UncertaintySet.{IsEmptySet}
 use Rattle.rob_model.specs.Limits.{IsWithinLimits}
 use Rattle.rob_round_trip.proofs.Canonical.CanonicalReading.{canonical_reads}
-use Rattle.rob_write.specs.Canonical.{model_text, naming_of, written_model}
+use Rattle.rob_write.specs.WrittenModel.{written_model}
+use Rattle.rob_write.specs.ExpressionWords.{naming_of}
+use Rattle.rob_write.specs.Canonical.{model_text}
 use Rattle.rob_parse.specs.Modelled.{ReadsModel}
 use Rattle.rob_round_trip.specs.Readable.{IsReadableModel}
 use Rattle.rob_top.proofs.Relations.NarrowForms.{all_narrow, difference_narrow}

@@ -23,7 +23,9 @@ use Rattle.rob_top.specs.Inputs.{HasWholeVariables}
 use Rattle.rob_top.specs.WorkedCalls.{whole_call}
 use Rattle.rob_top.specs.WorkedModels.{greatest, impossible_demand}
 use Rattle.rob_top.specs.declared.ended.Ended.{Ended}
-use Rattle.rob_write.specs.Canonical.{model_text, naming_of, written_model}
+use Rattle.rob_write.specs.WrittenModel.{written_model}
+use Rattle.rob_write.specs.ExpressionWords.{naming_of}
+use Rattle.rob_write.specs.Canonical.{model_text}
 
 -- ---- minimise x, where 2 x >= d and d lies in [13, 8], and x lies in [0, 10]
 impossible_model : IsModel impossible_demand

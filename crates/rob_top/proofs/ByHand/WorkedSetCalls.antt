@@ -19,7 +19,9 @@ use Rattle.rob_meaning.specs.UncertaintySet.{Admits}
 use Rattle.rob_meaning.specs.WellFormed.{IsModel}
 use Rattle.rob_model.specs.Limits.{IsWithinLimits}
 use Rattle.rob_round_trip.proofs.Canonical.CanonicalReading.{canonical_reads}
-use Rattle.rob_write.specs.Canonical.{model_text, naming_of, written_model}
+use Rattle.rob_write.specs.WrittenModel.{written_model}
+use Rattle.rob_write.specs.ExpressionWords.{naming_of}
+use Rattle.rob_write.specs.Canonical.{model_text}
 use Rattle.rob_parse.specs.Modelled.{ReadsModel}
 use Rattle.rob_syntax.specs.Names.{IsSpelled}
 use Rattle.rob_round_trip.specs.Readable.{IsReadableModel}

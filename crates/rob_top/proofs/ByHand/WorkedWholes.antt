@@ -41,7 +41,9 @@ use Rattle.rob_words.specs.Values.{Word}
 use Rattle.rob_words.specs.declared.route.Route.TheVariants.{Dual}
 use Rattle.rob_words.specs.declared.verb.Verb.TheVariants.{Whole}
 use Rattle.rob_words.specs.declared.width.Width.TheVariants.{SixtyTwo}
-use Rattle.rob_write.specs.Canonical.{model_text, naming_of, written_model}
+use Rattle.rob_write.specs.WrittenModel.{written_model}
+use Rattle.rob_write.specs.ExpressionWords.{naming_of}
+use Rattle.rob_write.specs.Canonical.{model_text}
 use Rattle.rob_meaning.proofs.JoinedLemmas.{head_same}
 
 -- ---- whole one.rob NAME, where the shelf tells the model's file

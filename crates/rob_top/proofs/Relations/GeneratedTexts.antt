@@ -25,7 +25,10 @@ use Rattle.rob_syntax.specs.Symbols.{keyword_among, keywords, longest_name}
 use Rattle.rob_syntax.specs.declared.symbol.Keyword.{Keyword}
 use Rattle.rob_syntax.specs.declared.symbol.Mark.TheVariants.{Open}
 use Rattle.rob_top.specs.WorkedCalls.{first_text}
-use Rattle.rob_write.specs.Canonical.{Naming, Written, lines_of, model_text, naming_of, sign, written_model}
+use Rattle.rob_write.specs.Pages.{Written, sign}
+use Rattle.rob_write.specs.WrittenModel.{written_model}
+use Rattle.rob_write.specs.ExpressionWords.{Naming, naming_of}
+use Rattle.rob_write.specs.Canonical.{lines_of, model_text}
 
 -- ---- the text for 0
 pub first_is : model_text (generated 0) ≡ first_text

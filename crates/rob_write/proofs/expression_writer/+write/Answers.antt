@@ -1,6 +1,6 @@
 use Rattle.rob_meaning.specs.RobustModel.{written_count}
 use Rattle.rob_model.specs.View.{robust}
-use Rattle.rob_write.specs.Canonical.{naming_of}
+use Rattle.rob_write.specs.ExpressionWords.{naming_of}
 use Rattle.rob_write.proofs.WriterLemmas.{factor_step, term_step}
 use Rattle.rob_write.proofs.expression_writer.+write.Goals as goal
 

@@ -1,7 +1,9 @@
 use Rattle.std.proofs.Common.{◌≡◌, true, drop, map}
 use Rattle.std.specs.Prelude.{fold}
 use Rattle.rob_model.specs.View.{robust, expression_of, signed_of, terms_of, factors_of}
-use Rattle.rob_write.specs.Canonical.{put, naming_of, term_words, factor_words, terms_written, factors_written}
+use Rattle.rob_write.specs.Pages.{put}
+use Rattle.rob_write.specs.WrittenModel.{terms_written, factors_written}
+use Rattle.rob_write.specs.ExpressionWords.{naming_of, term_words, factor_words}
 use Rattle.rob_meaning.specs.RobustModel.{written_count}
 use Rattle.rob_write.proofs.expression_writer.+write.Given as goal
 

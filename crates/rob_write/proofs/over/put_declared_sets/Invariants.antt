@@ -1,6 +1,7 @@
 use Rattle.std.proofs.Common.{◌≡◌, drop, map}
 use Rattle.std.specs.Prelude.{fold}
-use Rattle.rob_write.specs.Canonical.{put_line, declared_set_words}
+use Rattle.rob_write.specs.Pages.{put_line}
+use Rattle.rob_write.specs.StatementWords.{declared_set_words}
 use Rattle.rob_write.proofs.over.put_declared_sets.Given as goal
 
 abbrev pub invariant-loop-set : goal.invariant-loop-set

@@ -1,7 +1,10 @@
 use Rattle.std.proofs.Common.{◌≡◌, true, drop, map}
 use Rattle.std.specs.Prelude.{fold}
 use Rattle.rob_model.specs.View.{member_of, robust}
-use Rattle.rob_write.specs.Canonical.{put, listed, member_words, member_written, naming_of}
+use Rattle.rob_write.specs.Pages.{put}
+use Rattle.rob_write.specs.WrittenModel.{member_written}
+use Rattle.rob_write.specs.ExpressionWords.{listed, naming_of}
+use Rattle.rob_write.specs.StatementWords.{member_words}
 use Rattle.rob_meaning.specs.RobustModel.{written_count}
 use Rattle.rob_write.proofs.set_writer.put_members.Given as goal
 

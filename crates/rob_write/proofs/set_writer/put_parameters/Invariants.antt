@@ -1,7 +1,8 @@
 use Rattle.std.proofs.Common.{◌≡◌, drop, map}
 use Rattle.std.specs.Prelude.{fold}
 use Rattle.rob_model.specs.View.{parameter_of}
-use Rattle.rob_write.specs.Canonical.{put_line, parameter_words}
+use Rattle.rob_write.specs.Pages.{put_line}
+use Rattle.rob_write.specs.StatementWords.{parameter_words}
 use Rattle.rob_write.proofs.set_writer.put_parameters.Given as goal
 
 abbrev pub invariant-loop-param : goal.invariant-loop-param

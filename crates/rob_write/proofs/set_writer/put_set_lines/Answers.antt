@@ -2,7 +2,10 @@ use Rattle.std.proofs.Common.{◌∙◌}
 use Rattle.std.specs.Prelude.{fold}
 use Rattle.rob_meaning.specs.RobustModel.{written_count}
 use Rattle.rob_model.specs.View.{robust, set_line_of}
-use Rattle.rob_write.specs.Canonical.{over_words, put, naming_of, set_words, line_written}
+use Rattle.rob_write.specs.Pages.{put}
+use Rattle.rob_write.specs.WrittenModel.{line_written}
+use Rattle.rob_write.specs.ExpressionWords.{naming_of}
+use Rattle.rob_write.specs.StatementWords.{over_words, set_words}
 use Rattle.rob_write.proofs.WriterLemmas.{over_step}
 use Rattle.rob_write.proofs.set_writer.put_set_lines.Goals as goal
 

@@ -2,7 +2,10 @@ use Rattle.std.proofs.Common.{◌≡◌, drop, map}
 use Rattle.std.specs.Prelude.{fold}
 use Rattle.rob_meaning.specs.RobustModel.{written_count}
 use Rattle.rob_model.specs.View.{set_line_of, robust}
-use Rattle.rob_write.specs.Canonical.{put_line, lines_over, set_words, line_written, naming_of}
+use Rattle.rob_write.specs.Pages.{put_line}
+use Rattle.rob_write.specs.WrittenModel.{line_written}
+use Rattle.rob_write.specs.ExpressionWords.{naming_of}
+use Rattle.rob_write.specs.StatementWords.{lines_over, set_words}
 use Rattle.rob_write.proofs.set_writer.put_set_lines.Given as goal
 
 abbrev pub invariant-loop-i : goal.invariant-loop-i

@@ -1,7 +1,9 @@
 use Rattle.std.proofs.Common.{◌≡◌, drop, map}
 use Rattle.std.specs.Prelude.{fold}
 use Rattle.rob_model.specs.View.{adaptive_of, robust}
-use Rattle.rob_write.specs.Canonical.{put_line, adaptive_words, naming_of}
+use Rattle.rob_write.specs.Pages.{put_line}
+use Rattle.rob_write.specs.ExpressionWords.{naming_of}
+use Rattle.rob_write.specs.StatementWords.{adaptive_words}
 use Rattle.rob_write.proofs.writer.put_adaptives.Given as goal
 
 abbrev pub invariant-loop-adaptive : goal.invariant-loop-adaptive

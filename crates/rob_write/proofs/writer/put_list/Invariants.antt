@@ -1,7 +1,8 @@
 use Rattle.std.proofs.Common.{◌≡◌, true, drop, [], ◌∷◌}
 use Rattle.std.specs.Prelude.{fold}
 use Rattle.rob_model.specs.View.{robust}
-use Rattle.rob_write.specs.Canonical.{put, listed, name_at, naming_of}
+use Rattle.rob_write.specs.Pages.{put}
+use Rattle.rob_write.specs.ExpressionWords.{listed, name_at, naming_of}
 use Rattle.rob_write.proofs.writer.put_list.Given as goal
 
 abbrev pub invariant-loop-k : goal.invariant-loop-k

@@ -2,7 +2,10 @@ use Rattle.std.proofs.Common.{◌∙◌}
 use Rattle.std.specs.Prelude.{fold}
 use Rattle.rob_meaning.specs.RobustModel.{written_count}
 use Rattle.rob_model.specs.View.{robust, row_of}
-use Rattle.rob_write.specs.Canonical.{over_words, put, naming_of, row_words, row_written}
+use Rattle.rob_write.specs.Pages.{put}
+use Rattle.rob_write.specs.WrittenModel.{row_written}
+use Rattle.rob_write.specs.ExpressionWords.{naming_of}
+use Rattle.rob_write.specs.StatementWords.{over_words, row_words}
 use Rattle.rob_write.proofs.WriterLemmas.{over_step}
 use Rattle.rob_write.proofs.writer.put_rows.Goals as goal
 

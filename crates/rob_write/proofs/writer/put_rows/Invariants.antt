@@ -2,7 +2,10 @@ use Rattle.std.proofs.Common.{◌≡◌, drop, map}
 use Rattle.std.specs.Prelude.{fold}
 use Rattle.rob_meaning.specs.RobustModel.{written_count}
 use Rattle.rob_model.specs.View.{row_of, robust}
-use Rattle.rob_write.specs.Canonical.{put_line, lines_over, row_words, row_written, naming_of}
+use Rattle.rob_write.specs.Pages.{put_line}
+use Rattle.rob_write.specs.WrittenModel.{row_written}
+use Rattle.rob_write.specs.ExpressionWords.{naming_of}
+use Rattle.rob_write.specs.StatementWords.{lines_over, row_words}
 use Rattle.rob_write.proofs.writer.put_rows.Given as goal
 
 abbrev pub invariant-loop-i : goal.invariant-loop-i

@@ -1,7 +1,8 @@
 use Rattle.std.proofs.Common.{◌≡◌, drop, map}
 use Rattle.std.specs.Prelude.{fold}
 use Rattle.rob_model.specs.View.{variable_of}
-use Rattle.rob_write.specs.Canonical.{put_line, variable_words}
+use Rattle.rob_write.specs.Pages.{put_line}
+use Rattle.rob_write.specs.StatementWords.{variable_words}
 use Rattle.rob_write.proofs.writer.put_variables.Given as goal
 
 abbrev pub invariant-loop-var : goal.invariant-loop-var
