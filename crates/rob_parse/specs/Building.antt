@@ -13,7 +13,8 @@ use Rattle.rob_syntax.specs.declared.syntax.Statement.{Statement}
 use Rattle.rob_syntax.specs.declared.syntax.Statement.TheVariants.{Uncertain, Over, Set, Budget, Var, Adaptive, Goal, Row}
 use Rattle.rob_parse.specs.declared.place.Place.{Place}
 use Rattle.rob_rules.specs.declared.scope.Scope.{Scope}
-use Rattle.rob_parse.specs.Models.{each_taken, parameters, sets, variables, adaptives, set_lines, line_sets, line_taken, rows, row_sets, row_taken, set_at, parameter_at}
+use Rattle.rob_parse.specs.Written.{parameters, sets, variables, adaptives, set_lines, rows, parameter_at}
+use Rattle.rob_parse.specs.Models.{each_taken, line_sets, line_taken, row_sets, row_taken, set_at}
 use Rattle.rob_syntax.specs.Trees.{Tree, number, name, sum, product, Summands, no_summands, summand, Operands, no_operands, operand, tree_of}
 
 module _ (limit : ℕ) where

@@ -1,3 +1,4 @@
+pub mod Written
 pub mod Models
 pub mod Modelled
 pub mod Building

@@ -14,7 +14,8 @@ use Rattle.rob_rules.specs.Degrees.{sort_at}
 use Rattle.rob_rules.specs.Faults.{over_of}
 use Rattle.rob_rules.specs.Scopes.{Earlier}
 use Rattle.rob_rules.specs.Texts.{Reads}
-use Rattle.rob_parse.specs.Models.{model_of, rows, set_lines, written_of}
+use Rattle.rob_parse.specs.Written.{rows, set_lines, written_of}
+use Rattle.rob_parse.specs.Models.{model_of}
 
 -- the text reads as statements whose model this is
 pub record ReadsModel (limit : ℕ) (text : List ℕ) (m : RobustModel) : Type 0 where

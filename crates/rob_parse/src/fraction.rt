@@ -3,8 +3,8 @@
 ghost use Rattle.std.specs.Prelude.{◌≡◌, option_map};
 ghost use Rattle.rob_number.specs.Counts.{CountsOnly};
 ghost use Rattle.rob_parse.specs.Building.{FitsNumber, FitsBounds};
-ghost use Rattle.rob_parse.specs.Models.{signed_fraction, lower_bound, upper_bound};
-ghost use Rattle.rob_parse.specs.Models as spec;
+ghost use Rattle.rob_parse.specs.Written.{signed_fraction, lower_bound, upper_bound};
+ghost use Rattle.rob_parse.specs.Written as spec;
 
 use rob_number::{Exact, Ledger};
 use rob_syntax::syntax::{Bounds, Numeral, Signed};

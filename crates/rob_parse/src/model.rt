@@ -11,7 +11,8 @@ ghost use Rattle.rob_model.specs.View.{robust, parameter_of, variable_of, adapti
 ghost use Rattle.rob_parse.specs.Building.{FitsBounds, FitsRelation, FitsNumber, FitsMember, FitsStatement, HasAdded, HasRoom, HasRoomForAll};
 ghost use Rattle.rob_parse.specs.Building as spec;
 ghost use Rattle.rob_syntax.specs.Known.{texts};
-ghost use Rattle.rob_parse.specs.Models.{parameters, variables, adaptives, set_lines, rows, goal_in, line_taken, model_of, row_taken};
+ghost use Rattle.rob_parse.specs.Written.{parameters, variables, adaptives, set_lines, rows, goal_in};
+ghost use Rattle.rob_parse.specs.Models.{line_taken, model_of, row_taken};
 ghost use Rattle.rob_parse.specs.Modelled.{ReadsModel};
 ghost use Rattle.rob_rules.specs.Texts.{HasTextCause};
 ghost use Rattle.rob_syntax.specs.declared.syntax.Statement.TheVariants as parsed;

@@ -6,8 +6,9 @@ ghost use Rattle.rob_meaning.specs.Places.{Each};
 ghost use Rattle.rob_model.specs.View.{member_of, relation_of as model_relation, sense_of as model_sense};
 ghost use Rattle.rob_parse.specs.Building.{FitsMember, HasRoom};
 ghost use Rattle.rob_syntax.specs.Known.{texts};
-ghost use Rattle.rob_parse.specs.Models.{member_taken, relation_of, sense_of};
-ghost use Rattle.rob_parse.specs.Models as spec;
+ghost use Rattle.rob_parse.specs.Written.{relation_of, sense_of};
+ghost use Rattle.rob_parse.specs.Models.{member_taken};
+ghost use Rattle.rob_parse.specs.Written as spec;
 
 use crate::fraction::{fraction, signed};
 use crate::place::Place;

@@ -6,7 +6,7 @@ ghost use Rattle.rob_model.specs.View.{expression_of, signed_of, terms_of, facto
 ghost use Rattle.rob_parse.specs.Building.{FitsTree, FitsSummands, FitsOperands, HasRoom};
 ghost use Rattle.rob_rules.specs.Degrees as degrees;
 ghost use Rattle.rob_parse.specs.Models.{taken, terms_taken, factors_taken};
-ghost use Rattle.rob_parse.specs.Models as spec;
+ghost use Rattle.rob_parse.specs.Written as spec;
 ghost use Rattle.rob_syntax.specs.Trees.{tree_of, part_of, summands_of, operands_of};
 
 use crate::fraction::fraction;

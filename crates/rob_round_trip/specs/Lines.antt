@@ -1,7 +1,8 @@
 -- The canonical line of a statement, where names stand for what these sorts say.
 use Rattle.std.specs.Prelude.{◌≡◌, ℕ, ◌<◌, List, ◌++◌, map, Option, Some}
 use Rattle.rob_meaning.specs.RobustModel as model
-use Rattle.rob_parse.specs.Models.{expression, fraction, lower_bound, member, parameter_at, relation_of, sense_of, set_at, upper_bound, word_of}
+use Rattle.rob_parse.specs.Written.{expression, fraction, lower_bound, member, parameter_at, relation_of, sense_of, upper_bound, word_of}
+use Rattle.rob_parse.specs.Models.{set_at}
 use Rattle.rob_round_trip.specs.Readable.{IsReadable}
 use Rattle.rob_rules.specs.Degrees.{sort_at}
 use Rattle.rob_rules.specs.declared.sort.Sort.{Sort}

@@ -20,7 +20,8 @@ use Rattle.rob_write.specs.ExpressionWords.{Naming, expression_words}
 use Rattle.rob_write.specs.Canonical.{lines_of}
 use Rattle.rob_rules.specs.Degrees.{sort_at}
 use Rattle.rob_syntax.specs.Grammar.{Expr, spell_expr, tree_expr}
-use Rattle.rob_parse.specs.Models.{expression, word_of, in_sets, model_of}
+use Rattle.rob_parse.specs.Written.{expression, word_of}
+use Rattle.rob_parse.specs.Models.{in_sets, model_of}
 use Rattle.rob_round_trip.specs.Pages.{symbols_on}
 use Rattle.rob_rules.specs.Scopes.{has_some}
 use Rattle.rob_syntax.specs.Statements.{IsStatement}

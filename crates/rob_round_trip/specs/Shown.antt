@@ -2,7 +2,7 @@
 use Rattle.std.specs.Prelude.{◌≡◌, ℕ, List, map, Option, Some, None}
 use Rattle.std.specs.Option.{option_map}
 use Rattle.rob_index.specs.Statements as plain
-use Rattle.rob_parse.specs.Models.{word_of}
+use Rattle.rob_parse.specs.Written.{word_of}
 use Rattle.rob_syntax.specs.Trees.{Tree, number, name, sum, product, Summands, no_summands, summand, Operands, no_operands, operand, tree_of}
 use Rattle.rob_syntax.specs.Seen.{seen_numeral, seen_signed, seen_bounds, seen_rel, seen_sense}
 use Rattle.rob_syntax.specs.Symbols.{number_of}

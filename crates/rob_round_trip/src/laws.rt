@@ -29,7 +29,8 @@ ghost use Rattle.rob_round_trip.specs.Readable.{AreKnown, AreDeclarable, AreRead
 ghost use Rattle.rob_rules.specs.declared.sort.Sort.{Sort};
 ghost use Rattle.rob_syntax.specs.declared.syntax.Statement.{Statement};
 ghost use Rattle.rob_rules.specs.Degrees.{sort_at};
-ghost use Rattle.rob_parse.specs.Models.{model_of, word_of};
+ghost use Rattle.rob_parse.specs.Written.{word_of};
+ghost use Rattle.rob_parse.specs.Models.{model_of};
 ghost use Rattle.rob_rules.specs.Scopes.{Earlier};
 ghost use Rattle.rob_rules.specs.Texts.{Reads};
 

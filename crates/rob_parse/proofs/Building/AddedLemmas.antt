@@ -11,7 +11,8 @@ use Rattle.rob_rules.specs.declared.scope.Scope.{Scope}
 use Rattle.rob_rules.specs.declared.sort.Sort.{Sort}
 use Rattle.rob_parse.specs.declared.place.Place.{Place}
 use Rattle.rob_parse.specs.Building.{HasAdded, place_of}
-use Rattle.rob_parse.specs.Models.{line_taken, row_taken, rows, set_lines}
+use Rattle.rob_parse.specs.Written.{rows, set_lines}
+use Rattle.rob_parse.specs.Models.{line_taken, row_taken}
 
 module _ (words : List (List ℕ)) (scope : Scope) (old : RobustModel) where
   -- a budget adds its line, taken in its set

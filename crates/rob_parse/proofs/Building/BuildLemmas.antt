@@ -11,7 +11,8 @@ use Rattle.rob_syntax.specs.declared.syntax.Goal.{Goal}
 use Rattle.rob_syntax.specs.declared.syntax.Statement.{Statement}
 use Rattle.rob_syntax.specs.declared.syntax.Statement.TheVariants as parsed
 use Rattle.rob_parse.specs.Building.{FitsTree, FitsStatement, HasAdded}
-use Rattle.rob_parse.specs.Models.{each_taken, line_sets, line_taken, objective_set, parameters, row_sets, row_taken, sets, set_at, taken, variables, adaptives, set_lines, rows, goal_in, sense_in, sense_of, expression, objective_of, model_of}
+use Rattle.rob_parse.specs.Written.{parameters, sets, variables, adaptives, set_lines, rows, goal_in, sense_in, sense_of, expression, objective_of}
+use Rattle.rob_parse.specs.Models.{each_taken, line_sets, line_taken, objective_set, row_sets, row_taken, set_at, taken, model_of}
 use Rattle.rob_syntax.specs.Trees.{tree_of}
 
 flat_step : {A B : Type 0} (f : A → List B) (old new : List B) (x : A) (rest all : List A) → new ≡ old ++ f x

@@ -11,7 +11,8 @@ use Rattle.rob_syntax.specs.declared.syntax.Member.{Member}
 use Rattle.rob_syntax.specs.declared.syntax.Syntax.{Syntax}
 use Rattle.rob_syntax.specs.declared.syntax.Summand.{Summand}
 use Rattle.rob_parse.specs.Building.{FitsTree, FitsSummands, FitsOperands}
-use Rattle.rob_parse.specs.Models.{factors_taken, taken, terms_taken, expression, terms, factors, word_of}
+use Rattle.rob_parse.specs.Written.{expression, terms, factors, word_of}
+use Rattle.rob_parse.specs.Models.{factors_taken, taken, terms_taken}
 use Rattle.rob_syntax.specs.Trees.{Part, tree_of, part_of, summands_of, operands_of}
 use Rattle.rob_rules.proofs.WalkLemmas.{part_is}
 

@@ -23,7 +23,7 @@ use Rattle.rob_syntax.specs.declared.syntax.Statement.TheVariants as parsed
 use Rattle.rob_rules.specs.Degrees.{sort_at, products}
 use Rattle.rob_rules.specs.Faults.{is_of_set, is_unknown, names_decision, is_usable, is_decision, has_fault, in_order, first_fault, expressions}
 use Rattle.rob_parse.specs.Modelled.{ReadsModel}
-use Rattle.rob_parse.specs.Models.{fraction, expression, member, parameter_number, parameter_at, adaptives, set_lines, rows, goal_in, objective_of, written_of}
+use Rattle.rob_parse.specs.Written.{fraction, expression, member, parameter_number, parameter_at, adaptives, set_lines, rows, goal_in, objective_of, written_of}
 use Rattle.rob_rules.specs.Chains.{Chain}
 use Rattle.rob_rules.specs.Links.{Keeps}
 use Rattle.rob_rules.specs.Scopes.{Earlier, behind, start}

@@ -5,7 +5,8 @@ use Rattle.rob_meaning.specs.Places.{Each}
 use Rattle.rob_meaning.specs.RobustModel.{RobustModel}
 use Rattle.rob_meaning.specs.WellFormed.{IsModel}
 use Rattle.rob_parse.specs.Modelled.{ReadsModel}
-use Rattle.rob_parse.specs.Models.{goal_in, line_sets, objective_set, row_sets, sets}
+use Rattle.rob_parse.specs.Written.{goal_in, sets}
+use Rattle.rob_parse.specs.Models.{line_sets, objective_set, row_sets}
 use Rattle.rob_rules.specs.Scopes.{start}
 use Rattle.rob_parse.proofs.Sizes.CountLemmas.{counts}
 use Rattle.rob_parse.proofs.Names.ChainLemmas.{model_chain}

@@ -11,7 +11,7 @@ use Rattle.rob_meaning.proofs.EachLemmas.{each_append}
 use Rattle.rob_meaning.specs.Places.{Each}
 use Rattle.rob_parse.proofs.Names.NamedLemmas.{HasWord, apart, lines_have, word_get}
 use Rattle.rob_parse.proofs.Names.WordSetLemmas.{In, number_found, tokens_word, words_in}
-use Rattle.rob_parse.specs.Models.{word_of}
+use Rattle.rob_parse.specs.Written.{word_of}
 use Rattle.rob_syntax.specs.Names.{IsWord}
 use Rattle.rob_syntax.specs.Symbols.{bytes_of, is_name, keyword_among, keywords, number_of, symbol_at, symbols_of, token_lines, word_at, word_in, word_symbol, words_of}
 use Rattle.rob_syntax.specs.Versions.{body, has_token, names_version, text_lines, text_version}

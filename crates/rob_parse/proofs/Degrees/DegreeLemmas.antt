@@ -12,7 +12,7 @@ use Rattle.rob_rules.specs.declared.sort.Sort.TheVariants as sort
 use Rattle.rob_rules.specs.declared.sort.Sort.TheVariants.{Parameter, Decision, Policy, RowName}
 use Rattle.rob_rules.specs.Degrees.{Degree, sort_at, degree_of_sort, times, degree, sum_degree, product_degree, products, sum_products, more_products}
 use Rattle.rob_rules.specs.Faults.{has_two_decisions, has_two_uncertain, has_random_recourse, is_usable, is_decision}
-use Rattle.rob_parse.specs.Models.{named, expression, terms, factors}
+use Rattle.rob_parse.specs.Written.{named, expression, terms, factors}
 use Rattle.rob_syntax.specs.Trees.{Tree, number, name, sum, product, Summands, no_summands, summand, Operands, no_operands, operand}
 use Rattle.rob_parse.proofs.Names.SortLemmas.{Names}
 use Rattle.rob_index.proofs.NamingLemmas.{none_both, neither}

@@ -9,7 +9,7 @@ use Rattle.rob_meaning.specs.Places.{0ℚ, Each}
 use Rattle.rob_syntax.specs.declared.syntax.Member.{Member}
 use Rattle.rob_parse.specs.Building.{FitsMember}
 use Rattle.rob_rules.specs.Faults.{is_certain}
-use Rattle.rob_parse.specs.Models.{fraction}
+use Rattle.rob_parse.specs.Written.{fraction}
 
 some : (n : ℕ) → (n == 0) ≡ false → 0 < n
 some zero h = cc

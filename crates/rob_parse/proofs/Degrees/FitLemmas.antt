@@ -17,7 +17,7 @@ use Rattle.rob_syntax.specs.declared.syntax.Statement.{Statement}
 use Rattle.rob_parse.specs.Building.{FitsNumber, FitsBounds, FitsTree, FitsSummands, FitsOperands, FitsMember, FitsRelation, FitsStatement}
 use Rattle.rob_rules.specs.Faults.{is_over, has_divisor_over, has_zero_divisor, is_zero_divisor, has_fault, in_order, first_fault}
 use Rattle.rob_rules.specs.Leaves.{leaves, part_leaves, factor_leaves, bound_leaves, member_leaves, relation_leaves, statement_leaves}
-use Rattle.rob_parse.specs.Models.{goal_in}
+use Rattle.rob_parse.specs.Written.{goal_in}
 use Rattle.rob_rules.specs.Scopes.{Earlier, behind}
 use Rattle.rob_rules.specs.Chains.{Chain}
 use Rattle.rob_syntax.specs.Trees.{Tree, number, name, sum, product, Summands, no_summands, summand, Operands, no_operands, operand, tree_of}

@@ -11,7 +11,8 @@ use Rattle.rob_syntax.specs.declared.syntax.Statement.{Statement}
 use Rattle.rob_syntax.specs.declared.syntax.Statement.TheVariants as parsed
 use Rattle.rob_rules.specs.Degrees.{sort_at}
 use Rattle.rob_rules.specs.Faults.{is_declared}
-use Rattle.rob_parse.specs.Models.{goal_in, line_sets, objective_set, row_sets, sets, written_of, word_of, parameters, variables, adaptives, rows, model_of}
+use Rattle.rob_parse.specs.Written.{goal_in, sets, written_of, word_of, parameters, variables, adaptives, rows}
+use Rattle.rob_parse.specs.Models.{line_sets, objective_set, row_sets, model_of}
 use Rattle.rob_rules.specs.Chains.{Chain, IsNumber}
 use Rattle.rob_rules.specs.Scopes.{Earlier, behind, start, declared_by, declare}
 use Rattle.rob_rules.proofs.WidenedLemmas.{declare_length}

@@ -15,7 +15,7 @@ use Rattle.rob_syntax.specs.declared.symbol.Keyword.{Keyword}
 use Rattle.rob_syntax.specs.declared.symbol.Keyword.TheVariants as word
 use Rattle.rob_syntax.specs.declared.syntax.Statement.{Statement}
 use Rattle.rob_syntax.specs.declared.syntax.Statement.TheVariants as parsed
-use Rattle.rob_parse.specs.Models.{word_of}
+use Rattle.rob_parse.specs.Written.{word_of}
 use Rattle.rob_syntax.specs.Names.{IsWord, IsSpelled}
 use Rattle.rob_rules.specs.Chains.{IsFormed, IsNumber}
 use Rattle.rob_rules.specs.Scopes.{declared_by}

@@ -18,7 +18,7 @@ use Rattle.rob_syntax.specs.declared.syntax.Statement.{Statement}
 use Rattle.rob_syntax.specs.declared.syntax.Statement.TheVariants as parsed
 use Rattle.rob_rules.specs.Degrees.{sort_at}
 use Rattle.rob_rules.specs.Faults.{is_of_set, is_listing, is_name, is_unknown, is_usable, is_decision, names_decision, has_twice, has_fault, in_order, first_fault, is_declared}
-use Rattle.rob_parse.specs.Models.{parameter_number, parameter_at, member, adaptives}
+use Rattle.rob_parse.specs.Written.{parameter_number, parameter_at, member, adaptives}
 use Rattle.rob_rules.specs.Chains.{Chain}
 use Rattle.rob_rules.specs.Links.{Keeps}
 use Rattle.rob_rules.specs.Scopes.{Earlier, behind, start, declared_by, declare}

@@ -13,7 +13,7 @@ use Rattle.rob_syntax.specs.declared.syntax.Statement.{Statement}
 use Rattle.rob_syntax.specs.declared.syntax.Statement.TheVariants as parsed
 use Rattle.rob_rules.specs.Degrees.{sort_at}
 use Rattle.rob_rules.specs.Faults.{has_fault, in_order, first_fault, is_declared}
-use Rattle.rob_parse.specs.Models.{adaptives, parameter_at, lower_bound, upper_bound, word_of}
+use Rattle.rob_parse.specs.Written.{adaptives, parameter_at, lower_bound, upper_bound, word_of}
 use Rattle.rob_rules.specs.Chains.{Chain}
 use Rattle.rob_rules.specs.Links.{Keeps}
 use Rattle.rob_rules.specs.Scopes.{Earlier, behind, start, has_some, declare, declared_by}

@@ -8,7 +8,8 @@ use Rattle.rob_meaning.specs.RobustModel.{RobustModel}
 use Rattle.rob_syntax.specs.declared.syntax.Statement.{Statement}
 use Rattle.rob_syntax.specs.declared.syntax.Statement.TheVariants as parsed
 use Rattle.rob_parse.specs.Modelled.{ReadsModel}
-use Rattle.rob_parse.specs.Models.{adaptives, goal_in, line_sets, objective_set, row_sets, set_lines, sets, model_of, written_of}
+use Rattle.rob_parse.specs.Written.{adaptives, goal_in, set_lines, sets, written_of}
+use Rattle.rob_parse.specs.Models.{line_sets, objective_set, row_sets, model_of}
 use Rattle.rob_syntax.specs.Names.{IsWord, IsSpelled}
 use Rattle.rob_rules.specs.Chains.{Chain, IsNumber}
 use Rattle.rob_rules.specs.Scopes.{Earlier, start}

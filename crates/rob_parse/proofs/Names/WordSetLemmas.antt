@@ -17,7 +17,7 @@ use Rattle.rob_lex.specs.Slices.{Lexed, lexed, lexed_at, lexed_of}
 use Rattle.rob_lex.proofs.SliceLemmas.{slices}
 use Rattle.rob_meaning.specs.Named.{AreDistinct, IsPlain}
 use Rattle.rob_meaning.specs.Places.{Each}
-use Rattle.rob_parse.specs.Models.{word_of}
+use Rattle.rob_parse.specs.Written.{word_of}
 use Rattle.rob_syntax.specs.Names.{GoesOn, IsWord}
 use Rattle.rob_syntax.specs.Symbols.{add_word, word_at, word_in, words_of, number_of}
 

@@ -9,7 +9,8 @@ use Rattle.rob_rules.specs.declared.sort.Sort.TheVariants as sort
 use Rattle.rob_rules.specs.declared.sort.Sort.TheVariants.{Parameter, Decision, Policy, RowName}
 use Rattle.rob_syntax.specs.declared.syntax.Statement.{Statement}
 use Rattle.rob_parse.specs.Building.{HasRoomForAll}
-use Rattle.rob_parse.specs.Models.{parameter_number, parameters, set_at}
+use Rattle.rob_parse.specs.Written.{parameter_number, parameters}
+use Rattle.rob_parse.specs.Models.{set_at}
 use Rattle.std.specs.List.{flat_map}
 use Rattle.rob_rules.specs.Texts.{Reads}
 use Rattle.rob_rules.specs.Scopes.{earlier_of, start}

@@ -8,7 +8,8 @@ use Rattle.rob_syntax.specs.declared.syntax.Goal.{Goal}
 use Rattle.rob_syntax.specs.declared.syntax.Statement.{Statement}
 use Rattle.rob_syntax.specs.declared.syntax.Statement.TheVariants as parsed
 use Rattle.rob_rules.specs.Degrees.{sort_at}
-use Rattle.rob_parse.specs.Models.{line_sets, objective_set, row_sets, rows, set_at, set_lines, set_number}
+use Rattle.rob_parse.specs.Written.{rows, set_lines}
+use Rattle.rob_parse.specs.Models.{line_sets, objective_set, row_sets, set_at, set_number}
 use Rattle.rob_rules.specs.Chains.{Chain}
 use Rattle.rob_rules.specs.Scopes.{Earlier, behind, start}
 use Rattle.rob_parse.proofs.Building.ModelLemmas.{each_flat}

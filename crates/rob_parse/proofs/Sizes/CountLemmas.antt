@@ -9,7 +9,7 @@ use Rattle.rob_rules.specs.declared.sort.Sort.{Sort}
 use Rattle.rob_rules.specs.declared.size.Sizes.{Sizes}
 use Rattle.rob_syntax.specs.declared.syntax.Statement.{Statement}
 use Rattle.rob_syntax.specs.declared.syntax.Statement.TheVariants.{Uncertain, Over, Set, Budget, Var, Adaptive, Goal, Row}
-use Rattle.rob_parse.specs.Models.{parameters, sets, variables, adaptives, set_lines, rows, member, parameter_at}
+use Rattle.rob_parse.specs.Written.{parameters, sets, variables, adaptives, set_lines, rows, member, parameter_at}
 use Rattle.rob_rules.specs.Chains.{Chain}
 use Rattle.rob_rules.specs.Scopes.{Earlier, behind}
 use Rattle.rob_rules.specs.Sizes.{counted, IsKept}

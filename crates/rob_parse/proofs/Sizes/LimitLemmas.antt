@@ -14,7 +14,8 @@ use Rattle.rob_rules.specs.declared.size.Sizes.{Sizes}
 use Rattle.rob_rules.specs.declared.sort.Sort.{Sort}
 use Rattle.rob_syntax.specs.declared.syntax.Statement.{Statement}
 use Rattle.rob_parse.specs.Modelled.{ReadsModel}
-use Rattle.rob_parse.specs.Models.{goal_in, in_sets, line_sets, line_taken, model_of, objective_set, row_sets, row_taken, sets, written_of}
+use Rattle.rob_parse.specs.Written.{goal_in, sets, written_of}
+use Rattle.rob_parse.specs.Models.{in_sets, line_sets, line_taken, model_of, objective_set, row_sets, row_taken}
 use Rattle.rob_rules.specs.Chains.{Chain}
 use Rattle.rob_rules.specs.Scopes.{Earlier, start}
 use Rattle.rob_rules.specs.Sizes.{AreSizesOf, counted, joint_count, start_sizes}

@@ -15,7 +15,7 @@ use Rattle.rob_syntax.specs.declared.syntax.Rel.{Rel}
 use Rattle.rob_syntax.specs.declared.syntax.Rel.TheVariants as rel
 use Rattle.rob_syntax.specs.declared.syntax.Statement.{Statement}
 use Rattle.rob_syntax.specs.declared.syntax.Statement.TheVariants.{Uncertain, Over, Set, Budget, Var, Adaptive, Goal, Row}
-use Rattle.rob_parse.specs.Models.{lower_bound, upper_bound, relation_of, parameter_at, member, sets, written_of}
+use Rattle.rob_parse.specs.Written.{lower_bound, upper_bound, relation_of, parameter_at, member, sets, written_of}
 use Rattle.rob_rules.specs.Chains.{Chain}
 use Rattle.rob_rules.specs.Scopes.{Earlier, behind}
 use Rattle.rob_model.specs.Limits.{most_sets, most_parameters, most_columns, most_rows, most_set_lines, most_members, most_size}

@@ -20,7 +20,8 @@ use Rattle.rob_write.specs.Canonical.{lines_of, model_text}
 use Rattle.rob_rules.specs.Degrees.{sort_at, products}
 use Rattle.rob_rules.specs.Faults.{is_unknown, expressions}
 use Rattle.rob_parse.specs.Modelled.{ReadsModel}
-use Rattle.rob_parse.specs.Models.{expression, adaptives, set_lines, rows, objective_of, model_of, sets, written_of}
+use Rattle.rob_parse.specs.Written.{expression, adaptives, set_lines, rows, objective_of, sets, written_of}
+use Rattle.rob_parse.specs.Models.{model_of}
 use Rattle.rob_round_trip.specs.Pages.{IsLine, IsShallow, IsWritable, ended, symbols_on, words_on}
 use Rattle.rob_syntax.specs.Names.{IsSpelled}
 use Rattle.rob_round_trip.specs.Readable.{IsReadableModel, AreDeclarable, AreStatements}

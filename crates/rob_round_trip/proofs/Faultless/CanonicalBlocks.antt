@@ -18,7 +18,7 @@ use Rattle.rob_write.specs.WrittenModel.{line_written, row_written, written_mode
 use Rattle.rob_write.specs.ExpressionWords.{Naming, naming_of}
 use Rattle.rob_write.specs.StatementWords.{beside, declared_set_words, over_words, placed_words, parameter_words, variable_words, adaptive_words, set_words, row_words}
 use Rattle.rob_write.specs.Canonical.{lines_of}
-use Rattle.rob_parse.specs.Models.{goal_in}
+use Rattle.rob_parse.specs.Written.{goal_in}
 use Rattle.rob_round_trip.specs.Pages.{symbols_on}
 use Rattle.rob_syntax.specs.Names.{IsSpelled}
 use Rattle.rob_round_trip.specs.Readable.{IsBound, IsReadable, IsReadableSetLine, IsReadableModel, IsDeclarable, AreDeclarable}

@@ -10,7 +10,7 @@ use Rattle.rob_write.specs.WrittenModel.{written_model}
 use Rattle.rob_write.specs.ExpressionWords.{naming_of}
 use Rattle.rob_write.specs.StatementWords.{declared_set_words, lines_over, over_words, parameter_words, variable_words, adaptive_words, set_words, row_words, goal_words}
 use Rattle.rob_write.specs.Canonical.{lines_of}
-use Rattle.rob_parse.specs.Models.{goal_in}
+use Rattle.rob_parse.specs.Written.{goal_in}
 use Rattle.rob_round_trip.specs.Pages.{symbols_on}
 use Rattle.rob_round_trip.specs.Readable.{AreStatements}
 use Rattle.rob_rules.specs.Scopes.{Earlier, behind, is_goal}

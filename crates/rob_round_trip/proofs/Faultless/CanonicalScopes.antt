@@ -13,7 +13,7 @@ use Rattle.rob_rules.specs.declared.sort.Sort.TheVariants as sort
 use Rattle.rob_rules.specs.declared.sort.Sort.TheVariants.{Parameter, Decision, Policy, RowName}
 use Rattle.rob_write.specs.ExpressionWords.{naming_of}
 use Rattle.rob_rules.specs.Degrees.{sort_at}
-use Rattle.rob_parse.specs.Models.{word_of}
+use Rattle.rob_parse.specs.Written.{word_of}
 use Rattle.rob_syntax.specs.Names.{IsWord, IsSpelled}
 use Rattle.rob_round_trip.specs.Readable.{StandsFor, AreKnown, IsDeclarable, AreDeclarable}
 use Rattle.rob_rules.specs.Scopes.{has_some}

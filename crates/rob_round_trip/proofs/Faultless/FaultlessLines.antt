@@ -21,7 +21,7 @@ use Rattle.rob_syntax.specs.declared.syntax.Statement.{Statement}
 use Rattle.rob_syntax.specs.declared.syntax.Statement.TheVariants as parsed
 use Rattle.rob_write.specs.Pages.{Written}
 use Rattle.rob_rules.specs.Faults.{expressions, first_fault}
-use Rattle.rob_parse.specs.Models.{expression, adaptives, set_lines, rows}
+use Rattle.rob_parse.specs.Written.{expression, adaptives, set_lines, rows}
 use Rattle.rob_round_trip.specs.Pages.{symbols_on}
 use Rattle.rob_round_trip.specs.Readable.{AreStatements}
 use Rattle.rob_rules.specs.Reading.{Follows}

@@ -14,7 +14,7 @@ use Rattle.rob_rules.specs.declared.sort.Sort.TheVariants.{Parameter, Decision, 
 use Rattle.rob_syntax.specs.declared.syntax.Statement.{Statement}
 use Rattle.rob_rules.specs.Degrees.{Degree, sort_at, degree_of_sort, times, degree, sum_degree, product_degree, products, sum_products, more_products}
 use Rattle.rob_rules.specs.Faults.{is_usable, expressions}
-use Rattle.rob_parse.specs.Models.{named, expression, terms, factors}
+use Rattle.rob_parse.specs.Written.{named, expression, terms, factors}
 use Rattle.rob_syntax.specs.Trees.{Tree, number, name, sum, product, Summands, no_summands, summand, Operands, no_operands, operand}
 use Rattle.rob_parse.proofs.Degrees.DegreeLemmas.{EachName, EachSummand, EachOperand, Clean, Stands}
 use Rattle.rob_parse.proofs.Names.SortLemmas.{Names}

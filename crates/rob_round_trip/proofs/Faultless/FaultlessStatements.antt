@@ -13,7 +13,7 @@ use Rattle.rob_meaning.specs.Places.{0ℚ, Each}
 use Rattle.rob_meaning.specs.RobustModel as model
 use Rattle.rob_meaning.specs.RobustModel.{RobustModel}
 use Rattle.rob_meaning.specs.WellFormed.{IsMember, IsSetLine}
-use Rattle.rob_parse.specs.Models.{parameter_number}
+use Rattle.rob_parse.specs.Written.{parameter_number}
 use Rattle.rob_rules.specs.Degrees.{sort_at}
 use Rattle.rob_rules.specs.Faults.{has_twice, is_certain, is_decision, is_listing, is_of_set, is_over_none, is_set, is_usable, names_decision, over_of}
 use Rattle.rob_rules.specs.Leaves.{bound_leaves, leaves, member_leaves, members_of, statement_leaves}

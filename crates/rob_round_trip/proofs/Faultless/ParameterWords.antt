@@ -5,7 +5,7 @@ use Rattle.std.specs.List.{list_any}
 use Rattle.rob_meaning.specs.Degrees.{decision_degree, product_degree, sum_degree}
 use Rattle.rob_meaning.specs.Expressions as meaning
 use Rattle.rob_meaning.specs.RobustModel.{RobustModel}
-use Rattle.rob_parse.specs.Models.{expression, factors, named, terms}
+use Rattle.rob_parse.specs.Written.{expression, factors, named, terms}
 use Rattle.rob_rules.specs.Degrees.{sort_at}
 use Rattle.rob_rules.specs.Faults.{is_decision, names_decision}
 use Rattle.rob_rules.specs.Leaves.{factor_leaves, leaves, part_leaves}

@@ -12,7 +12,7 @@ use Rattle.rob_lex.specs.Offences.{most_open}
 use Rattle.rob_meaning.specs.Places.{Each}
 use Rattle.rob_parse.specs.Building.{FitsStatement}
 use Rattle.rob_parse.specs.Modelled.{EndsInSet}
-use Rattle.rob_parse.specs.Models.{word_of}
+use Rattle.rob_parse.specs.Written.{word_of}
 use Rattle.rob_round_trip.proofs.Lengths.CountedLines.{line_counted}
 use Rattle.rob_round_trip.proofs.Lengths.LowLines.{line_shallow}
 use Rattle.rob_round_trip.specs.Lines.{AreReadable, CountsSetsFromOne, canonical_line}

@@ -19,7 +19,8 @@ use Rattle.rob_write.specs.ExpressionWords.{naming_of}
 use Rattle.rob_rules.specs.Degrees.{sort_at}
 use Rattle.rob_rules.specs.Faults.{first_fault, has_fault, in_order, is_over_none, is_set, over_of}
 use Rattle.rob_parse.specs.Modelled.{EndsInSet, IsOfSet}
-use Rattle.rob_parse.specs.Models.{adaptives, goal_in, line_sets, model_of, objective_set, parameters, row_sets, rows, sets, variables, word_of, written_of}
+use Rattle.rob_parse.specs.Written.{adaptives, goal_in, parameters, rows, sets, variables, word_of, written_of}
+use Rattle.rob_parse.specs.Models.{line_sets, model_of, objective_set, row_sets}
 use Rattle.rob_syntax.specs.Names.{IsWord}
 use Rattle.rob_round_trip.specs.Readable.{AreKnown, HasByName, IsDeclarable}
 use Rattle.rob_rules.specs.Chains.{Chain, IsNumber}

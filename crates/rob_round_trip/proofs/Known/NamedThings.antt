@@ -11,7 +11,7 @@ use Rattle.rob_rules.specs.declared.sort.Sort.TheVariants.{Parameter, Decision, 
 use Rattle.rob_syntax.specs.declared.syntax.Statement.{Statement}
 use Rattle.rob_syntax.specs.declared.syntax.Statement.TheVariants as parsed
 use Rattle.rob_rules.specs.Degrees.{sort_at}
-use Rattle.rob_parse.specs.Models.{word_of}
+use Rattle.rob_parse.specs.Written.{word_of}
 use Rattle.rob_round_trip.specs.Readable.{IsAt}
 use Rattle.rob_rules.specs.Chains.{Chain}
 use Rattle.rob_rules.specs.Scopes.{Earlier, behind, declare, declared_by, has_some}

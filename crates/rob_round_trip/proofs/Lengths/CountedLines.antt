@@ -8,7 +8,8 @@ use Rattle.rob_meaning.specs.Expressions as meaning
 use Rattle.rob_meaning.specs.Places.{Each}
 use Rattle.rob_parse.specs.Building.{FitsBounds, FitsMember, FitsOperands, FitsRelation, FitsStatement, FitsSummands, FitsTree}
 use Rattle.rob_parse.specs.Modelled.{EndsInSet, IsOfSet}
-use Rattle.rob_parse.specs.Models.{expression, factors, fraction, lower_bound, member, named, parameter_at, relation_of, set_at, set_number, signed_fraction, terms, upper_bound, word_of}
+use Rattle.rob_parse.specs.Written.{expression, factors, fraction, lower_bound, member, named, parameter_at, relation_of, signed_fraction, terms, upper_bound, word_of}
+use Rattle.rob_parse.specs.Models.{set_at, set_number}
 use Rattle.rob_round_trip.proofs.Lengths.CountedNumbers.{number_counted, signed_counted}
 use Rattle.rob_round_trip.specs.Lines.{AreReadable, AreReadableSides, CountsSetsFromOne, canonical_line}
 use Rattle.rob_round_trip.specs.Pages.{ended}

@@ -9,7 +9,7 @@ use Rattle.rob_algebra.specs.Gcd as euclid
 use Rattle.rob_index.specs.Counting.{divisor_fits, fits, minus_tokens, number_tokens, signed_tokens}
 use Rattle.rob_meaning.specs.Values.{signed as with_sign}
 use Rattle.rob_parse.specs.Building.{FitsNumber}
-use Rattle.rob_parse.specs.Models.{fraction, signed_fraction}
+use Rattle.rob_parse.specs.Written.{fraction, signed_fraction}
 use Rattle.rob_round_trip.proofs.Written.ReadableLemmas.{pair_plain}
 use Rattle.rob_syntax.specs.Seen.{seen_numeral, seen_signed}
 use Rattle.rob_syntax.specs.declared.symbol.Mark.TheVariants as mark

@@ -6,7 +6,8 @@ use Rattle.rob_index.specs.Counting as counted
 use Rattle.rob_index.specs.Depths.{depth, factors_depth, line_depth, one_if, parts_depth}
 use Rattle.rob_lex.specs.Offences.{most_open}
 use Rattle.rob_meaning.specs.Expressions as meaning
-use Rattle.rob_parse.specs.Models.{expression, factors, fraction, lower_bound, member, named, parameter_at, relation_of, sense_of, set_at, signed_fraction, terms, upper_bound}
+use Rattle.rob_parse.specs.Written.{expression, factors, fraction, lower_bound, member, named, parameter_at, relation_of, sense_of, signed_fraction, terms, upper_bound}
+use Rattle.rob_parse.specs.Models.{set_at}
 use Rattle.rob_round_trip.proofs.Lengths.CountedLines.{same_compound, same_sum}
 use Rattle.rob_round_trip.proofs.Lengths.LowWords.{IsLow, low_both, low_enclosed, low_flat, low_more, low_next, low_parens}
 use Rattle.rob_round_trip.proofs.Lengths.DepthSteps.{step_of_word, stays, words_shallow}

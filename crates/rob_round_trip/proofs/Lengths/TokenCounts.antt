@@ -18,7 +18,8 @@ use Rattle.rob_write.specs.ExpressionWords.{Naming, naming_of}
 use Rattle.rob_write.specs.StatementWords.{declared_set_words, lines_over, over_words, parameter_words, set_words, variable_words, adaptive_words, goal_words, row_words}
 use Rattle.rob_write.specs.Canonical.{lines_of}
 use Rattle.rob_parse.specs.Modelled.{ReadsModel}
-use Rattle.rob_parse.specs.Models.{line_sets, objective_set, parameters, row_sets, set_lines, sets, variables, adaptives, rows, goal_in, sense_in, objective_of, written_of}
+use Rattle.rob_parse.specs.Written.{parameters, set_lines, sets, variables, adaptives, rows, goal_in, sense_in, objective_of, written_of}
+use Rattle.rob_parse.specs.Models.{line_sets, objective_set, row_sets}
 use Rattle.rob_round_trip.specs.Pages.{IsShallow, ended}
 use Rattle.rob_rules.specs.Scopes.{start}
 use Rattle.rob_parse.proofs.Degrees.FitLemmas.{all_fit, goal_there}

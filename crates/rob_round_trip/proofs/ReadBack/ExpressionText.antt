@@ -20,7 +20,7 @@ use Rattle.rob_syntax.specs.declared.syntax.Summand.{Summand}
 use Rattle.rob_write.specs.Pages.{Written, name, sign, bytes_of}
 use Rattle.rob_write.specs.ExpressionWords.{Naming, expression_words, term_words, factor_words, is_sum, is_compound, enclosed, lead}
 use Rattle.rob_syntax.specs.Grammar.{Factor, Factors, Term, Terms, Expr, number, parens, no_factors, times as g_times, term, no_terms, signed, expr, name as g_name, spell_minus, sign_of, spell_factor, spell_factors, spell_term, spell_terms, spell_expr, tree_factor, tree_factors, tree_term, tree_terms, tree_expr}
-use Rattle.rob_parse.specs.Models.{expression, terms, factors, named}
+use Rattle.rob_parse.specs.Written.{expression, terms, factors, named}
 use Rattle.rob_round_trip.specs.Pages.{kind_of, symbols_on}
 use Rattle.rob_round_trip.specs.Readable.{IsReadable, TermsReadable, FactorsReadable, StandsFor, AreKnown, IsReadBack}
 use Rattle.rob_lex.specs.declared.token.Kind.TheVariants as kind

@@ -14,7 +14,8 @@ use Rattle.rob_syntax.specs.declared.syntax.Statement.TheVariants as parsed
 use Rattle.rob_write.specs.Pages.{Written, sign}
 use Rattle.rob_write.specs.ExpressionWords.{Naming, number_words, listed, name_at}
 use Rattle.rob_write.specs.StatementWords.{declared_set_words, over_words, bound_words, member_words, comparison_words, parameter_words, variable_words, adaptive_words, set_words, row_words}
-use Rattle.rob_parse.specs.Models.{line_sets, row_sets, sets, parameters, variables, adaptives, set_lines, rows}
+use Rattle.rob_parse.specs.Written.{sets, parameters, variables, adaptives, set_lines, rows}
+use Rattle.rob_parse.specs.Models.{line_sets, row_sets}
 use Rattle.rob_round_trip.specs.Pages.{symbols_on}
 use Rattle.rob_round_trip.specs.Readable.{IsBound, IsReadable, IsReadableMember, IsReadableSetLine, AreKnown, IsDeclarable}
 use Rattle.rob_rules.specs.Scopes.{is_goal}

@@ -17,7 +17,8 @@ use Rattle.rob_write.specs.ExpressionWords.{Naming, naming_of, expression_words}
 use Rattle.rob_write.specs.StatementWords.{declared_set_words, lines_over, over_words, parameter_words, variable_words, adaptive_words, set_words, row_words, goal_words}
 use Rattle.rob_write.specs.Canonical.{lines_of}
 use Rattle.rob_syntax.specs.Grammar.{tree_expr}
-use Rattle.rob_parse.specs.Models.{in_sets, line_sets, objective_set, row_sets, sets, written_of, parameters, variables, adaptives, set_lines, rows, goal_in, sense_in, objective_of, model_of}
+use Rattle.rob_parse.specs.Written.{sets, written_of, parameters, variables, adaptives, set_lines, rows, goal_in, sense_in, objective_of}
+use Rattle.rob_parse.specs.Models.{in_sets, line_sets, objective_set, row_sets, model_of}
 use Rattle.rob_round_trip.specs.Pages.{symbols_on}
 use Rattle.rob_round_trip.specs.Readable.{IsBound, IsReadable, IsReadableSetLine, IsReadableModel, AreKnown, IsDeclarable, AreDeclarable, AreStatements, AreReadBack}
 use Rattle.rob_rules.specs.Scopes.{is_goal}

@@ -14,7 +14,7 @@ use Rattle.rob_write.specs.Pages.{digits, sign}
 use Rattle.rob_write.specs.ExpressionWords.{divisor_words, minus_words, number_words}
 use Rattle.rob_syntax.specs.Grammar.{spell_divisor, spell_number, spell_minus}
 use Rattle.rob_meaning.specs.Values.{signed}
-use Rattle.rob_parse.specs.Models.{fraction, signed_fraction}
+use Rattle.rob_parse.specs.Written.{fraction, signed_fraction}
 use Rattle.rob_round_trip.specs.Pages.{symbols_on}
 use Rattle.rob_algebra.specs.Width.{Fits}
 use Rattle.rob_syntax.specs.Statements.{spell_signed}

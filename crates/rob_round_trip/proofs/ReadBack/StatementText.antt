@@ -22,7 +22,8 @@ use Rattle.rob_write.specs.Pages.{Written, name, keyword, sign}
 use Rattle.rob_write.specs.ExpressionWords.{Naming, number_words, listed, expression_words}
 use Rattle.rob_write.specs.StatementWords.{over_words, bound_words, relation_word, comparison_words, member_words, goal_word}
 use Rattle.rob_syntax.specs.Lists.{spell_more, spell_list}
-use Rattle.rob_parse.specs.Models.{set_at, set_number, lower_bound, upper_bound, relation_of, sense_of, member, expression, parameter_number, parameter_at}
+use Rattle.rob_parse.specs.Written.{lower_bound, upper_bound, relation_of, sense_of, member, expression, parameter_number, parameter_at}
+use Rattle.rob_parse.specs.Models.{set_at, set_number}
 use Rattle.rob_round_trip.specs.Pages.{symbols_on}
 use Rattle.rob_round_trip.specs.Readable.{IsBound, IsReadable, IsReadableMember, AreKnown}
 use Rattle.rob_syntax.specs.Statements.{spell_over, Sides, spell_optional, spell_rel, spell_sense, spell_member, spell_sides, relation_of as parsed_relation}

@@ -16,7 +16,8 @@ use Rattle.rob_write.specs.ExpressionWords.{naming_of}
 use Rattle.rob_write.specs.StatementWords.{adaptive_words, declared_set_words, goal_words, lines_over, over_words, parameter_words, row_words, set_words, variable_words}
 use Rattle.rob_write.specs.Canonical.{lines_alone, lines_of, naming_alone}
 use Rattle.rob_parse.specs.Modelled.{HasNoOver, NamesNoSet, ReadsModel, written_alone}
-use Rattle.rob_parse.specs.Models.{each_taken, factors_taken, goal_in, in_sets, line_sets, line_taken, member_taken, model_of, objective_set, row_sets, row_taken, rows, set_at, set_lines, sets, taken, terms_taken, written_of}
+use Rattle.rob_parse.specs.Written.{goal_in, rows, set_lines, sets, written_of}
+use Rattle.rob_parse.specs.Models.{each_taken, factors_taken, in_sets, line_sets, line_taken, member_taken, model_of, objective_set, row_sets, row_taken, set_at, taken, terms_taken}
 use Rattle.rob_round_trip.specs.Readable.{IsPlaced}
 use Rattle.rob_round_trip.proofs.WithoutSets.QuietTexts.{quiet_statements}
 use Rattle.rob_syntax.specs.Symbols.{words_of}

@@ -20,7 +20,7 @@ use Rattle.rob_write.specs.ExpressionWords.{Naming, naming_of}
 use Rattle.rob_rules.specs.Degrees.{sort_at}
 use Rattle.rob_rules.specs.Faults.{is_of_set, is_unknown, names_decision, first_fault}
 use Rattle.rob_parse.specs.Modelled.{ReadsModel}
-use Rattle.rob_parse.specs.Models.{fraction, expression, member, parameter_at, lower_bound, upper_bound, parameters, variables, adaptives, set_lines, rows, goal_in, objective_of, written_of}
+use Rattle.rob_parse.specs.Written.{fraction, expression, member, parameter_at, lower_bound, upper_bound, parameters, variables, adaptives, set_lines, rows, goal_in, objective_of, written_of}
 use Rattle.rob_round_trip.specs.Readable.{IsBound, IsReadable, IsReadableMember, IsReadableSetLine, IsReadableModel, HasReadableParts}
 use Rattle.rob_rules.specs.Chains.{Chain, IsFormed}
 use Rattle.rob_rules.specs.Links.{Keeps}

@@ -19,7 +19,7 @@ use Rattle.rob_parse.specs.Building.{FitsNumber, FitsBounds, FitsTree, FitsSumma
 use Rattle.rob_write.specs.ExpressionWords.{Naming}
 use Rattle.rob_rules.specs.Degrees.{sort_at}
 use Rattle.rob_rules.specs.Faults.{is_usable}
-use Rattle.rob_parse.specs.Models.{fraction, signed_fraction, lower_bound, upper_bound, expression, terms, factors, named}
+use Rattle.rob_parse.specs.Written.{fraction, signed_fraction, lower_bound, upper_bound, expression, terms, factors, named}
 use Rattle.rob_round_trip.specs.Readable.{IsPlainNumber, IsBound, IsReadable, TermsReadable, FactorsReadable, IsRealSum, IsRealProduct}
 use Rattle.rob_syntax.specs.Trees.{Tree, number, name, sum, product, Summands, no_summands, summand, Operands, no_operands, operand}
 use Rattle.rob_parse.proofs.Degrees.DegreeLemmas.{EachName, EachSummand, EachOperand, Stands}

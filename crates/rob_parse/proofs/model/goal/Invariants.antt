@@ -1,5 +1,5 @@
 use Rattle.std.proofs.Common.{◌≡◌, drop}
-use Rattle.rob_parse.specs.Models.{goal_in}
+use Rattle.rob_parse.specs.Written.{goal_in}
 use Rattle.rob_parse.proofs.model.goal.Given as goal
 
 abbrev pub invariant-loop-statement : goal.invariant-loop-statement

@@ -6,7 +6,8 @@ use Rattle.rob_meaning.specs.RobustModel.{joint_parameters}
 use Rattle.rob_model.proofs.PartLemmas.{each_at}
 use Rattle.rob_parse.specs.Building.{FitsStatement}
 use Rattle.rob_syntax.specs.Known.{texts}
-use Rattle.rob_parse.specs.Models.{expression, taken}
+use Rattle.rob_parse.specs.Written.{expression}
+use Rattle.rob_parse.specs.Models.{taken}
 use Rattle.rob_syntax.specs.Trees.{tree_of}
 use Rattle.rob_parse.specs.declared.place.Place.{Place}
 use Rattle.rob_parse.proofs.Building.BuildLemmas.{goal_fits, grows_start, grows_step, grows_end}

@@ -4,7 +4,8 @@ use Rattle.rob_meaning.specs.Places.{Each}
 use Rattle.rob_syntax.specs.declared.syntax.Statement.{Statement}
 use Rattle.rob_parse.specs.Building.{FitsStatement}
 use Rattle.rob_syntax.specs.Known.{texts}
-use Rattle.rob_parse.specs.Models.{goal_in, model_of, parameters}
+use Rattle.rob_parse.specs.Written.{goal_in, parameters}
+use Rattle.rob_parse.specs.Models.{model_of}
 use Rattle.std.specs.List.{flat_map}
 use Rattle.rob_rules.specs.Scopes.{earlier_of, start}
 use Rattle.rob_parse.proofs.Degrees.FitLemmas.{all_fit, goal_there}

@@ -3,7 +3,8 @@ use Rattle.rob_number.proofs.CountLemmas.{only_later}
 use Rattle.rob_model.specs.View.{member_of}
 use Rattle.rob_model.proofs.PartLemmas.{each_at}
 use Rattle.rob_parse.specs.Building.{FitsMember}
-use Rattle.rob_parse.specs.Models.{member, member_taken}
+use Rattle.rob_parse.specs.Written.{member}
+use Rattle.rob_parse.specs.Models.{member_taken}
 use Rattle.rob_syntax.specs.declared.syntax.Member.{Member}
 use Rattle.rob_parse.proofs.Building.MapLemmas.{map_behind, map_step, map_end, any_default, no_member}
 use Rattle.rob_parse.proofs.parts.members.Goals as goal

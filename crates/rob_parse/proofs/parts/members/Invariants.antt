@@ -3,7 +3,8 @@ use Rattle.rob_number.specs.Counts.{CountsOnly}
 use Rattle.rob_meaning.specs.Places.{Each}
 use Rattle.rob_model.specs.View.{member_of}
 use Rattle.rob_parse.specs.Building.{FitsMember}
-use Rattle.rob_parse.specs.Models.{member, member_taken}
+use Rattle.rob_parse.specs.Written.{member}
+use Rattle.rob_parse.specs.Models.{member_taken}
 use Rattle.rob_syntax.specs.declared.syntax.Member.{Member}
 use Rattle.rob_parse.proofs.parts.members.Given as goal
 

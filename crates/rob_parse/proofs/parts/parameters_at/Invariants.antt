@@ -1,5 +1,5 @@
 use Rattle.std.proofs.Common.{◌≡◌, ◌++◌, drop, map}
-use Rattle.rob_parse.specs.Models.{parameter_at}
+use Rattle.rob_parse.specs.Written.{parameter_at}
 use Rattle.rob_parse.proofs.parts.parameters_at.Given as goal
 
 abbrev pub invariant-loop-name : goal.invariant-loop-name
