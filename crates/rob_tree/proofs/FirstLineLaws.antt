@@ -17,7 +17,7 @@ use Rattle.rob_meaning.specs.Names.{Name}
 use Rattle.rob_meaning.specs.Places.{Each}
 use Rattle.rob_tree.proofs.PieceLemmas.{k_is_word}
 use Rattle.rob_tree.specs.Parts.{claim_words}
-use Rattle.rob_tree.specs.Reading.{HasBest, IsBestCause, IsBestLineOf, IsClaimCause, IsClaimLine, greatest_leaf}
+use Rattle.rob_tree.specs.ClaimLines.{HasBest, IsBestCause, IsBestLineOf, IsClaimCause, IsClaimLine, greatest_leaf}
 use Rattle.rob_tree.specs.Shape.{KeepsParts}
 use Rattle.rob_tree.specs.TreeText.{best_text, claim_text}
 use Rattle.rob_tree.specs.declared.error.Offence.{Offence}

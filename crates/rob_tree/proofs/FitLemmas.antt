@@ -10,7 +10,8 @@ use Rattle.rob_meaning.specs.RobustModel.{RobustModel}
 use Rattle.rob_reach.proofs.GrowingLemmas.{leaves-branches}
 use Rattle.rob_reach.specs.Trees as trees
 use Rattle.rob_reach.specs.Verdicts.{KeepsBest}
-use Rattle.rob_tree.specs.Reading.{NodeFits, TreeFits, greatest_leaf}
+use Rattle.rob_tree.specs.ClaimLines.{greatest_leaf}
+use Rattle.rob_tree.specs.Reading.{NodeFits, TreeFits}
 use Rattle.rob_tree.specs.Shape.{HasTreeShape, KeepsParts}
 use Rattle.rob_tree.specs.View.{node_of, tree_of}
 use Rattle.rob_tree.specs.declared.tree.Node.{Node, Leaf, Split', Open}

@@ -22,7 +22,8 @@ use Rattle.rob_meaning.specs.RobustModel.{RobustModel}
 use Rattle.rob_cert.proofs.NumberLemmas.{mag_small}
 use Rattle.rob_tree.proofs.ReadingLemmas.{one_end_of_words, text_of_words}
 use Rattle.rob_tree.specs.Parts.{IsBestRead, IsHead, IsHeadRead, head_words}
-use Rattle.rob_tree.specs.Reading.{HasBest, IsBestCause, IsBestFault, IsBestLineOf, IsBranchWord, IsClaimCause, IsClaimFault, IsClaimLine, IsNodeCause, IsNodeFault, IsNodeLine, IsWholeWord, first_node, greatest_leaf, of_branch, of_leaf, of_open}
+use Rattle.rob_tree.specs.ClaimLines.{HasBest, IsBestCause, IsBestFault, IsBestLineOf, IsClaimCause, IsClaimFault, IsClaimLine, IsWholeWord, first_node, greatest_leaf}
+use Rattle.rob_tree.specs.Reading.{IsBranchWord, IsNodeCause, IsNodeFault, IsNodeLine, of_branch, of_leaf, of_open}
 use Rattle.rob_tree.specs.declared.nodes.Head.{Head}
 use Rattle.rob_tree.specs.declared.error.Offence.{Offence}
 use Rattle.rob_tree.specs.declared.error.Offence.TheVariants.{NoLine, NoName, NoNumber}

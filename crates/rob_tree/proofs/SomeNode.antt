@@ -16,7 +16,8 @@ use Rattle.rob_tree.proofs.LineLemmas.{no_node, node_cause, node_missing}
 use Rattle.rob_tree.proofs.NodeSteps.{breaks_above, breaks_below, breaks_certificate, breaks_here}
 use Rattle.rob_tree.proofs.ReadingLemmas.{pieces_text-append, stage, text_of_words}
 use Rattle.rob_tree.specs.Parts.{IsGoodNode}
-use Rattle.rob_tree.specs.Reading.{BreaksNodes, IsBranchWord, IsCertificatePart, IsNamedOne, IsNodeCause, IsWholeWord, line_ends, of_end, of_line, of_rest, rule_of}
+use Rattle.rob_tree.specs.ClaimLines.{IsWholeWord}
+use Rattle.rob_tree.specs.Reading.{BreaksNodes, IsBranchWord, IsCertificatePart, IsNamedOne, IsNodeCause, line_ends, of_end, of_line, of_rest, rule_of}
 use Rattle.rob_tree.specs.TreeText.{Piece, branch_piece, open_piece, piece_text, pieces, pieces_text}
 use Rattle.rob_tree.specs.declared.error.Offence.{Offence}
 use Rattle.rob_tree.specs.declared.error.Offence.TheVariants.{NoLine, NoName, NoNumber}

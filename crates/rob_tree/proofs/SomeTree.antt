@@ -21,7 +21,8 @@ use Rattle.rob_tree.proofs.ReaderLemmas.{root_cause_end, root_cause_node, root_r
 use Rattle.rob_tree.proofs.ReadingLemmas.{text_of_words}
 use Rattle.rob_tree.proofs.SomeNode.{Node_of, SomeNode, first_same, some_node, whole_word}
 use Rattle.rob_tree.specs.Parts.{HasRootCause, IsBestRead, IsClaimRead, IsLeafNumber, IsNodeRead, claim_words, tree_with}
-use Rattle.rob_tree.specs.Reading.{Breaks, HasBest, IsBestCause, IsClaimCause, IsWholeWord, TreeFits, first_node, greatest_leaf, line_ends, rule_of}
+use Rattle.rob_tree.specs.ClaimLines.{HasBest, IsBestCause, IsClaimCause, IsWholeWord, first_node, greatest_leaf}
+use Rattle.rob_tree.specs.Reading.{Breaks, TreeFits, line_ends, rule_of}
 use Rattle.rob_tree.specs.TreeText.{IsTextOfTree, pieces, pieces_text}
 use Rattle.rob_tree.specs.declared.error.Offence.{Offence}
 use Rattle.rob_tree.specs.declared.error.Offence.TheVariants.{NoLine, NoNumber}

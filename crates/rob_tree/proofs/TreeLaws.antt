@@ -18,7 +18,8 @@ use Rattle.rob_tree.proofs.GoodNodes.{columns_inside, good_tree}
 use Rattle.rob_tree.proofs.NodeLaws.{one_breach, one_root, root_breaks_none}
 use Rattle.rob_tree.proofs.ReadingLemmas.{root_back}
 use Rattle.rob_tree.specs.Parts.{IsGoodNode}
-use Rattle.rob_tree.specs.Reading.{BreaksNodes, Breaks, HasBest, IsBestCause, IsBestLine, IsBestLineOf, Leads, Stage, TreeFits, at_root, first_node, in_best, in_claim, in_nodes, no_leaf, rule_of}
+use Rattle.rob_tree.specs.ClaimLines.{HasBest, IsBestCause, IsBestLine, IsBestLineOf, first_node}
+use Rattle.rob_tree.specs.Reading.{BreaksNodes, Breaks, Leads, Stage, TreeFits, at_root, in_best, in_claim, in_nodes, no_leaf, rule_of}
 use Rattle.rob_tree.specs.Shape.{KeepsParts}
 use Rattle.rob_tree.specs.TreeText.{IsTextOfTree, best_text, claim_text, pieces, pieces_text}
 use Rattle.rob_tree.specs.declared.error.Offence.{Offence}

@@ -6,7 +6,7 @@ ghost use Rattle.rob_cert.specs.Reading.{words_in};
 ghost use Rattle.rob_cert.specs.View.{status_of};
 ghost use Rattle.rob_number.specs.Counts.{NeverFell};
 ghost use Rattle.rob_tree.specs.Parts.{HasBestCause, IsBestRead, IsClaim, IsClaimRead};
-ghost use Rattle.rob_tree.specs.Reading.{HasBest, IsBestFault, IsClaimCause, IsClaimFault, IsWholeWord, greatest_leaf};
+ghost use Rattle.rob_tree.specs.ClaimLines.{HasBest, IsBestFault, IsClaimCause, IsClaimFault, IsWholeWord, greatest_leaf};
 
 use crate::error::Offence;
 use rob_cert::Status;

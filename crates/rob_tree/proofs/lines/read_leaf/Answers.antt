@@ -2,7 +2,7 @@ use Rattle.std.proofs.Common.{◌≡◌, ◌≤◌, refl, subst}
 use Rattle.std.specs.Fmt.{signed_decimal}
 use Rattle.std.specs.Prelude.{nat_abs, MatchOption}
 use Rattle.rob_number.specs.Lowest.{limit_of}
-use Rattle.rob_tree.specs.Reading.{IsWholeWord, greatest_leaf}
+use Rattle.rob_tree.specs.ClaimLines.{IsWholeWord, greatest_leaf}
 use Rattle.rob_tree.proofs.lines.read_leaf.Goals as goal
 
 -- 32 bits are the limit
