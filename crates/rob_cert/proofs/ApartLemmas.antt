@@ -16,7 +16,8 @@ use Rattle.rob_cert.specs.declared.kind.Multipliers.TheVariants.{Covers, Holds}
 use Rattle.rob_cert.specs.declared.kind.Vector.{Vector}
 use Rattle.rob_cert.specs.declared.kind.Vector.TheVariants.{Inside, Plan, Move, At}
 use Rattle.rob_cert.specs.Lines.{Line, status_line, value_line, scale_line, entry_line, cover_line, item_line, end_line}
-use Rattle.rob_cert.specs.Reading.{Lacks, BeginsWithLine, words_in, Kind, claims, values, scales, items, ends, entries, multipliers, kind_of, word_of, Stage, start, behind, advanced, Follows, FitsLine, IsNotZero, Leads}
+use Rattle.rob_cert.specs.Kinds.{Kind, claims, values, scales, items, ends, entries, multipliers, kind_of, word_of}
+use Rattle.rob_cert.specs.Reading.{Lacks, BeginsWithLine, words_in, Stage, start, behind, advanced, Follows, FitsLine, IsNotZero, Leads}
 use Rattle.rob_cert.specs.Spelling.{Naming, entry_names, name_at, number_text, status_word, words_of, spelled, spaced, behind_spaces, line_text, lines_text}
 use Rattle.rob_cert.proofs.CoverLemmas.{one_number}
 use Rattle.rob_cert.proofs.Decisions.{nth}

@@ -8,8 +8,10 @@ use Rattle.rob_cert.specs.declared.error.Offence.{Offence}
 use Rattle.rob_cert.specs.declared.error.Offence.TheVariants.{NoLine, NoShape, NoNumber}
 use Rattle.rob_cert.specs.declared.kind.Vector.{Vector}
 use Rattle.rob_cert.specs.Lines.{Line, entry_line, entry_lines}
-use Rattle.rob_cert.specs.Reading.{BeginsWithLine, words_in, Kind, entries, Stage, behind, Follows, FitsLine, IsNotZero, IsNotZeroWord, IsShapedAt, IsCause, BreaksFrom, word_of, kind_of, argument_count, may_follow, from}
-use Rattle.rob_cert.specs.Sections.{StandsAt, IsEntryShape, HasEntryFault}
+use Rattle.rob_cert.specs.Kinds.{Kind, entries, word_of, kind_of, argument_count, may_follow}
+use Rattle.rob_cert.specs.Reading.{BeginsWithLine, words_in, Stage, behind, Follows, FitsLine, IsNotZero, IsNotZeroWord, IsShapedAt, IsCause, BreaksFrom, from}
+use Rattle.rob_cert.specs.Sections.{StandsAt}
+use Rattle.rob_cert.specs.Entries.{IsEntryShape, HasEntryFault}
 use Rattle.rob_cert.specs.Spelling.{Naming, words_of, spelled}
 use Rattle.rob_cert.proofs.EntryLemmas.{one_line}
 use Rattle.rob_cert.proofs.KindLemmas.{word_injective, kind_by_word, kind_by_spelled, entry_by_kind}

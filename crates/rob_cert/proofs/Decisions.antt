@@ -7,10 +7,11 @@ use Rattle.rob_algebra.specs.Fraction.{Fraction, of_pair, of_pair_parts}
 use Rattle.rob_algebra.specs.Width.{Fits}
 use Rattle.rob_meaning.specs.Names.{Name}
 use Rattle.rob_cert.specs.Reading.{Lacks, BeginsWithLine, words_in, IsAtLeast}
-use Rattle.rob_cert.specs.Sections.{HasNoLineOf, IsPair}
+use Rattle.rob_cert.specs.Sections.{HasNoLineOf}
+use Rattle.rob_cert.specs.Covers.{IsPair}
 use Rattle.rob_cert.specs.Spelling.{Naming, name_at, number_text}
 use Rattle.rob_cert.proofs.EntryLemmas.{no_line, one_line}
-use Rattle.rob_cert.proofs.PartLemmas.{lt_cases}
+use Rattle.rob_cert.proofs.RankLemmas.{lt_cases}
 
 -- it holds, or it doesn't
 abbrev pub Decided : Type 0 → Type 0

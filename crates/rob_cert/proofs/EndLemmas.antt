@@ -10,11 +10,14 @@ use Rattle.rob_cert.specs.declared.kind.Multipliers.TheVariants.{Covers, Holds}
 use Rattle.rob_cert.specs.declared.kind.Vector.TheVariants.{Inside, Plan, Move, At}
 use Rattle.rob_cert.specs.Lines.{Line, item_lines, end_line}
 use Rattle.rob_cert.specs.Parts.{IsReady, SoFar, Extends}
-use Rattle.rob_cert.specs.Reading.{Lacks, BeginsWithLine, words_in, Kind, claims, values, scales, items, ends, entries, multipliers, rank, is_used, is_behind, may_follow, word_of, Stage, start, behind, Leads, BreaksFrom, IsLineAt, argument_count}
-use Rattle.rob_cert.specs.Sections.{IsSection, HasNoLineOf, AreItems, IsThereOrInItem}
+use Rattle.rob_cert.specs.Kinds.{Kind, claims, values, scales, items, ends, entries, multipliers, rank, is_used, is_behind, may_follow, word_of, argument_count}
+use Rattle.rob_cert.specs.Reading.{Lacks, BeginsWithLine, words_in, Stage, start, behind, Leads, BreaksFrom, IsLineAt}
+use Rattle.rob_cert.specs.Sections.{IsSection, HasNoLineOf}
+use Rattle.rob_cert.specs.Items.{AreItems, IsThereOrInItem}
 use Rattle.rob_cert.specs.Spelling.{Naming, lines_text, spaced}
 use Rattle.rob_cert.proofs.EntryLemmas.{one_line}
-use Rattle.rob_cert.proofs.PartLemmas.{rank_injective, eight, used, lt_cases, at_needs, items_used, none_read, ready_items, ready_entries, ready_more, stands_items}
+use Rattle.rob_cert.proofs.RankLemmas.{rank_injective, eight, used, lt_cases, at_needs, items_used, ready_items, ready_entries, ready_more}
+use Rattle.rob_cert.proofs.PartLemmas.{none_read, stands_items}
 use Rattle.rob_cert.proofs.SectionLemmas.{Leads-append, further, section_further, section_line, spaced-words_in}
 use Rattle.rob_cert.proofs.WriterLemmas.{lines_text-append}
 use Rattle.std.proofs.lemmas.Bool.{and_parts}

@@ -9,7 +9,8 @@ use Rattle.rob_cert.specs.declared.kind.Multipliers.TheVariants.{Covers, Holds}
 use Rattle.rob_cert.specs.declared.kind.Vector.{Vector}
 use Rattle.rob_cert.specs.declared.kind.Vector.TheVariants.{Inside, Plan, Move, At}
 use Rattle.rob_cert.specs.Lines.{Line, status_line, value_line, scale_line, entry_line, cover_line, item_line, end_line}
-use Rattle.rob_cert.specs.Reading.{Kind, claims, values, scales, items, ends, entries, multipliers, kind_of, word_of, may_follow, from}
+use Rattle.rob_cert.specs.Kinds.{Kind, claims, values, scales, items, ends, entries, multipliers, kind_of, word_of, may_follow}
+use Rattle.rob_cert.specs.Reading.{from}
 use Rattle.rob_cert.specs.Spelling.{Naming, words_of, spelled}
 
 -- ---- words

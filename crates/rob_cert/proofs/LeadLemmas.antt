@@ -17,14 +17,17 @@ use Rattle.rob_cert.specs.declared.kind.Vector.TheVariants.{Inside, Plan, Move}
 use Rattle.rob_cert.specs.Head.{status_bytes}
 use Rattle.rob_cert.specs.Lines.{Line, status_line, end_line, bound_lines, entry_lines, cover_lines, item_lines, lines_of}
 use Rattle.rob_cert.specs.Parts.{IsReady}
-use Rattle.rob_cert.specs.Reading.{Kind, claims, items, ends, entries, multipliers, rank, is_used, may_follow, Stage, start, behind, FitsLine, IsAtLeast, Leads}
-use Rattle.rob_cert.specs.Sections.{IsThereOrIn, IsThereOrInItem, IsGoodCover, IsGoodItem}
+use Rattle.rob_cert.specs.Kinds.{Kind, claims, items, ends, entries, multipliers, rank, is_used, may_follow}
+use Rattle.rob_cert.specs.Reading.{Stage, start, behind, FitsLine, IsAtLeast, Leads}
+use Rattle.rob_cert.specs.Sections.{IsThereOrIn}
+use Rattle.rob_cert.specs.Covers.{IsGoodCover}
+use Rattle.rob_cert.specs.Items.{IsThereOrInItem, IsGoodItem}
 use Rattle.rob_cert.specs.Shape.{HasShape, HasParts, AreCoversOf, AreItemsOf, IsCoverOf, IsItemOf}
 use Rattle.rob_cert.specs.Spelling.{Naming, naming_of, entry_names, lines_text}
 use Rattle.rob_cert.proofs.EndLemmas.{ready_eight}
 use Rattle.rob_cert.proofs.HeadLemmas.{front_is, ready_claims}
 use Rattle.rob_cert.proofs.NameListLemmas.{length-parameter_names}
-use Rattle.rob_cert.proofs.PartLemmas.{ready_entries, ready_multipliers, ready_more}
+use Rattle.rob_cert.proofs.RankLemmas.{ready_entries, ready_multipliers, ready_more}
 use Rattle.rob_cert.proofs.SectionLemmas.{Leads-append, line_of_zero}
 use Rattle.rob_cert.proofs.LineLeads.{entries_lead, covers_lead, items_lead}
 

@@ -8,6 +8,7 @@ pub mod SectionLemmas
 pub mod CauseLemmas
 pub mod CoverLemmas
 pub mod ItemLemmas
+pub mod RankLemmas
 pub mod PartLemmas
 pub mod EndLemmas
 pub mod HeadLemmas

@@ -10,8 +10,11 @@ use Rattle.rob_cert.specs.declared.kind.Multipliers.{Multipliers}
 use Rattle.rob_cert.specs.declared.kind.Vector.{Vector}
 use Rattle.rob_cert.specs.declared.kind.Vector.TheVariants.{At}
 use Rattle.rob_cert.specs.Lines.{Line, entry_line, cover_line, item_line, entry_lines, cover_lines, item_lines}
-use Rattle.rob_cert.specs.Reading.{Kind, entries, multipliers, rank, Stage, behind, advanced, FitsLine, IsAtLeast, Leads}
-use Rattle.rob_cert.specs.Sections.{StandsAt, StandsBehind, StandsItem, IsThereOrIn, IsThereOrInItem, IsGoodCover, IsGoodItem}
+use Rattle.rob_cert.specs.Kinds.{Kind, entries, multipliers, rank}
+use Rattle.rob_cert.specs.Reading.{Stage, behind, advanced, FitsLine, IsAtLeast, Leads}
+use Rattle.rob_cert.specs.Sections.{StandsAt, StandsBehind, IsThereOrIn}
+use Rattle.rob_cert.specs.Covers.{IsGoodCover}
+use Rattle.rob_cert.specs.Items.{StandsItem, IsThereOrInItem, IsGoodItem}
 use Rattle.rob_cert.specs.Spelling.{Naming, entry_names}
 use Rattle.rob_cert.proofs.CoverLemmas.{cover_follows, multipliers_again}
 use Rattle.rob_cert.proofs.ItemLemmas.{item_follows, entries_stand, item_stands, entries_behind_item}

@@ -14,7 +14,7 @@ use Rattle.rob_cert.specs.declared.kind.Multipliers.TheVariants.{Covers, Holds}
 use Rattle.rob_cert.specs.declared.kind.Vector.{Vector}
 use Rattle.rob_cert.specs.declared.kind.Vector.TheVariants.{Inside, Plan, Move, At}
 use Rattle.rob_cert.specs.Lines.{Line, status_line, entry_line, end_line, bound_lines, entry_lines, cover_lines, item_lines, lines_of}
-use Rattle.rob_cert.specs.Reading.{entries, multipliers, kind_of, rank}
+use Rattle.rob_cert.specs.Kinds.{entries, multipliers, kind_of, rank}
 use Rattle.rob_cert.specs.Shape.{HasShape, HasParts, IsItemOf}
 use Rattle.rob_cert.specs.Spelling.{naming_of}
 use Rattle.rob_cert.specs.Whole.{IsTextOf}

@@ -13,7 +13,8 @@ use Rattle.rob_meaning.specs.RobustModel.{RobustModel}
 use Rattle.rob_cert.specs.declared.kind.Multipliers.TheVariants.{Covers, Holds}
 use Rattle.rob_cert.specs.declared.kind.Vector.TheVariants.{Inside, Plan, Move, At}
 use Rattle.rob_cert.specs.Lines.{Line, status_line, item_line, bound_lines, entry_lines, cover_lines, item_lines, end_line, lines_of}
-use Rattle.rob_cert.specs.Sections.{IsGoodCover, IsGoodItem}
+use Rattle.rob_cert.specs.Covers.{IsGoodCover}
+use Rattle.rob_cert.specs.Items.{IsGoodItem}
 use Rattle.rob_cert.specs.Shape.{HasParts, IsCoverOf, IsItemOf}
 use Rattle.rob_cert.specs.Spelling.{Naming, naming_of, line_text, lines_text, spaced, behind_spaces, words_of, spelled}
 use Rattle.rob_cert.specs.Whole.{HasSizes, AreGoodLists, IsMoved, IsWellRead, IsTextOf}

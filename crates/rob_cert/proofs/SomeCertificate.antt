@@ -19,15 +19,19 @@ use Rattle.rob_cert.specs.declared.kind.Vector.TheVariants.{Inside, Plan, Move}
 use Rattle.rob_cert.specs.Head.{status_bytes}
 use Rattle.rob_cert.specs.Lines.{Line, status_line, value_line, scale_line, end_line, bound_lines, entry_lines, cover_lines, item_lines, lines_of}
 use Rattle.rob_cert.specs.Parts.{SoFar}
-use Rattle.rob_cert.specs.Reading.{Lacks, BeginsWithLine, entries, multipliers, items, rank, is_used, start, behind, FitsLine}
-use Rattle.rob_cert.specs.Sections.{IsSection, AreGoodCovers, AreGoodItems}
+use Rattle.rob_cert.specs.Kinds.{entries, multipliers, items, rank, is_used}
+use Rattle.rob_cert.specs.Reading.{Lacks, BeginsWithLine, start, behind, FitsLine}
+use Rattle.rob_cert.specs.Sections.{IsSection}
+use Rattle.rob_cert.specs.Covers.{AreGoodCovers}
+use Rattle.rob_cert.specs.Items.{AreGoodItems}
 use Rattle.rob_cert.specs.Spelling.{Naming, naming_of, entry_names, lines_text}
 use Rattle.rob_cert.specs.Whole.{HasSize, IsTextOf, IsWellRead}
 use Rattle.rob_cert.proofs.Decisions.{Decided, same_word, first_line}
 use Rattle.rob_cert.proofs.EndLemmas.{items_part, unused_items, end_reads, end_missing, end_followed, no_end, end_line_is, whole_end}
 use Rattle.rob_cert.proofs.EntryLemmas.{no_line}
 use Rattle.rob_cert.proofs.HeadLemmas.{value_fails, scale_fails, status_fails, bounds_fail, front_alone, front_is}
-use Rattle.rob_cert.proofs.PartLemmas.{low_entries, low_multipliers, apart_multipliers, unused_part, entries_part, entries_fails, covers_part, covers_fails, items_fails}
+use Rattle.rob_cert.proofs.RankLemmas.{low_entries, low_multipliers, apart_multipliers}
+use Rattle.rob_cert.proofs.PartLemmas.{unused_part, entries_part, entries_fails, covers_part, covers_fails, items_fails}
 use Rattle.rob_cert.proofs.SectionLemmas.{section_further}
 use Rattle.rob_cert.proofs.ShapeLemmas.{well_read}
 use Rattle.rob_cert.proofs.SomeEntries.{some_entries}

@@ -10,8 +10,10 @@ use Rattle.rob_cert.specs.declared.error.CertErr.TheVariants.{Rule}
 use Rattle.rob_cert.specs.declared.error.Offence.{Offence}
 use Rattle.rob_cert.specs.declared.error.Offence.TheVariants.{NoLine, NoShape, NoNumber}
 use Rattle.rob_cert.specs.declared.kind.Multipliers.{Multipliers}
-use Rattle.rob_cert.specs.Reading.{BeginsWithLine, words_in, multipliers, Stage}
-use Rattle.rob_cert.specs.Sections.{StandsBehind, IsCoverLine, HasCoverFault, IsPair, AreCovers}
+use Rattle.rob_cert.specs.Kinds.{multipliers}
+use Rattle.rob_cert.specs.Reading.{BeginsWithLine, words_in, Stage}
+use Rattle.rob_cert.specs.Sections.{StandsBehind}
+use Rattle.rob_cert.specs.Covers.{IsCoverLine, HasCoverFault, IsPair, AreCovers}
 use Rattle.rob_cert.specs.Spelling.{Naming, multipliers_word, name_at}
 use Rattle.rob_cert.proofs.CoverLemmas.{CoversSoFar, covers_start, covers_more, covers_fault}
 use Rattle.rob_cert.proofs.Decisions.{Decided, same_number, same_word, next_line, three_words, nth, some_pair, Spells, some_number}

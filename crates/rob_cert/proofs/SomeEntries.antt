@@ -12,8 +12,10 @@ use Rattle.rob_cert.specs.declared.error.CertErr.TheVariants.{Rule}
 use Rattle.rob_cert.specs.declared.error.Offence.{Offence}
 use Rattle.rob_cert.specs.declared.error.Offence.TheVariants.{NoLine, NoShape, NoNumber}
 use Rattle.rob_cert.specs.declared.kind.Vector.{Vector}
-use Rattle.rob_cert.specs.Reading.{BeginsWithLine, words_in, entries, Stage}
-use Rattle.rob_cert.specs.Sections.{StandsAt, IsEntry, HasEntryFault, AreEntries, IsZeroVector}
+use Rattle.rob_cert.specs.Kinds.{entries}
+use Rattle.rob_cert.specs.Reading.{BeginsWithLine, words_in, Stage}
+use Rattle.rob_cert.specs.Sections.{StandsAt}
+use Rattle.rob_cert.specs.Entries.{IsEntry, HasEntryFault, AreEntries, IsZeroVector}
 use Rattle.rob_cert.specs.Spelling.{Naming, entry_names, name_at, number_text, vector_word}
 use Rattle.rob_cert.proofs.CauseLemmas.{entries_fault}
 use Rattle.rob_cert.proofs.Decisions.{Decided, same_number, same_word, next_line, two_words, nth, some_name, Spells, some_number}

@@ -12,7 +12,8 @@ use Rattle.rob_cert.specs.declared.kind.Bound.{Bound}
 use Rattle.rob_cert.specs.declared.kind.Vector.TheVariants.{Move}
 use Rattle.rob_cert.specs.Head.{bound_kind, bound_line, status_bytes, HasBoundFault}
 use Rattle.rob_cert.specs.Lines.{Line, entry_lines}
-use Rattle.rob_cert.specs.Reading.{Lacks, BeginsWithLine, words_in, word_of, Stage, FitsLine, Leads}
+use Rattle.rob_cert.specs.Kinds.{word_of}
+use Rattle.rob_cert.specs.Reading.{Lacks, BeginsWithLine, words_in, Stage, FitsLine, Leads}
 use Rattle.rob_cert.specs.Sections.{IsSection, HasNoLineOf}
 use Rattle.rob_cert.specs.Spelling.{Naming}
 use Rattle.rob_cert.specs.Whole.{IsMoved}

@@ -10,8 +10,9 @@ use Rattle.rob_cert.specs.declared.error.CertErr.TheVariants.{Rule}
 use Rattle.rob_cert.specs.declared.error.Offence.{Offence}
 use Rattle.rob_cert.specs.declared.error.Offence.TheVariants.{NoLine, NoShape, NoNumber}
 use Rattle.rob_cert.specs.declared.kind.Vector.TheVariants.{At}
-use Rattle.rob_cert.specs.Reading.{BeginsWithLine, words_in, items, word_of, Stage}
-use Rattle.rob_cert.specs.Sections.{StandsItem, IsItemLine, HasItemFault, HasItemReadFault, IsItemRead, AreItems}
+use Rattle.rob_cert.specs.Kinds.{items, word_of}
+use Rattle.rob_cert.specs.Reading.{BeginsWithLine, words_in, Stage}
+use Rattle.rob_cert.specs.Items.{StandsItem, IsItemLine, HasItemFault, HasItemReadFault, IsItemRead, AreItems}
 use Rattle.rob_cert.specs.Spelling.{Naming, name_at, number_text}
 use Rattle.rob_cert.proofs.Decisions.{Decided, same_number, next_line, three_words, nth, some_name, Spells, some_number}
 use Rattle.rob_cert.proofs.ItemLemmas.{ItemsSoFar, items_start, items_more, items_fault, item_read_fault}

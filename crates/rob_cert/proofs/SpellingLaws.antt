@@ -22,8 +22,9 @@ use Rattle.rob_cert.specs.declared.error.Offence.{Offence}
 use Rattle.rob_cert.specs.declared.error.Offence.TheVariants.{NoLine, NoShape, NoNumber}
 use Rattle.rob_cert.specs.declared.kind.Vector.TheVariants.{Inside, Plan, Move, At}
 use Rattle.rob_cert.specs.Lines.{Line, status_line, value_line, scale_line, entry_line, cover_line, item_line, end_line, lines_of}
-use Rattle.rob_cert.specs.Reading as reading
-use Rattle.rob_cert.specs.Reading.{BeginsWithLine, words_in, kind_of, Stage, start, behind, ends, MayStand, Follows, FitsLine, IsNotZero, IsNotZeroWord, IsPlaced, IsLineAt, IsCause, Leads, BreaksFrom, advanced}
+use Rattle.rob_cert.specs.Kinds as kinds
+use Rattle.rob_cert.specs.Kinds.{kind_of, ends}
+use Rattle.rob_cert.specs.Reading.{BeginsWithLine, words_in, Stage, start, behind, MayStand, Follows, FitsLine, IsNotZero, IsNotZeroWord, IsPlaced, IsLineAt, IsShapedAt, IsCause, Leads, BreaksFrom, advanced}
 use Rattle.rob_cert.specs.Spelling.{Naming, naming_of, entry_names, number_text, words_of, spelled, line_text, lines_text}
 use Rattle.rob_cert.specs.Whole.{IsTextOf}
 use Rattle.rob_cert.proofs.ApartLemmas.{TellsApart, number_same, line_of, begins_with, line_has_words, lines_once, leads_same}
@@ -73,9 +74,9 @@ line_at names (behind s last form place) (value_line a) h =
 line_at names (behind s last form place) (scale_line a) h =
     (_, h, record { arguments = _; spelled = refl; count = refl })
 line_at names (behind s last form place) (entry_line v k a) h =
-    (reading.entries v, h, record { arguments = _; spelled = refl; count = refl })
+    (kinds.entries v, h, record { arguments = _; spelled = refl; count = refl })
 line_at names (behind s last form place) (cover_line which i r a) h =
-    (reading.multipliers which, h, record { arguments = _; spelled = refl; count = refl })
+    (kinds.multipliers which, h, record { arguments = _; spelled = refl; count = refl })
 line_at names (behind s last form place) (item_line i w b) h =
     (_, h, record { arguments = _; spelled = refl; count = refl })
 line_at names (behind s last form place) end_line h = (_, h, record { arguments = _; spelled = refl; count = refl })

@@ -9,7 +9,8 @@ use Rattle.rob_cert.specs.declared.error.Offence.TheVariants.{NoLine, NoShape, N
 use Rattle.rob_cert.specs.declared.kind.Bound.{Bound}
 use Rattle.rob_cert.specs.declared.kind.Bound.TheVariants.{Value, Scale}
 use Rattle.rob_cert.specs.Lines.{Line, value_line, scale_line}
-use Rattle.rob_cert.specs.Reading.{BeginsWithLine, words_in, Kind, values, scales, word_of, HasWords}
+use Rattle.rob_cert.specs.Kinds.{Kind, values, scales, word_of}
+use Rattle.rob_cert.specs.Reading.{BeginsWithLine, words_in, HasWords}
 use Rattle.rob_cert.specs.Spelling.{number_text, status_word}
 
 -- the kind of the line of the value or the scale

@@ -3,9 +3,13 @@ pub mod Shape
 pub mod Lines
 pub mod Spelling
 pub mod NamesView
+pub mod Kinds
 pub mod Reading
 pub mod Causes
 pub mod Sections
+pub mod Entries
+pub mod Covers
+pub mod Items
 pub mod Head
 pub mod Parts
 pub mod Whole

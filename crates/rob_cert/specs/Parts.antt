@@ -6,7 +6,8 @@ use Rattle.rob_cert.specs.Causes.{HasCause}
 use Rattle.rob_cert.specs.declared.error.CertErr.{CertErr}
 use Rattle.rob_cert.specs.declared.kind.Vector.TheVariants.{At}
 use Rattle.rob_cert.specs.Lines.{Line}
-use Rattle.rob_cert.specs.Reading.{Kind, entries, rank, is_used, may_follow, word_of, start, behind, Leads}
+use Rattle.rob_cert.specs.Kinds.{Kind, entries, rank, is_used, may_follow, word_of}
+use Rattle.rob_cert.specs.Reading.{start, behind, Leads}
 use Rattle.rob_cert.specs.Sections.{IsSection, HasNoLineOf}
 use Rattle.rob_cert.specs.Spelling.{Naming}
 

@@ -12,8 +12,9 @@ use Rattle.rob_cert.specs.declared.kind.Vector.{Vector}
 use Rattle.rob_cert.specs.declared.kind.Vector.TheVariants.{Inside, Plan, Move}
 use Rattle.rob_cert.specs.Lines.{Line, entry_lines, cover_lines, item_lines, end_line}
 use Rattle.rob_cert.specs.Parts.{SoFar}
-use Rattle.rob_cert.specs.Reading.{entries, multipliers, items, is_used}
-use Rattle.rob_cert.specs.Sections.{AreGoodCovers, AreGoodItems}
+use Rattle.rob_cert.specs.Kinds.{entries, multipliers, items, is_used}
+use Rattle.rob_cert.specs.Covers.{AreGoodCovers}
+use Rattle.rob_cert.specs.Items.{AreGoodItems}
 use Rattle.rob_cert.specs.Shape.{HasShape}
 use Rattle.rob_cert.specs.Spelling.{Naming, entry_names, lines_text, cert_text}
 use Rattle.rob_cert.specs.View.{certificate_of}

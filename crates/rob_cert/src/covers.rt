@@ -6,8 +6,10 @@ ghost use Rattle.rob_meaning.specs.Certificates.{Status as StatusOf};
 ghost use Rattle.rob_meaning.specs.Named.{AreDistinct};
 ghost use Rattle.rob_cert.specs.Causes.{HasCause};
 ghost use Rattle.rob_cert.specs.NamesView.{naming};
-ghost use Rattle.rob_cert.specs.Reading.{Stage, multipliers as multipliers_kind, words_in};
-ghost use Rattle.rob_cert.specs.Sections.{AreCovers, HasCoverFault, HasFirst, IsCoverLine, IsPair, StandsBehind};
+ghost use Rattle.rob_cert.specs.Kinds.{multipliers as multipliers_kind};
+ghost use Rattle.rob_cert.specs.Reading.{Stage, words_in};
+ghost use Rattle.rob_cert.specs.Sections.{HasFirst, StandsBehind};
+ghost use Rattle.rob_cert.specs.Covers.{AreCovers, HasCoverFault, IsCoverLine, IsPair};
 ghost use Rattle.rob_cert.specs.Spelling.{multipliers_word};
 ghost use Rattle.rob_cert.specs.View.{cover_of};
 

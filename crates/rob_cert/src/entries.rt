@@ -5,8 +5,10 @@ ghost use Rattle.rob_number.specs.Counts.{NeverFell};
 ghost use Rattle.rob_meaning.specs.Certificates.{Status as StatusOf};
 ghost use Rattle.rob_cert.specs.Causes.{HasCause};
 ghost use Rattle.rob_cert.specs.NamesView.{naming};
-ghost use Rattle.rob_cert.specs.Reading.{Stage, entries as entries_kind};
-ghost use Rattle.rob_cert.specs.Sections.{AreEntries, IsZeroVector, StandsAt};
+ghost use Rattle.rob_cert.specs.Kinds.{entries as entries_kind};
+ghost use Rattle.rob_cert.specs.Reading.{Stage};
+ghost use Rattle.rob_cert.specs.Sections.{StandsAt};
+ghost use Rattle.rob_cert.specs.Entries.{AreEntries, IsZeroVector};
 ghost use Rattle.rob_cert.specs.Spelling.{entry_names};
 
 use crate::entry::{next_of, read_entry};

@@ -13,7 +13,8 @@ use Rattle.rob_cert.specs.Apart.{FitsLines, IsNamedInWords}
 use Rattle.rob_cert.specs.declared.kind.Multipliers.TheVariants.{Covers, Holds}
 use Rattle.rob_cert.specs.declared.kind.Vector.TheVariants.{Inside, Plan, Move, At}
 use Rattle.rob_cert.specs.Lines.{Line, status_line, value_line, scale_line, entry_line, cover_line, item_line, end_line, lines_of}
-use Rattle.rob_cert.specs.Reading.{BeginsWithLine, words_in, Stage, start, behind, ends, advanced, Follows, IsNotZero, Leads}
+use Rattle.rob_cert.specs.Kinds.{ends}
+use Rattle.rob_cert.specs.Reading.{BeginsWithLine, words_in, Stage, start, behind, advanced, Follows, IsNotZero, Leads}
 use Rattle.rob_cert.specs.Shape.{HasShape}
 use Rattle.rob_cert.specs.Spelling.{Naming, naming_of, words_of, spelled, line_text, lines_text}
 use Rattle.rob_meaning.specs.Certificates.{Certificate, Status}

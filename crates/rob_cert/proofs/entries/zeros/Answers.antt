@@ -1,5 +1,5 @@
 use Rattle.std.proofs.Common.{map, sym, subst}
-use Rattle.rob_cert.specs.Sections.{IsZeroVector}
+use Rattle.rob_cert.specs.Entries.{IsZeroVector}
 use Rattle.rob_cert.proofs.SectionLemmas.{zero_start, zero_more}
 use Rattle.rob_cert.proofs.entries.zeros.Goals as goal
 

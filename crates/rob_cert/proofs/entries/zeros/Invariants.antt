@@ -1,5 +1,5 @@
 use Rattle.std.proofs.Common.{map}
-use Rattle.rob_cert.specs.Sections.{IsZeroVector}
+use Rattle.rob_cert.specs.Entries.{IsZeroVector}
 use Rattle.rob_cert.proofs.entries.zeros.Given as goal
 
 abbrev pub invariant-loop-k : goal.invariant-loop-k

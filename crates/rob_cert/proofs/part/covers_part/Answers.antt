@@ -3,9 +3,10 @@ use Rattle.std.specs.Prelude.{suc}
 use Rattle.rob_cert.specs.Lines.{cover_lines}
 use Rattle.rob_cert.specs.NamesView.{naming}
 use Rattle.rob_cert.specs.Parts.{Extends}
-use Rattle.rob_cert.specs.Reading.{multipliers, rank}
+use Rattle.rob_cert.specs.Kinds.{multipliers, rank}
 use Rattle.rob_cert.specs.View.{cover_of, status_of}
 use Rattle.rob_cert.proofs.PartLemmas as part
+use Rattle.rob_cert.proofs.RankLemmas.{low_multipliers, apart_multipliers}
 use Rattle.rob_cert.proofs.part.covers_part.Goals as goal
 
 pub returns-then-is_used-clause-read : goal.returns-then-is_used-clause-read
@@ -13,7 +14,7 @@ returns-then-is_used-clause-read g c =
     part.if_ok c.read_covers.result
     (λ r h. part.covers_part (naming c.args.names.now) g.N.Exact.limit (status_of c.args.status) c.args.which
     c.args.at.rest.now c.args.at.line (map (cover_of g.N.Exact.value) r.list) r.at.rest.now r.at.line
-    (part.low_multipliers c.args.which) (part.apart_multipliers c.args.which)
+    (low_multipliers c.args.which) (apart_multipliers c.args.which)
     (sym c.is_used.ensures.used ∙ c.if-is_used.true) h)
     c.read_covers.ensures.read
 
@@ -31,5 +32,5 @@ returns-else-is_used-clause-read g c =
     (cover_lines c.args.which (map (cover_of g.N.Exact.value) xs)) c.args.at.rest.now c.args.at.line)
     (sym c.new.ensures.empty)
     (part.unused_part (naming c.args.names.now) g.N.Exact.limit (status_of c.args.status) (multipliers c.args.which)
-    c.args.at.rest.now c.args.at.line (part.low_multipliers c.args.which) (part.apart_multipliers c.args.which)
+    c.args.at.rest.now c.args.at.line (low_multipliers c.args.which) (apart_multipliers c.args.which)
     (sym c.is_used.ensures.used ∙ c.if-is_used.false))

@@ -3,9 +3,10 @@ use Rattle.std.specs.Prelude.{suc}
 use Rattle.rob_cert.specs.Lines.{entry_lines}
 use Rattle.rob_cert.specs.NamesView.{naming}
 use Rattle.rob_cert.specs.Parts.{Extends}
-use Rattle.rob_cert.specs.Reading.{entries, rank}
+use Rattle.rob_cert.specs.Kinds.{entries, rank}
 use Rattle.rob_cert.specs.View.{status_of}
 use Rattle.rob_cert.proofs.PartLemmas as part
+use Rattle.rob_cert.proofs.RankLemmas.{low_entries}
 use Rattle.rob_cert.proofs.part.entries_part.Goals as goal
 
 pub returns-then-is_used-clause-read : goal.returns-then-is_used-clause-read
@@ -14,7 +15,7 @@ returns-then-is_used-clause-read g c =
     (λ r h. part.entries_part (naming c.args.names.now) g.N.Exact.limit (status_of c.args.status) c.args.vector
     c.entry_count-count.result c.args.at.rest.now c.args.at.line
     (map g.N.Exact.value r.numbers.items) r.at.rest.now r.at.line
-    (part.low_entries c.args.vector) c.requires.apart (sym c.is_used.ensures.used ∙ c.if-is_used.true) h)
+    (low_entries c.args.vector) c.requires.apart (sym c.is_used.ensures.used ∙ c.if-is_used.true) h)
     c.read_entries.ensures.read
 
 pub returns-then-is_used-clause-fault : goal.returns-then-is_used-clause-fault
@@ -30,5 +31,5 @@ returns-else-is_used-clause-read g c =
     (rank (entries c.args.vector)) (suc (rank (entries c.args.vector))) c.args.at.rest.now c.args.at.line
     (entry_lines c.args.vector 0 (map g.N.Exact.value xs)) c.args.at.rest.now c.args.at.line) (sym c.new.ensures.items)
     (part.unused_part (naming c.args.names.now) g.N.Exact.limit (status_of c.args.status) (entries c.args.vector)
-    c.args.at.rest.now c.args.at.line (part.low_entries c.args.vector) c.requires.apart
+    c.args.at.rest.now c.args.at.line (low_entries c.args.vector) c.requires.apart
     (sym c.is_used.ensures.used ∙ c.if-is_used.false))

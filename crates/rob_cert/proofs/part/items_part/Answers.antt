@@ -5,6 +5,7 @@ use Rattle.rob_cert.specs.Parts.{Extends}
 use Rattle.rob_cert.specs.View.{item_of, status_of}
 use Rattle.rob_cert.proofs.EndLemmas.{items_part, unused_items}
 use Rattle.rob_cert.proofs.PartLemmas as part
+use Rattle.rob_cert.proofs.RankLemmas.{items_as_entries}
 use Rattle.rob_cert.proofs.part.items_part.Goals as goal
 
 pub returns-then-is_used-clause-read : goal.returns-then-is_used-clause-read
@@ -12,14 +13,14 @@ returns-then-is_used-clause-read g c =
     part.if_ok c.read_items.result
     (λ r h. items_part (naming c.args.names.now) g.N.Exact.limit (status_of c.args.status) c.args.at.rest.now
     c.args.at.line (map (item_of g.N.Exact.value) r.list) r.at.rest.now r.at.line
-    (part.items_as_entries (status_of c.args.status) ∙ sym c.is_used.ensures.used ∙ c.if-is_used.true) h)
+    (items_as_entries (status_of c.args.status) ∙ sym c.is_used.ensures.used ∙ c.if-is_used.true) h)
     c.read_items.ensures.read
 
 pub returns-then-is_used-clause-fault : goal.returns-then-is_used-clause-fault
 returns-then-is_used-clause-fault g c =
     part.if_err c.read_items.result
     (λ e h. part.items_fails (naming c.args.names.now) g.N.Exact.limit (status_of c.args.status) c.args.at.rest.now
-    c.args.at.line e (part.items_as_entries (status_of c.args.status)
+    c.args.at.line e (items_as_entries (status_of c.args.status)
     ∙ sym c.is_used.ensures.used ∙ c.if-is_used.true) h)
     c.read_items.ensures.fault
 
@@ -29,4 +30,4 @@ returns-else-is_used-clause-read g c =
     c.args.at.rest.now c.args.at.line
     (item_lines (map (item_of g.N.Exact.value) xs)) c.args.at.rest.now c.args.at.line) (sym c.new.ensures.empty)
     (unused_items (naming c.args.names.now) g.N.Exact.limit (status_of c.args.status) c.args.at.rest.now c.args.at.line
-    (part.items_as_entries (status_of c.args.status) ∙ sym c.is_used.ensures.used ∙ c.if-is_used.false))
+    (items_as_entries (status_of c.args.status) ∙ sym c.is_used.ensures.used ∙ c.if-is_used.false))
