@@ -6,7 +6,8 @@ use Rattle.rob_index.specs.Statements.{Name, Statement, Tree, Indexed}
 use Rattle.rob_index.specs.Expansion.{ranges_of, expand}
 use Rattle.rob_index.specs.Forms.{Ends, extensions}
 use Rattle.rob_index.specs.Fast.{nest_of}
-use Rattle.rob_index.specs.Rules.{is_long_name, is_no_statement, is_out, places}
+use Rattle.rob_index.specs.Places.{places}
+use Rattle.rob_index.specs.Rules.{is_long_name, is_no_statement, is_out}
 use Rattle.rob_syntax.specs.declared.syntax.Statement.{Statement as Code}
 use Rattle.rob_syntax.specs.declared.syntax.Indexed.{Indexed as CodeIndexed}
 use Rattle.rob_syntax.specs.declared.syntax.Indexed.TheVariants as parsed

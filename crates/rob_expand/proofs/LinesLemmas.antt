@@ -6,7 +6,8 @@ use Rattle.std.proofs.lemmas.List.{length-map}
 use Rattle.rob_algebra.proofs.ListLemmas.{map_map}
 use Rattle.rob_index.specs.Statements.{Name, Ref, Range, Ranged, Share, Tree, Indexed}
 use Rattle.rob_index.specs.Statements as stated
-use Rattle.rob_index.specs.Expansion.{Setting, settings, ranges_of, expand_tree, expand_each, member_of, ref_name, optional_name, statement_at, expand}
+use Rattle.rob_index.specs.Settings.{Setting, settings}
+use Rattle.rob_index.specs.Expansion.{ranges_of, expand_tree, expand_each, member_of, ref_name, optional_name, statement_at, expand}
 use Rattle.rob_index.specs.Counting.{star, plain_tokens, over_tokens, member_tokens, members_tokens, names_tokens, line_tokens, lines_tokens}
 use Rattle.rob_index.specs.Forms.{Ends, extensions}
 use Rattle.rob_index.specs.Fast.{setting_of, nest_of, names_in}

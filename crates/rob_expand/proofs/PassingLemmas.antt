@@ -2,7 +2,7 @@
 use Rattle.std.proofs.Common.{◌≡◌, ℕ, zero, suc, Bool, false, List, [], ◌∷◌, Option, None, sym, ap, ◌∙◌, subst, arith}
 use Rattle.std.specs.Prelude.{ℤ, pos, ◌+ℤ◌, ◌-ℤ◌, ◌≤ℤ◌, ◌<ℤ◌, int_lt}
 use Rattle.std.proofs.lemmas.Int.{ints, by_lt_z}
-use Rattle.rob_index.specs.Expansion.{natural, upwards}
+use Rattle.rob_index.specs.Settings.{natural, upwards}
 use Rattle.rob_index.specs.Forms.{Ends, value_of, values_of, length_form}
 use Rattle.rob_index.proofs.FormLemmas.{minus_is}
 use Rattle.rob_index.proofs.ListLemmas.{natural_is}

@@ -5,7 +5,8 @@ use Rattle.std.specs.Fmt.{decimal}
 use Rattle.std.specs.List.{flat_map}
 use Rattle.rob_index.specs.Statements.{Name, Index, Ref, Tree, TreeParts, TreeFactors}
 use Rattle.rob_index.specs.Statements as stated
-use Rattle.rob_index.specs.Expansion.{with_value, ref_name, index_text, summed, expand_tree, expand_parts, expand_factors}
+use Rattle.rob_index.specs.Settings.{with_value}
+use Rattle.rob_index.specs.Expansion.{ref_name, index_text, summed, expand_tree, expand_parts, expand_factors}
 use Rattle.rob_index.specs.Forms.{Form, value_of, values_of}
 use Rattle.rob_index.specs.Fast.{setting_of, index_form, ends_of}
 use Rattle.rob_index.proofs.FastLemmas.{index_is, values_are}

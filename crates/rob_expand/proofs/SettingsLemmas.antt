@@ -4,7 +4,7 @@ use Rattle.std.specs.Prelude.{ℤ, pos, ◌+ℤ◌, ◌-ℤ◌, ◌≤ℤ◌, �
 use Rattle.std.specs.List.{flat_map}
 use Rattle.std.proofs.lemmas.Int.{ints, by_lt_z}
 use Rattle.std.proofs.Common.{length-append, append_assoc, append-nil}
-use Rattle.rob_index.specs.Expansion.{natural, count, upwards}
+use Rattle.rob_index.specs.Settings.{natural, count, upwards}
 use Rattle.rob_index.specs.Forms.{Ends, value_of, extensions}
 use Rattle.rob_index.proofs.ListLemmas.{natural_is}
 use Rattle.rob_expand.specs.Room.{left_of, after}

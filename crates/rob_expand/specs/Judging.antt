@@ -1,6 +1,6 @@
 -- What is found of a line in a setting: a range of more than 100 values, or an index below 0 or over 999.
 use Rattle.std.specs.Prelude.{ℤ, pos, int_lt, ◌||◌, Bool, true, false, List, [], ◌∷◌, Option, Some, None, if◌then◌else◌}
-use Rattle.rob_index.specs.Expansion.{count, upwards}
+use Rattle.rob_index.specs.Settings.{count, upwards}
 use Rattle.rob_index.specs.Forms.{Form, Ends, value_of, values_of, length_form, extensions}
 use Rattle.rob_index.specs.Rules.{greatest_index}
 use Rattle.rob_expand.specs.declared.judging.Finding.{Finding}

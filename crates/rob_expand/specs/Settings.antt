@@ -1,7 +1,7 @@
 -- The settings of ranges, and what is left of a room behind them, one after the other.
 use Rattle.std.specs.Prelude.{ℕ, ℤ, List, [], ◌∷◌, Option, Some}
 use Rattle.std.specs.List.{flat_map}
-use Rattle.rob_index.specs.Expansion.{count, upwards}
+use Rattle.rob_index.specs.Settings.{count, upwards}
 use Rattle.rob_index.specs.Forms.{Ends, extensions}
 use Rattle.rob_expand.specs.Room.{after}
 

@@ -7,7 +7,8 @@
 ghost use Rattle.std.specs.Prelude.{◌≡◌, [], map, false, true, IfOk};
 ghost use Rattle.std.specs.List.{list_any};
 ghost use Rattle.rob_index.specs.Forms.{length_form, value_of};
-ghost use Rattle.rob_index.specs.Rules.{is_long, is_out, places};
+ghost use Rattle.rob_index.specs.Places.{places};
+ghost use Rattle.rob_index.specs.Rules.{is_long, is_out};
 ghost use Rattle.rob_syntax.specs.Seen.{seen_statement};
 ghost use Rattle.rob_expand.specs.Judging.{factors_found, index_found, indices_found, item_found, length_found, line_found, lines_found, optional_found, parts_found, range_found, ranges_found, tree_found, values_found, worst};
 ghost use Rattle.rob_expand.specs.Judging as spec;

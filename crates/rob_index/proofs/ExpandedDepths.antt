@@ -3,7 +3,8 @@ use Rattle.std.proofs.Common.{◌≡◌, ◌≤◌, false, List, [], sym, ap, �
 use Rattle.rob_index.specs.Symbols.{Symbol}
 use Rattle.rob_index.specs.Statements.{Name, Statement, Tree, Indexed}
 use Rattle.rob_index.specs.Depths.{deepest, line_depth}
-use Rattle.rob_index.specs.Expansion.{expand, ranges_of, settings, statement_at}
+use Rattle.rob_index.specs.Settings.{settings}
+use Rattle.rob_index.specs.Expansion.{expand, ranges_of, statement_at}
 use Rattle.rob_index.specs.Lines.{IsStatement, statement_of}
 use Rattle.rob_index.specs.Membership.{Among}
 use Rattle.rob_index.specs.Reading.{Version, one, two, IsOf}

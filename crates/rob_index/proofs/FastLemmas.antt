@@ -5,9 +5,10 @@ use Rattle.std.specs.List.{list_any, flat_map}
 use Rattle.std.proofs.lemmas.Int.{ints, by_lt_z}
 use Rattle.std.proofs.lemmas.Bool.{ltb-true, lt-ltb}
 use Rattle.rob_index.specs.Statements.{Atom, digits, bound, Step, Index, Range}
-use Rattle.rob_index.specs.Expansion.{Setting, value_at, atom_value, signed_value, steps_value, index_value, count, values, with_value, settings}
+use Rattle.rob_index.specs.Settings.{Setting, value_at, atom_value, signed_value, steps_value, index_value, count, values, with_value, settings}
 use Rattle.rob_index.specs.Forms.{weighed, value_of, minus, length_form, values_of, extensions}
-use Rattle.rob_index.specs.Rules.{Place, of_ref, of_range, Inside, is_long_at, is_out_at, is_long, is_out}
+use Rattle.rob_index.specs.Places.{Place, of_ref, of_range, Inside}
+use Rattle.rob_index.specs.Rules.{is_long_at, is_out_at, is_long, is_out}
 use Rattle.rob_index.specs.Fast.{setting_of, unit_at, atom_form, sign_factor, nothing, steps_form, index_form, ends_of, nest_of, names_in, goes_over, goes_below, grows_long, is_long_fast, is_out_fast}
 use Rattle.rob_index.proofs.ListLemmas.{any_same, any_map, same_truth, natural_is, natural_low}
 use Rattle.rob_index.proofs.FormLemmas.{plus_times_is, minus_is}

@@ -8,7 +8,8 @@ use Rattle.rob_index.specs.Statements.{Name, Signed, Bounds, between, Rel, Sense
 use Rattle.rob_index.specs.Statements as stated
 use Rattle.rob_index.specs.Grammar.{Expr, spell_more, spell_list, spell_ref, spell_range, spell_ranges, spell_over, spell_number, spell_minus, spell_signed, spell_bounds, spell_expr}
 use Rattle.rob_index.specs.Lines.{spell_rel, spell_sense, spell_sides, spell_ranged, spell_share, spell_line, statement_of}
-use Rattle.rob_index.specs.Expansion.{Setting, statement_at}
+use Rattle.rob_index.specs.Settings.{Setting}
+use Rattle.rob_index.specs.Expansion.{statement_at}
 use Rattle.rob_index.specs.Depths.{deepest, expr_open, line_depth, line_open}
 use Rattle.rob_index.proofs.DepthLemmas.{expr_depth}
 use Rattle.rob_index.proofs.OpenLemmas.{past_number, past_ref, past_range, past_minus, expr_deepest}

@@ -8,7 +8,8 @@ use Rattle.rob_index.specs.Statements.{Name, Signed, Bounds, Ref, Ranged, Share,
 use Rattle.rob_index.specs.Statements as stated
 use Rattle.rob_index.specs.Grammar.{Expr, spell_ref, spell_ranges, spell_over, spell_number, spell_minus, spell_signed, spell_bounds, spell_expr, spell_more, spell_list, tree_expr}
 use Rattle.rob_index.specs.Lines.{spell_rel, spell_sides, spell_ranged, spell_share, spell_line, statement_of, trees_of}
-use Rattle.rob_index.specs.Expansion.{Setting, expand_tree, optional_name, statement_at}
+use Rattle.rob_index.specs.Settings.{Setting}
+use Rattle.rob_index.specs.Expansion.{expand_tree, optional_name, statement_at}
 use Rattle.rob_index.specs.PlainLines.{ArePlainSides, IsPlainLine, itself_members, itself_names}
 use Rattle.rob_index.specs.Counting.{fits, number_tokens, signed_tokens, bounds_tokens, over_tokens, members_tokens, names_tokens, plain_tokens, line_tokens}
 use Rattle.rob_index.proofs.PlainLemmas.{members_are, names_are}

@@ -4,7 +4,7 @@ use Rattle.std.specs.Prelude.{ℤ, pos, negsuc, ◌+ℤ◌, ◌-ℤ◌, ◌≤�
 use Rattle.std.specs.List.{list_any, flat_map}
 use Rattle.std.proofs.lemmas.Int.{ints, by_lt_z}
 use Rattle.rob_index.specs.Membership.{Among, here, there}
-use Rattle.rob_index.specs.Expansion.{natural, count, upwards}
+use Rattle.rob_index.specs.Settings.{natural, count, upwards}
 
 -- ---- truth values
 pub both_true : (a b : Bool) → (a && b) ≡ true → (a ≡ true) × (b ≡ true)

@@ -2,9 +2,10 @@
 use Rattle.std.proofs.Common.{◌≡◌, List, [], ◌∷◌, ◌++◌, map, Option, Some, None, refl, ap, ◌∙◌}
 use Rattle.rob_index.specs.Statements.{Name, Member, Statement, Ref, Index, Range, Tree, TreeParts, TreeFactors, Ranged, Share, Sides, Indexed}
 use Rattle.rob_index.specs.Statements as stated
-use Rattle.rob_index.specs.Expansion.{Setting, settings, ref_name, optional_name, member_of, expand_each, statement_at, ranges_of, expand, HasNoIndex, IsPlain, ArePlainParts, ArePlainFactors}
+use Rattle.rob_index.specs.Settings.{Setting, settings}
+use Rattle.rob_index.specs.Expansion.{ref_name, optional_name, member_of, expand_each, statement_at, ranges_of, expand, HasNoIndex, IsPlain, ArePlainParts, ArePlainFactors}
 use Rattle.rob_index.specs.PlainLines.{IsPlainRanged, HasPlainOver, ArePlainSides, IsPlainLine, itself_over, itself_members, itself_names, itself_line}
-use Rattle.rob_index.specs.Rules.{Inside, of_index, ref_places, optional_places, range_places, tree_places, part_places, factor_places, each_places, sides_places, inner_places, places}
+use Rattle.rob_index.specs.Places.{Inside, of_index, ref_places, optional_places, range_places, tree_places, part_places, factor_places, each_places, sides_places, inner_places, places}
 use Rattle.rob_index.proofs.ExpansionLemmas.{plain_name, itself_is}
 
 module _ (words : List Name) where

@@ -8,7 +8,8 @@ use Rattle.rob_index.specs.Expansion.{expand}
 use Rattle.rob_index.specs.Counting.{lines_tokens}
 use Rattle.rob_index.specs.Forms.{Form, Ends, value_of, minus, length_form, from_ends, fixed, onto, values_of, extensions, reaches, reaches_plainly}
 use Rattle.rob_index.specs.Fast.{nothing, index_form, ends_of, nest_of, names_in, goes_over, goes_below, is_long_fast, is_out_fast}
-use Rattle.rob_index.specs.Rules.{of_ref, of_range, Inside, Place, places, is_unknown, is_long, is_out, has_great_digits, IndexFault, index_unknown, range_too_long, index_out, too_much, in_order, has_fault}
+use Rattle.rob_index.specs.Places.{of_ref, of_range, Inside, Place, places}
+use Rattle.rob_index.specs.Rules.{is_unknown, is_long, is_out, has_great_digits, IndexFault, index_unknown, range_too_long, index_out, too_much, in_order, has_fault}
 use Rattle.rob_index.specs.Search.{Searched, missed, search_on, search_each, search, price_of, search_over, search_below, search_long, search_out, search_places, has_room, named_out, named_long, named_crowded, named, effort}
 use Rattle.rob_index.proofs.ListLemmas.{or_false, any_flat, or_true}
 use Rattle.rob_index.proofs.DecisionLemmas.{ends_right, reaches_is}

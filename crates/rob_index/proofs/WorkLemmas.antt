@@ -5,7 +5,8 @@ use Rattle.std.specs.Prelude.{ℤ, if◌then◌else◌, ◌&&◌}
 use Rattle.rob_index.specs.Statements.{Name, Numeral, Plain, Range, Tree, TreeParts, TreeFactors, Statement, Indexed}
 use Rattle.rob_index.specs.Statements as stated
 use Rattle.rob_index.specs.Grammar.{Factor, Term, Expr, number, ref, parens, sum, no_factors, times, term, no_terms, signed, expr, tree_factor, tree_term, tree_expr}
-use Rattle.rob_index.specs.Expansion.{Setting, values, with_value, added, summed, expand_tree, expand_parts, expand_factors}
+use Rattle.rob_index.specs.Settings.{Setting, values, with_value}
+use Rattle.rob_index.specs.Expansion.{added, summed, expand_tree, expand_parts, expand_factors}
 use Rattle.rob_index.specs.Counting.{number_tokens, divided, fits, plain_tokens, parts_tokens, factors_tokens, line_tokens, lines_tokens, IsReal, AreRealParts, AreRealFactors}
 
 module _ (limit : ℕ) (words : List Name) where

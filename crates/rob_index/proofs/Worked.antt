@@ -13,7 +13,8 @@ use Rattle.rob_index.specs.Lines.{spell_line, statement_of}
 use Rattle.rob_index.specs.Grammar as spelled
 use Rattle.rob_index.specs.Expansion.{expand}
 use Rattle.rob_index.specs.Counting.{line_tokens}
-use Rattle.rob_index.specs.Rules.{index_unknown, range_too_long, index_out, of_ref, of_range, places}
+use Rattle.rob_index.specs.Places.{of_ref, of_range, places}
+use Rattle.rob_index.specs.Rules.{index_unknown, range_too_long, index_out}
 use Rattle.rob_index.specs.Fast.{is_out_fast, is_long_fast}
 use Rattle.rob_index.specs.Search.{named}
 use Rattle.rob_index.specs.Reading.{one, two, version_of, body_of}

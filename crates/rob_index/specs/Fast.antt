@@ -1,9 +1,9 @@
 -- Rules 26 and 27 judged without running through settings where the ends of the ranges tell.
 use Rattle.std.specs.Prelude.{ℕ, ◌==◌, ◌||◌, Bool, true, false, ℤ, pos, negsuc, List, [], ◌∷◌, if◌then◌else◌}
 use Rattle.rob_index.specs.Statements.{Atom, digits, bound, Step, Index, Range}
-use Rattle.rob_index.specs.Expansion.{Setting}
+use Rattle.rob_index.specs.Settings.{Setting}
 use Rattle.rob_index.specs.Forms.{Form, plus_times, minus, Ends, length_form, reaches}
-use Rattle.rob_index.specs.Rules.{of_ref, of_range, Inside}
+use Rattle.rob_index.specs.Places.{of_ref, of_range, Inside}
 
 -- the setting in which these names have these values; both begin with the innermost
 abbrev pub setting_of : List ℕ → List ℤ → Setting

@@ -4,7 +4,7 @@
 -- the innermost.
 use Rattle.std.specs.Prelude.{◌≡◌, ℤ, pos, negsuc, ◌+ℤ◌, ◌*ℤ◌, ◌≤ℤ◌, int_lt, int_le, ◌&&◌, ◌||◌, Bool, true, false, List, [], ◌∷◌, if◌then◌else◌, Option, Some, None}
 use Rattle.std.specs.List.{list_any, flat_map}
-use Rattle.rob_index.specs.Expansion.{count, upwards}
+use Rattle.rob_index.specs.Settings.{count, upwards}
 
 -- a constant, and a factor for each value
 pub record Form : Type 0 where

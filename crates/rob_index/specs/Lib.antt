@@ -4,9 +4,11 @@ pub mod Statements
 pub mod Grammar
 pub mod FewIndices
 pub mod Lines
+pub mod Settings
 pub mod Expansion
 pub mod PlainLines
 pub mod Counting
+pub mod Places
 pub mod Rules
 pub mod Forms
 pub mod Fast

@@ -5,7 +5,8 @@ use Rattle.rob_index.specs.Statements.{Name, Plain, Parts, Factors, Member, Stat
 use Rattle.rob_index.specs.Statements as stated
 use Rattle.rob_index.specs.Symbols.{Symbol}
 use Rattle.rob_index.specs.Symbols as is
-use Rattle.rob_index.specs.Expansion.{Setting, ref_name}
+use Rattle.rob_index.specs.Settings.{Setting}
+use Rattle.rob_index.specs.Expansion.{ref_name}
 use Rattle.rob_index.specs.Rules.{is_out_at}
 
 -- it holds of the item, where there is one

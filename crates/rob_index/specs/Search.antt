@@ -8,7 +8,8 @@ use Rattle.rob_index.specs.Statements.{Name, Index, Range, Tree, Indexed}
 use Rattle.rob_index.specs.Expansion.{expand}
 use Rattle.rob_index.specs.Counting.{lines_tokens}
 use Rattle.rob_index.specs.Forms.{Form, Ends, value_of, minus, length_form, from_ends, fixed, onto, values_of}
-use Rattle.rob_index.specs.Rules.{of_ref, of_range, Inside, places, is_unknown, has_great_digits, IndexFault, index_unknown, range_too_long, index_out, too_much, in_order, has_fault, most_tokens}
+use Rattle.rob_index.specs.Places.{of_ref, of_range, Inside, places}
+use Rattle.rob_index.specs.Rules.{is_unknown, has_great_digits, IndexFault, index_unknown, range_too_long, index_out, too_much, in_order, has_fault, most_tokens}
 use Rattle.rob_index.specs.Fast.{nothing, index_form, ends_of, nest_of, names_in}
 
 -- what may be spent on a line

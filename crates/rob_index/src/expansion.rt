@@ -3,9 +3,10 @@
 ghost use Rattle.std.specs.Prelude.{◌≡◌, ℕ, ◌<◌, ℤ, pos, ◌+ℤ◌, ◌<ℤ◌, List, [], ◌∷◌, ◌++◌, get_or};
 ghost use Rattle.std.specs.List.{flat_map};
 ghost use Rattle.rob_index.specs.Statements.{Name, Plain, Range, Tree, Indexed};
-ghost use Rattle.rob_index.specs.Expansion.{Setting, index_value, upwards, values, settings, expand_tree, Expands, expand};
+ghost use Rattle.rob_index.specs.Settings.{Setting, index_value, upwards, values, settings};
+ghost use Rattle.rob_index.specs.Expansion.{expand_tree, Expands, expand};
 ghost use Rattle.rob_index.specs.PlainLines.{IsPlainLine, itself_line};
-ghost use Rattle.rob_index.specs.Rules.{places};
+ghost use Rattle.rob_index.specs.Places.{places};
 
 /// The relation of expansion is the function.
 pub fn one_expansion()

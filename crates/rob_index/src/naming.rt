@@ -12,7 +12,8 @@ ghost use Rattle.rob_index.specs.Refs.{EachNameOf, EachRefOf, IfName, IsNameOf};
 ghost use Rattle.rob_index.specs.Reading.{Version, IsOf};
 ghost use Rattle.rob_index.specs.Symbols.{Symbol};
 ghost use Rattle.rob_index.specs.Renaming.{renamed};
-ghost use Rattle.rob_index.specs.Rules.{is_out, is_no_statement, longest_name, places};
+ghost use Rattle.rob_index.specs.Places.{places};
+ghost use Rattle.rob_index.specs.Rules.{is_out, is_no_statement, longest_name};
 
 /// Where no index is out of bounds, each name of an expansion is that of a ref of the statement in a setting, where the
 /// refs may be any that pass a test, as those of a line do whose names pass one; and where the late part of the rule on

@@ -4,7 +4,8 @@ ghost use Rattle.std.specs.Prelude.{ℕ, ◌*◌, ◌≤◌, List, length, map};
 ghost use Rattle.rob_index.specs.Statements.{Name, Statement, Range, Tree, Indexed};
 ghost use Rattle.rob_index.specs.Statements.{ranged};
 ghost use Rattle.rob_index.specs.Grammar.{Expr, tree_expr};
-ghost use Rattle.rob_index.specs.Expansion.{Setting, values, expand_tree};
+ghost use Rattle.rob_index.specs.Settings.{Setting, values};
+ghost use Rattle.rob_index.specs.Expansion.{expand_tree};
 ghost use Rattle.rob_index.specs.Counting.{plain_tokens, lines_tokens, IsReal};
 
 /// Each value that a range runs through costs a token, and each setting of a statement two. No sum

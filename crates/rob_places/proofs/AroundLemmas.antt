@@ -4,7 +4,8 @@ use Rattle.std.specs.Prelude.{◌||◌, not}
 use Rattle.std.specs.List.{list_any}
 use Rattle.rob_index.specs.Statements.{Atom, digits, bound, Step, Index, Range}
 use Rattle.rob_index.specs.Forms.{Ends}
-use Rattle.rob_index.specs.Rules.{under, is_bound, is_unbound_atom, has_unbound}
+use Rattle.rob_index.specs.Places.{under}
+use Rattle.rob_index.specs.Rules.{is_bound, is_unbound_atom, has_unbound}
 use Rattle.rob_index.specs.Fast.{ends_of, nest_of, names_in}
 use Rattle.rob_index.proofs.ListLemmas.{or_false}
 use Rattle.rob_ranges.proofs.NestLists.{all_but_last_is}

@@ -7,7 +7,8 @@ use Rattle.rob_index.specs.Statements.{Index, Ref, Range, Tree, TreeParts, TreeF
 use Rattle.rob_index.specs.Statements as stated
 use Rattle.rob_index.specs.Expansion.{ranges_of}
 use Rattle.rob_index.specs.Forms.{minus, length_form}
-use Rattle.rob_index.specs.Rules.{Inside, of_index, ref_places, optional_places, range_place, under, range_places, tree_places, part_places, factor_places, each_places, sides_places, inner_places, places, is_unknown, has_great}
+use Rattle.rob_index.specs.Places.{Inside, of_index, ref_places, optional_places, range_place, under, range_places, tree_places, part_places, factor_places, each_places, sides_places, inner_places, places}
+use Rattle.rob_index.specs.Rules.{is_unknown, has_great}
 use Rattle.rob_index.specs.Search.{Searched, search_on, search, search_places, price_of, search_out, missed}
 use Rattle.rob_index.specs.Fast.{nothing, index_form, ends_of, nest_of, names_in}
 use Rattle.rob_places.specs.declared.test.Test.{Test}

@@ -2,7 +2,8 @@
 use Rattle.std.specs.Prelude.{ℕ, ◌*◌, ◌||◌, Bool, true, false, pos, List, [], length, get_or, if◌then◌else◌}
 use Rattle.rob_index.specs.Statements.{Index, Range}
 use Rattle.rob_index.specs.Forms.{Form, minus, length_form}
-use Rattle.rob_index.specs.Rules.{Inside, has_great, is_unknown, has_great_digits}
+use Rattle.rob_index.specs.Places.{Inside}
+use Rattle.rob_index.specs.Rules.{has_great, is_unknown, has_great_digits}
 use Rattle.rob_index.specs.Search.{Searched, missed, search_on, search, search_long, search_out}
 use Rattle.rob_index.specs.Fast.{nothing, index_form, ends_of}
 use Rattle.rob_places.specs.declared.test.Test.{Test}

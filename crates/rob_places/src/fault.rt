@@ -2,7 +2,8 @@
 
 ghost use Rattle.std.specs.Prelude.{◌≡◌, ◌||◌, IfOk, OnOk};
 ghost use Rattle.std.specs.List.{list_any};
-ghost use Rattle.rob_index.specs.Rules.{has_great_digits, is_unknown, places};
+ghost use Rattle.rob_index.specs.Places.{places};
+ghost use Rattle.rob_index.specs.Rules.{has_great_digits, is_unknown};
 ghost use Rattle.rob_index.specs.Search.{search_long, search_out, search_places};
 ghost use Rattle.rob_syntax.specs.Seen.{seen_statement};
 ghost use Rattle.rob_places.specs.Tests.{is_set, test_of};

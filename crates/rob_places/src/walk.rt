@@ -4,7 +4,7 @@
 ghost use Rattle.std.specs.Prelude.{◌≡◌, map, IfOk, OnOk};
 ghost use Rattle.rob_syntax.specs.Seen.{seen_index, seen_over, seen_part, parts_of, factors_of, seen_range, seen_ranged, seen_ranges, seen_ref, seen_share, seen_sides, seen_statement, seen_tree};
 ghost use Rattle.rob_index.specs.Expansion.{ranges_of};
-ghost use Rattle.rob_index.specs.Rules.{places};
+ghost use Rattle.rob_index.specs.Places.{places};
 ghost use Rattle.rob_index.specs.Search.{search_on, search_places};
 ghost use Rattle.rob_index.specs.Statements.{ranged};
 ghost use Rattle.rob_places.specs.Tests.{is_set, test_of};

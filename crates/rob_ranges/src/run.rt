@@ -18,7 +18,7 @@ pub struct Run {
 
 impl Model for Run {
     ghost use Rattle.std.specs.Prelude.{List, ℤ};
-    ghost use Rattle.rob_index.specs.Expansion.{count, upwards};
+    ghost use Rattle.rob_index.specs.Settings.{count, upwards};
 
     ghost Value = { List ℤ };
 

@@ -6,7 +6,8 @@ use Rattle.std.proofs.lemmas.Bool.{leb-true, le-ltb, le-leb}
 use Rattle.rob_index.specs.Statements.{Name, Tree, Indexed}
 use Rattle.rob_index.specs.Counting.{lines_tokens}
 use Rattle.rob_index.specs.Expansion.{expand}
-use Rattle.rob_index.specs.Rules.{IndexFault, index_unknown, range_too_long, index_out, too_much, no_statement, places, is_unknown, is_long, is_out, has_great_digits, is_no_statement, most_tokens}
+use Rattle.rob_index.specs.Places.{places}
+use Rattle.rob_index.specs.Rules.{IndexFault, index_unknown, range_too_long, index_out, too_much, no_statement, is_unknown, is_long, is_out, has_great_digits, is_no_statement, most_tokens}
 use Rattle.rob_index.specs.Search.{has_room, named, named_crowded, named_long, named_out, search_places, search_long, search_out, effort, Searched}
 use Rattle.rob_rules.specs.Indices.{late_fault}
 

@@ -6,7 +6,8 @@ use Rattle.rob_index.specs.Statements.{Name, Plain, Parts, Factors, Statement, T
 use Rattle.rob_index.specs.Statements as stated
 use Rattle.rob_index.specs.Grammar as spelled
 use Rattle.rob_index.specs.Grammar.{Expr, tree_factor, tree_factors, tree_term, tree_terms, tree_expr}
-use Rattle.rob_index.specs.Expansion.{Setting, values, with_value, added, summed, ranges_of, settings, expand_tree, expand_parts, expand_factors, statement_at, expand}
+use Rattle.rob_index.specs.Settings.{Setting, values, with_value, settings}
+use Rattle.rob_index.specs.Expansion.{added, summed, ranges_of, expand_tree, expand_parts, expand_factors, statement_at, expand}
 use Rattle.rob_index.specs.Lines.{statement_of}
 use Rattle.rob_index.specs.Membership.{Among, here, there}
 use Rattle.rob_syntax.specs.Trees.{summands_of, operands_of, tree_of, part_of}

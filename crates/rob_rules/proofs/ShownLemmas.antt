@@ -7,7 +7,8 @@ use Rattle.std.proofs.lemmas.Bool.{false≢true, lt-ltb}
 use Rattle.rob_index.specs.Statements.{Name, Tree, Indexed, Range}
 use Rattle.rob_index.specs.Forms.{Form, Ends, length_form, from_ends, fixed, onto, values_of}
 use Rattle.rob_index.specs.Fast.{ends_of, nest_of, names_in}
-use Rattle.rob_index.specs.Rules.{of_ref, of_range, Inside, Place, places, is_unknown, is_long, index_unknown, range_too_long}
+use Rattle.rob_index.specs.Places.{of_ref, of_range, Inside, Place, places}
+use Rattle.rob_index.specs.Rules.{is_unknown, is_long, index_unknown, range_too_long}
 use Rattle.rob_index.specs.Search.{Searched, missed, search_on, search_each, search, price_of, search_long, search_places, has_room, named, effort}
 use Rattle.rob_index.proofs.SearchLemmas.{long_found}
 use Rattle.rob_rules.specs.Indices.{long_fault}

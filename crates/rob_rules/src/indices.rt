@@ -5,7 +5,8 @@
 ghost use Rattle.std.specs.Prelude.{◌≡◌, ℕ, ◌+◌, ◌≤◌, List, IfOk, MatchOption, None, Some};
 ghost use Rattle.rob_index.specs.Counting.{lines_tokens};
 ghost use Rattle.rob_index.specs.Expansion.{expand};
-ghost use Rattle.rob_index.specs.Rules.{most_tokens, places, rule_of};
+ghost use Rattle.rob_index.specs.Places.{places};
+ghost use Rattle.rob_index.specs.Rules.{most_tokens, rule_of};
 ghost use Rattle.rob_index.specs.Search.{named, named_crowded, search_places};
 ghost use Rattle.rob_index.specs.Search as spec;
 ghost use Rattle.rob_index.specs.Statements.{Name};

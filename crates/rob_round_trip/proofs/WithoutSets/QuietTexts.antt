@@ -3,7 +3,8 @@ use Rattle.std.proofs.Common.{◌≡◌, ◌≢◌, ℕ, List, [], ◌∷◌, �
 use Rattle.std.specs.Prelude.{Option, Some, None}
 use Rattle.rob_index.proofs.KeptLemmas.{all_of_lines}
 use Rattle.rob_index.proofs.NamingLemmas.{among_mapped}
-use Rattle.rob_index.specs.Expansion.{Setting, expand, optional_name, ranges_of, settings, statement_at}
+use Rattle.rob_index.specs.Settings.{Setting, settings}
+use Rattle.rob_index.specs.Expansion.{expand, optional_name, ranges_of, statement_at}
 use Rattle.rob_index.specs.Grammar.{Expr, spell_expr, spell_list, spell_number, spell_over, spell_ranges, spell_ref}
 use Rattle.rob_index.specs.Kept.{IsOfLine}
 use Rattle.rob_index.specs.Lines.{IsStatement, spell_line, spell_ranged, spell_rel, spell_share, spell_sides, statement_of}

@@ -1,5 +1,5 @@
 use Rattle.std.proofs.Common.{◌≡◌, ◌+◌, ◌*◌, length}
-use Rattle.rob_index.specs.Expansion.{count as span}
+use Rattle.rob_index.specs.Settings.{count as span}
 use Rattle.rob_expand.specs.Judging.{worse, values_found}
 use Rattle.rob_expand.proofs.judging.+judge_ranges.Given as goal
 

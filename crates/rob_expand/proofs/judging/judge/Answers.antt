@@ -1,6 +1,7 @@
 use Rattle.std.proofs.Common.{List, ap, sym, ◌∙◌}
 use Rattle.std.specs.List.{list_any}
-use Rattle.rob_index.specs.Rules.{is_long, is_out, places}
+use Rattle.rob_index.specs.Places.{places}
+use Rattle.rob_index.specs.Rules.{is_long, is_out}
 use Rattle.rob_index.specs.Forms.{Ends}
 use Rattle.rob_syntax.specs.Seen.{seen_statement}
 use Rattle.rob_expand.specs.Judging.{is_too_long, is_out_found, lines_found}

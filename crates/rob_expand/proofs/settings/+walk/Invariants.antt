@@ -1,5 +1,5 @@
 use Rattle.std.proofs.Common.{◌≡◌, ◌+◌, ◌*◌, ◌++◌, length}
-use Rattle.rob_index.specs.Expansion.{count as span}
+use Rattle.rob_index.specs.Settings.{count as span}
 use Rattle.rob_expand.specs.Room.{left_of}
 use Rattle.rob_expand.specs.Settings.{between}
 use Rattle.rob_expand.proofs.settings.+walk.Given as goal

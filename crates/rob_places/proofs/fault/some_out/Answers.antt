@@ -1,4 +1,5 @@
-use Rattle.rob_index.specs.Rules.{has_great_digits, places}
+use Rattle.rob_index.specs.Places.{places}
+use Rattle.rob_index.specs.Rules.{has_great_digits}
 use Rattle.rob_index.specs.Search.{search_out}
 use Rattle.rob_syntax.specs.Seen.{seen_statement}
 use Rattle.rob_ranges.proofs.NestLemmas.{as_well}

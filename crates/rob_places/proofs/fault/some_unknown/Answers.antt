@@ -1,4 +1,5 @@
-use Rattle.rob_index.specs.Rules.{is_unknown, places}
+use Rattle.rob_index.specs.Places.{places}
+use Rattle.rob_index.specs.Rules.{is_unknown}
 use Rattle.rob_syntax.specs.Seen.{seen_statement}
 use Rattle.rob_places.specs.Tests.{is_set}
 use Rattle.rob_ranges.proofs.NestLemmas.{as_well}

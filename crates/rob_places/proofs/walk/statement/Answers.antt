@@ -1,6 +1,6 @@
 use Rattle.std.proofs.Common.{◌≡◌, ◌∙◌, ℕ, ap, subst}
 use Rattle.std.specs.Prelude.{OnOk}
-use Rattle.rob_index.specs.Rules.{places}
+use Rattle.rob_index.specs.Places.{places}
 use Rattle.rob_index.specs.Search.{Searched, search_places}
 use Rattle.rob_syntax.specs.Seen.{seen_statement, seen_ranges}
 use Rattle.rob_ranges.proofs.NestLemmas.{as_well}

@@ -1,6 +1,6 @@
 use Rattle.std.proofs.Common.{◌∷◌, ◌∙◌, ap, sym}
 use Rattle.std.specs.Prelude.{ℤ, pos, ◌+ℤ◌}
-use Rattle.rob_index.specs.Expansion.{count, upwards}
+use Rattle.rob_index.specs.Settings.{count, upwards}
 use Rattle.rob_ranges.proofs.NestLemmas.{run_next}
 use Rattle.rob_ranges.proofs.run.Run.next.Goals as goal
 
