@@ -4,7 +4,9 @@ use Rattle.std.proofs.Common.{arith, sym, ◌∙◌, ap, ap₂}
 use Rattle.std.proofs.lemmas.Int.{ints}
 use Rattle.rob_algebra.specs.Gcd.{gcd}
 use Rattle.rob_algebra.specs.Integer.{mul-one}
-use Rattle.rob_algebra.specs.Fraction.{Fraction, of_pair, of_int, ◌+ℚ◌, ◌*ℚ◌, neg_ℚ, ◌≤ℚ◌, is_le_in, is_le_out, to_reduced, is_self, is_int, is_of_pair, same_is, den_pos, coprime}
+use Rattle.rob_algebra.specs.Fraction.{Fraction, of_pair, of_int, ◌+ℚ◌, ◌*ℚ◌, neg_ℚ, ◌≤ℚ◌, to_reduced, den_pos, coprime}
+use Rattle.rob_algebra.specs.FractionPairs.{is_self, is_int, is_of_pair, same_is}
+use Rattle.rob_algebra.specs.PairOrder.{is_le_in, is_le_out}
 pub use Rattle.rob_algebra.specs.FractionLaws.{size_some}
 
 -- a pair in lowest terms has itself as the parts of its fraction

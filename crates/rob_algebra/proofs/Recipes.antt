@@ -7,12 +7,15 @@ use Rattle.std.proofs.Common.{arith}
 use Rattle.std.proofs.lemmas.Int.{ints}
 use Rattle.std.proofs.Math.IntN.{*ℤ_comm}
 use Rattle.rob_algebra.specs.Gcd.{gcd}
-use Rattle.rob_algebra.specs.Integer.{products, mul_mono, square_nonneg, nonneg_sub, pos_sub}
-use Rattle.rob_algebra.specs.Fraction.{Fraction, of_pair, of_int, ratio, ◌+ℚ◌, ◌-ℚ◌, ◌*ℚ◌, ◌/ℚ◌, neg_ℚ, ◌≤ℚ◌, is_self, is_mul, same_is}
+use Rattle.rob_algebra.specs.Integer.{products}
+use Rattle.rob_algebra.specs.IntegerOrder.{mul_mono, square_nonneg, nonneg_sub, pos_sub}
+use Rattle.rob_algebra.specs.Fraction.{Fraction, of_pair, of_int, ratio, ◌+ℚ◌, ◌-ℚ◌, ◌*ℚ◌, ◌/ℚ◌, neg_ℚ, ◌≤ℚ◌}
+use Rattle.rob_algebra.specs.FractionPairs.{is_self, is_mul, same_is}
 use Rattle.rob_algebra.specs.Width.{kept}
 use Rattle.rob_algebra.specs.FractionLaws as Q
+use Rattle.rob_algebra.specs.FractionOrderLaws.{le_two, int_nonneg}
 use Rattle.rob_algebra.specs.Ring as Solver
-use Rattle.rob_algebra.specs.Ring.{lit, ◌:+◌, ◌:-◌, ◌:*◌, v0, v1, v2, v3, v4}
+use Rattle.rob_algebra.specs.Polynomials.{lit, ◌:+◌, ◌:-◌, ◌:*◌, v0, v1, v2, v3, v4}
 use Rattle.rob_algebra.specs.IntRing.{ring, le_from, lt_from, from_one}
 
 -- ---- whole numbers: what is linear once each product is taken for one unknown
@@ -83,10 +86,10 @@ identity_with_no_difference x y z w =
 bound_of_fractions_from_two : (x y z w : Fraction) → of_int (pos 3) *ℚ x ≤ℚ y +ℚ z
     → y ≤ℚ of_int (pos 2) *ℚ x -ℚ w → x ≤ℚ z -ℚ w
 bound_of_fractions_from_two x y z w h k =
-    Q.le_two (x ∷ y ∷ z ∷ w ∷ []) v0 (v2 :- v3)
+    le_two (x ∷ y ∷ z ∷ w ∷ []) v0 (v2 :- v3)
     (lit (pos 1)) (lit (pos 3) :* v0) (v1 :+ v2)
     (lit (pos 1)) v1 (lit (pos 2) :* v0 :- v3)
-    refl (Q.int_nonneg (pos 1) (omega (arith, ints))) h (Q.int_nonneg (pos 1) (omega (arith, ints))) k
+    refl (int_nonneg (pos 1) (omega (arith, ints))) h (int_nonneg (pos 1) (omega (arith, ints))) k
 
 -- facts that are equations go to `cc` and `rw` as any
 equation_among_others : (f : Fraction → ℕ) (x y z : Fraction) → x ≡ y +ℚ z → f (z +ℚ y) ≡ 3 → f x ≡ 3

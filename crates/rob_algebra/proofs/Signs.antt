@@ -2,8 +2,9 @@
 use Rattle.std.specs.Prelude.{◌≡◌, ◌↔◌, zero, suc, ℤ, pos, negsuc, ◌*ℤ◌, ◌<ℤ◌, refl}
 use Rattle.std.proofs.Common.{arith, sym, ◌∙◌, ap, subst}
 use Rattle.std.proofs.lemmas.Int.{ints}
-use Rattle.rob_algebra.specs.Fraction.{Fraction, of_int, sign_of, sign_ℚ, ◌<ℚ◌, is_self, is_int, is_lt_in, is_lt_out, same_is}
-use Rattle.rob_algebra.specs.FractionLaws.{is_pos_in, is_pos_out}
+use Rattle.rob_algebra.specs.Fraction.{Fraction, of_int, sign_of, sign_ℚ, ◌<ℚ◌}
+use Rattle.rob_algebra.specs.FractionPairs.{is_self, is_int, same_is}
+use Rattle.rob_algebra.specs.PairOrder.{is_lt_in, is_lt_out, is_pos_in, is_pos_out}
 use Rattle.rob_algebra.proofs.Parts.{of_int-parts}
 
 -- ---- from the numerator

@@ -2,7 +2,9 @@
 use Rattle.std.specs.Prelude.{ℤ, pos, ◌*ℤ◌, ◌≤ℤ◌, ◌<ℤ◌}
 use Rattle.std.proofs.Common.{arith}
 use Rattle.std.proofs.lemmas.Int.{ints}
-use Rattle.rob_algebra.specs.Fraction.{of_int, ◌≤ℚ◌, ◌<ℚ◌, is_int, is_le_in, is_le_out, is_lt_in}
+use Rattle.rob_algebra.specs.Fraction.{of_int, ◌≤ℚ◌, ◌<ℚ◌}
+use Rattle.rob_algebra.specs.FractionPairs.{is_int}
+use Rattle.rob_algebra.specs.PairOrder.{is_le_in, is_le_out, is_lt_in}
 
 pub of_int_le : (a b : ℤ) → a ≤ℤ b → of_int a ≤ℚ of_int b
 of_int_le a b h = is_le_in (is_int a) (is_int b) (omega (arith, ints))

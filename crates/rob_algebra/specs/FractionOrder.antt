@@ -4,8 +4,9 @@ use Rattle.std.proofs.Common.{Ordering, Less, Equal, Greater, int_cmp, int_eq, i
 use Rattle.std.specs.Ordering.{MatchOrdering}
 use Rattle.std.specs.Bool.{Decides, one_answer}
 use Rattle.std.specs.Cmp.{IsTotalOrder, IsEquivalence, IsPartialEquivalence, strict, int_ranks, eq_by_cmp_equiv, partial_equiv_from_equiv, signed_Decides}
-use Rattle.rob_algebra.specs.Fraction.{Fraction, ◌<ℚ◌, eq_from_cross, ext}
-use Rattle.rob_algebra.specs.FractionLaws.{lt_irrefl_ℚ, lt_le_trans_ℚ, le_of_lt_ℚ}
+use Rattle.rob_algebra.specs.Fraction.{Fraction, ◌<ℚ◌, ext}
+use Rattle.rob_algebra.specs.FractionPairs.{eq_from_cross}
+use Rattle.rob_algebra.specs.FractionOrderLaws.{lt_irrefl_ℚ, lt_le_trans_ℚ, le_of_lt_ℚ}
 
 -- how x stands to y, by cross products
 abbrev pub cmp_ℚ : Fraction → Fraction → Ordering

@@ -1,9 +1,15 @@
 pub mod Integer
+pub mod IntegerOrder
 pub mod Ring
+pub mod Polynomials
+pub mod RingSolver
 pub mod IntRing
 pub mod Gcd
 pub mod Fraction
+pub mod FractionPairs
+pub mod PairOrder
 pub mod FractionLaws
+pub mod FractionOrderLaws
 pub mod FractionOrder
 pub mod Width
 pub mod Items

@@ -4,7 +4,7 @@ ghost use Rattle.std.specs.Prelude.{◌≡◌, ◌≢◌, ◌<◌, ◌⊎◌, �
 ghost use Rattle.std.specs.Bool.{Decides};
 ghost use Rattle.std.specs.Ordering.{MatchOrdering};
 ghost use Rattle.rob_algebra.specs.Fraction.{Fraction, of_pair, of_int, ◌+ℚ◌, ◌*ℚ◌, neg_ℚ, inv_ℚ, sign_ℚ, ◌<ℚ◌, ◌≤ℚ◌};
-ghost use Rattle.rob_algebra.specs.FractionLaws.{Trichotomy};
+ghost use Rattle.rob_algebra.specs.FractionOrderLaws.{Trichotomy};
 ghost use Rattle.rob_algebra.specs.FractionOrder.{cmp_ℚ, eq_ℚ};
 
 /// A pair of a whole number and a denominator above 0 is read as a fraction: two pairs as one where their cross

@@ -9,7 +9,8 @@ use Rattle.std.specs.Prelude.{nat_lt, nat_eq}
 use Rattle.std.specs.Int.RustNames.{unsigned_abs}
 use lib.IntN.{ℤ, pos, ◌*ℤ◌, neg_ℤ}
 use lib.Signed.{◌<ℤ◌}
-use Rattle.rob_algebra.specs.Integer.{zero-mul, *ℤ_comm, mul_cancel_zero, mul-pos_z, mul_assoc, mul-neg, neg-mul}
+use Rattle.rob_algebra.specs.Integer.{zero-mul, *ℤ_comm, mul_assoc, mul-neg, neg-mul}
+use Rattle.rob_algebra.specs.IntegerOrder.{mul_cancel_zero, mul-pos_z}
 use Rattle.rob_linear.specs.Vectors.{sum_to, dot}
 use Rattle.rob_linear.specs.Systems.{System, right, IsTagged, LiesAlong, IsPrimitive, IsBasis}
 use Rattle.rob_linear.proofs.Sums.{sum_ext}

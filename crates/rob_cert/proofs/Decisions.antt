@@ -3,7 +3,8 @@ use Rattle.std.proofs.Common.{◌≡◌, ℕ, zero, suc, ◌<◌, ◌≤◌, Lis
 use Rattle.std.proofs.lemmas.Bool.Decides.{eqb_tells, leb_tells}
 use Rattle.std.specs.Prelude.{◌⊎◌, ℤ, pos, negsuc, nat_abs}
 use Rattle.rob_algebra.proofs.WidthLaws.{fits_or_wide, fits_not_wide}
-use Rattle.rob_algebra.specs.Fraction.{Fraction, of_pair, of_pair_parts}
+use Rattle.rob_algebra.specs.Fraction.{Fraction, of_pair}
+use Rattle.rob_algebra.specs.FractionPairs.{of_pair_parts}
 use Rattle.rob_algebra.specs.Width.{Fits}
 use Rattle.rob_meaning.specs.Names.{Name}
 use Rattle.rob_cert.specs.Reading.{Lacks, BeginsWithLine, words_in, IsAtLeast}

@@ -8,7 +8,8 @@ use Rattle.std.specs.Fmt.{decimal, signed_decimal}
 use Rattle.std.specs.Prelude.{◌==◌, ◌⊎◌, if◌then◌else◌, codes, Some, None, Result, Ok, ℤ, pos, negsuc, nat_abs, IsTrue, ◌↔◌}
 use Rattle.std.specs.Str.{IsAscii, IsUtf8, all_ascii_digits}
 use Rattle.std.specs.Str.Parse.{ParsesSigned}
-use Rattle.rob_algebra.specs.Fraction.{Fraction, of_pair, of_pair_parts}
+use Rattle.rob_algebra.specs.Fraction.{Fraction, of_pair}
+use Rattle.rob_algebra.specs.FractionPairs.{of_pair_parts}
 use Rattle.rob_algebra.specs.Width.{Fits, kept}
 use Rattle.rob_algebra.proofs.WidthLaws.{kept-fits}
 use Rattle.rob_number.proofs.CastLemmas.{fits_small}

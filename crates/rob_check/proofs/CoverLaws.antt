@@ -9,7 +9,7 @@ use Rattle.rob_algebra.specs.FractionLaws as Q
 use Rattle.rob_algebra.specs.FractionLaws.{ℚ-zero-add, ℚ_ring}
 use Rattle.rob_algebra.specs.FractionOrder.{eq_ℚ, eq_ℚ-decides}
 use Rattle.rob_algebra.specs.Lists.{dot_comm, length-scale, length-vec_mat, length-zeros}
-use Rattle.rob_algebra.specs.Ring.{lit, ◌:*◌, v0}
+use Rattle.rob_algebra.specs.Polynomials.{lit, ◌:*◌, v0}
 use Rattle.rob_algebra.specs.Width.{kept}
 use Rattle.rob_cert.specs.Shape.{AreCoversOf, IsCoverOf}
 use Rattle.rob_meaning.proofs.ClearingLemmas.{length-tabulate}

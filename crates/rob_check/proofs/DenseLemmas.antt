@@ -4,8 +4,9 @@ use Rattle.std.proofs.lemmas.Bool.Decides.{nat_tests}
 use Rattle.std.specs.Prelude.{nat_eq, ◌&&◌, if◌then◌else◌}
 use Rattle.rob_algebra.specs.Fraction.{Fraction, ◌+ℚ◌, ◌*ℚ◌, ◌≤ℚ◌}
 use Rattle.rob_algebra.specs.FractionLaws as Q
+use Rattle.rob_algebra.specs.FractionOrderLaws.{le_refl_ℚ}
 use Rattle.rob_algebra.specs.FractionLists.{AllNonneg}
-use Rattle.rob_algebra.specs.Ring.{lit, ◌:+◌, ◌:*◌, v0, v1, v2}
+use Rattle.rob_algebra.specs.Polynomials.{lit, ◌:+◌, ◌:*◌, v0, v1, v2}
 use Rattle.rob_meaning.specs.Certificates.{Cover, IsBefore}
 use Rattle.rob_meaning.specs.Places.{0ℚ, at, Each, tabulate, InOrder}
 use Rattle.rob_meaning.specs.Proves.{amount_at}
@@ -135,7 +136,7 @@ module _ (i : ℕ) where
 
     each_nonneg : (cs : List Cover) → Each (λ (c : Cover). 0ℚ ≤ℚ c.amount) (covers_of i cs) → (r : ℕ)
         → 0ℚ ≤ℚ amount_at cs i r
-    each_nonneg [] h r = Q.le_refl_ℚ 0ℚ
+    each_nonneg [] h r = le_refl_ℚ 0ℚ
     each_nonneg (c ∷ cs) h r = by (nat_eq c.form i) (nat_eq c.set_row r) h (λ k. each_nonneg cs k r)
       where
         by : (t u : Bool) → Each (λ (c : Cover). 0ℚ ≤ℚ c.amount) (if t then c ∷ covers_of i cs else covers_of i cs)
@@ -164,7 +165,7 @@ module _ (i : ℕ) where
             at_row true k =
                 subst (λ x. 0ℚ ≤ℚ x)
                 (sym (ap (λ r. amount_at cs i r) (sym (same_number c.set_row r k))
-                ∙ no_amount c cs (same_number c.form i e) ordered.0)) (Q.le_refl_ℚ 0ℚ)
+                ∙ no_amount c cs (same_number c.form i e) ordered.0)) (le_refl_ℚ 0ℚ)
             at_row false k =
                 subst (λ x. 0ℚ ≤ℚ x) (ap₂ (λ t u. if t && u then c.amount else amount_at cs i r) e k) (h r low)
 

@@ -3,7 +3,7 @@ use Rattle.std.proofs.Common.{◌≡◌, ℕ, zero, suc, Bool, true, false, List
 use Rattle.std.specs.Bool.{Decides}
 use Rattle.std.specs.Prelude.{Option, Some, None, if◌then◌else◌}
 use Rattle.rob_algebra.specs.Fraction.{Fraction, ◌≤ℚ◌, ◌<ℚ◌}
-use Rattle.rob_algebra.specs.FractionLaws.{le_total_ℚ, not_lt_ℚ}
+use Rattle.rob_algebra.specs.FractionOrderLaws.{le_total_ℚ, not_lt_ℚ}
 use Rattle.rob_cert.specs.Shape.{IsItemOf}
 use Rattle.rob_meaning.proofs.AdmittedLemmas.{admission_law}
 use Rattle.rob_meaning.proofs.ConeLemmas.{taken_law}

@@ -5,7 +5,7 @@ use Rattle.rob_number.proofs.CastLemmas.{seen_within}
 use Rattle.rob_algebra.proofs.WidthLaws.{kept-fits, kept-of_int}
 use Rattle.rob_algebra.specs.Fraction.{Fraction, of_int, ◌+ℚ◌, ◌*ℚ◌}
 use Rattle.rob_algebra.specs.FractionLaws as Q
-use Rattle.rob_algebra.specs.Ring.{lit, ◌:+◌, ◌:*◌, v0}
+use Rattle.rob_algebra.specs.Polynomials.{lit, ◌:+◌, ◌:*◌, v0}
 use Rattle.rob_algebra.specs.Width.{Fits, kept}
 use Rattle.rob_meaning.specs.Places.{0ℚ, at, Each}
 use Rattle.rob_model.specs.Within.{◌>>=◌}

@@ -4,7 +4,7 @@ use Rattle.rob_algebra.specs.Fraction.{Fraction, of_int, neg_ℚ}
 use Rattle.rob_algebra.specs.FractionLaws as Q
 use Rattle.rob_algebra.specs.FractionLaws.{ℚ_ring}
 use Rattle.rob_algebra.specs.Lists.{zeros, length-zeros}
-use Rattle.rob_algebra.specs.Ring.{lit, minus}
+use Rattle.rob_algebra.specs.Polynomials.{lit, minus}
 use Rattle.rob_meaning.proofs.TauLemmas.{at-end}
 use Rattle.rob_meaning.specs.Forms.{plan_vector}
 use Rattle.rob_meaning.specs.Places.{0ℚ, 1ℚ, at}

@@ -6,8 +6,8 @@ use Rattle.rob_algebra.specs.Fraction.{Fraction, of_int, inv_ℚ, ◌+ℚ◌, �
 use Rattle.rob_algebra.specs.FractionLaws.{ℚ_ring, of_int-mul}
 use Rattle.rob_algebra.specs.FractionLists.{AllNonneg}
 use Rattle.rob_algebra.specs.Integer.{mul-zero, one-mul}
-use Rattle.rob_algebra.specs.Ring as Solver
-use Rattle.rob_algebra.specs.Ring.{lit, ◌:*◌, v0, v1, v2, v3, v4}
+use Rattle.rob_algebra.specs.RingSolver as Solver
+use Rattle.rob_algebra.specs.Polynomials.{lit, ◌:*◌, v0, v1, v2, v3, v4}
 use Rattle.rob_linear.specs.Vectors.{sum_to}
 use Rattle.rob_linear.specs.Vectors as V
 use Rattle.rob_meaning.specs.Places.{0ℚ, 1ℚ, tabulate}

@@ -8,7 +8,8 @@ use lib.Signed.{◌<ℤ◌, ◌≤ℤ◌}
 use Rattle.rob_linear.specs.Vectors.{Matrix, Columns, dot}
 use Rattle.rob_linear.specs.Systems.{right, IsBasis, Solves, Point}
 use Rattle.rob_linear.specs.Programs.{Program, starting_row, system_of, auxiliary_tag, auxiliary_row, auxiliary_of}
-use Rattle.rob_algebra.specs.Integer.{mul-zero, zero-mul, one-mul, mul-neg, mul-pos_z, mul_nonneg}
+use Rattle.rob_algebra.specs.Integer.{mul-zero, zero-mul, one-mul, mul-neg}
+use Rattle.rob_algebra.specs.IntegerOrder.{mul-pos_z, mul_nonneg}
 use Rattle.rob_linear.proofs.Solutions.{point_meets}
 use Rattle.rob_linear.proofs.Endings.{sum_two, point_value, own_positive}
 use Rattle.rob_linear.proofs.Square.{basis_is_back}

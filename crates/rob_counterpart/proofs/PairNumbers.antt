@@ -3,8 +3,8 @@ use Rattle.std.proofs.Common.{◌≡◌, ℕ, ◌+◌, ◌*◌, ◌<◌, ◌≤�
 use lib.IntN.{pos, negsuc}
 use Rattle.rob_algebra.specs.Fraction.{Fraction, of_int, neg_ℚ, ◌-ℚ◌}
 use Rattle.rob_algebra.specs.FractionLaws.{ℚ_ring}
-use Rattle.rob_algebra.specs.Ring as Solver
-use Rattle.rob_algebra.specs.Ring.{lit, minus, ◌:-◌, v0, v1}
+use Rattle.rob_algebra.specs.RingSolver as Solver
+use Rattle.rob_algebra.specs.Polynomials.{lit, minus, ◌:-◌, v0, v1}
 use Rattle.rob_linear.specs.Vectors.{Matrix, Columns}
 use Rattle.rob_linear.specs.Systems.{System, IsBasis}
 use Rattle.rob_linear.specs.Programs.{Program, system_of, auxiliary_of}

@@ -3,11 +3,14 @@ use Rattle.std.proofs.Common.{◌≡◌, ◌≢◌, [], ◌∷◌, refl, sym, ap
 use Rattle.std.proofs.lemmas.Int.{ints}
 use lib.IntN.{ℤ, pos, ◌+ℤ◌, ◌-ℤ◌, ◌*ℤ◌, neg_ℤ}
 use lib.Signed.{◌<ℤ◌, ◌≤ℤ◌}
-use Rattle.rob_algebra.specs.Fraction.{Fraction, of_int, Is, is_int, is_same, is_le_in, is_lt_in, inv_ℚ, neg_ℚ, ◌+ℚ◌, ◌-ℚ◌, ◌*ℚ◌, ◌/ℚ◌, ◌≤ℚ◌, ◌<ℚ◌}
+use Rattle.rob_algebra.specs.Fraction.{Fraction, of_int, inv_ℚ, neg_ℚ, ◌+ℚ◌, ◌-ℚ◌, ◌*ℚ◌, ◌/ℚ◌, ◌≤ℚ◌, ◌<ℚ◌}
+use Rattle.rob_algebra.specs.FractionPairs.{Is, is_int, is_same}
+use Rattle.rob_algebra.specs.PairOrder.{is_le_in, is_lt_in, is_pos_in}
 use Rattle.rob_algebra.specs.FractionLaws as Q
+use Rattle.rob_algebra.specs.FractionOrderLaws.{le_of_lt_ℚ, mul_nonneg_ℚ, mul_pos_ℚ, le_one, int_nonneg, mul_mono_lt_ℚ}
 use Rattle.rob_algebra.specs.FractionLaws.{ℚ_ring, of_int-add, of_int-mul}
-use Rattle.rob_algebra.specs.Ring as Solver
-use Rattle.rob_algebra.specs.Ring.{lit, minus, ◌:+◌, ◌:-◌, ◌:*◌, v0, v1, v2, v3, v4, v5}
+use Rattle.rob_algebra.specs.RingSolver as Solver
+use Rattle.rob_algebra.specs.Polynomials.{lit, minus, ◌:+◌, ◌:-◌, ◌:*◌, v0, v1, v2, v3, v4, v5}
 use Rattle.rob_meaning.specs.Places.{0ℚ, 1ℚ}
 use Rattle.rob_meaning.proofs.AbsoluteLemmas.{pos_some, inv_pos}
 
@@ -34,7 +37,7 @@ pub over-zero : (s : ℤ) → over (pos 0) s ≡ 0ℚ
 over-zero s = Q.ring (inv_ℚ (of_int s) ∷ []) (lit (pos 0) :* v0) (lit (pos 0)) refl
 
 pub int_pos : (s : ℤ) → pos 0 <ℤ s → 0ℚ <ℚ of_int s
-int_pos s h = Q.is_pos_in (is_int s) h
+int_pos s h = is_pos_in (is_int s) h
 
 int_some : (s : ℤ) → pos 0 <ℤ s → of_int s ≢ 0ℚ
 int_some s h = pos_some (of_int s) (int_pos s h)
@@ -48,24 +51,24 @@ over-one z =
     (over-self (pos 1) (omega (arith, ints)))
 
 inv_nonneg : (s : ℤ) → pos 0 <ℤ s → 0ℚ ≤ℚ inv_ℚ (of_int s)
-inv_nonneg s h = Q.le_of_lt_ℚ 0ℚ (inv_ℚ (of_int s)) (inv_pos (of_int s) (int_pos s h))
+inv_nonneg s h = le_of_lt_ℚ 0ℚ (inv_ℚ (of_int s)) (inv_pos (of_int s) (int_pos s h))
 
 pub over_nonneg : (z s : ℤ) → pos 0 <ℤ s → pos 0 ≤ℤ z → 0ℚ ≤ℚ over z s
-over_nonneg z s h k = Q.mul_nonneg_ℚ (of_int z) (inv_ℚ (of_int s)) (Q.int_nonneg z k) (inv_nonneg s h)
+over_nonneg z s h k = mul_nonneg_ℚ (of_int z) (inv_ℚ (of_int s)) (int_nonneg z k) (inv_nonneg s h)
 
 pub over_pos : (z s : ℤ) → pos 0 <ℤ s → pos 0 <ℤ z → 0ℚ <ℚ over z s
-over_pos z s h k = Q.mul_pos_ℚ (of_int z) (inv_ℚ (of_int s)) (int_pos z k) (inv_pos (of_int s) (int_pos s h))
+over_pos z s h k = mul_pos_ℚ (of_int z) (inv_ℚ (of_int s)) (int_pos z k) (inv_pos (of_int s) (int_pos s h))
 
 pub over_le : (a b s : ℤ) → pos 0 <ℤ s → a ≤ℤ b → over a s ≤ℚ over b s
 over_le a b s h k =
-    Q.le_one (of_int a ∷ of_int b ∷ inv_ℚ (of_int s) ∷ []) (v0 :* v2) (v1 :* v2) v2 v0 v1 refl (inv_nonneg s h)
+    le_one (of_int a ∷ of_int b ∷ inv_ℚ (of_int s) ∷ []) (v0 :* v2) (v1 :* v2) v2 v0 v1 refl (inv_nonneg s h)
     (is_le_in (is_int a) (is_int b) (omega (arith, ints)))
 
 pub over_lt : (a b s : ℤ) → pos 0 <ℤ s → a <ℤ b → over a s <ℚ over b s
 over_lt a b s h k =
     subst (λ x. x <ℚ over b s) (Q.ℚ-mul_comm (inv_ℚ (of_int s)) (of_int a))
     (subst (λ x. inv_ℚ (of_int s) *ℚ of_int a <ℚ x) (Q.ℚ-mul_comm (inv_ℚ (of_int s)) (of_int b))
-    (Q.mul_mono_lt_ℚ (of_int a) (of_int b) (inv_ℚ (of_int s)) (is_lt_in (is_int a) (is_int b) (omega (arith, ints)))
+    (mul_mono_lt_ℚ (of_int a) (of_int b) (inv_ℚ (of_int s)) (is_lt_in (is_int a) (is_int b) (omega (arith, ints)))
     (inv_pos (of_int s) (int_pos s h))))
 
 pub over-neg : (z s : ℤ) → over (neg_ℤ z) s ≡ neg_ℚ (over z s)

@@ -5,11 +5,12 @@ use lib.IntN.{ℤ, pos, ◌*ℤ◌}
 use lib.Signed.{◌<ℤ◌}
 use Rattle.rob_algebra.specs.Fraction.{Fraction, of_int, ◌+ℚ◌, ◌*ℚ◌, ◌≤ℚ◌, ◌<ℚ◌}
 use Rattle.rob_algebra.specs.FractionLaws as Q
+use Rattle.rob_algebra.specs.FractionOrderLaws.{le_refl_ℚ, add_mono_ℚ}
 use Rattle.rob_algebra.specs.FractionLaws.{ℚ_ring}
 use Rattle.rob_algebra.specs.FractionLists.{AllNonneg}
 use Rattle.rob_algebra.specs.Lists.{dot-zeros, dot-vec_mat}
 use Rattle.rob_algebra.specs.Integer.{*ℤ_comm, mul-zero, mul-one, zero-mul}
-use Rattle.rob_algebra.specs.Ring.{lit, ◌:+◌, ◌:*◌, v0, v1}
+use Rattle.rob_algebra.specs.Polynomials.{lit, ◌:+◌, ◌:*◌, v0, v1}
 use Rattle.rob_linear.specs.Vectors.{Matrix, Columns, sum_to}
 use Rattle.rob_linear.specs.Vectors as V
 use Rattle.rob_linear.specs.Programs.{Program}
@@ -125,9 +126,9 @@ module _ (m : RobustModel) (i : ℕ) (some : i < length (matrices m)) (z : ℕ �
         subst (λ v. v ≤ℚ form_at m i 1ℚ scenario (whole_plan m z)) (sym (form_at-parts m i some 1ℚ u (whole_plan m z)))
         (subst (λ v. 1ℚ *ℚ constant_part m i (whole_plan m z) +ℚ dot (parameter_part m i (whole_plan m z)) u ≤ℚ v)
         (sym (form_at-parts m i some 1ℚ scenario (whole_plan m z)))
-        (Q.add_mono_ℚ (1ℚ *ℚ constant_part m i (whole_plan m z)) (1ℚ *ℚ constant_part m i (whole_plan m z))
+        (add_mono_ℚ (1ℚ *ℚ constant_part m i (whole_plan m z)) (1ℚ *ℚ constant_part m i (whole_plan m z))
         (dot (parameter_part m i (whole_plan m z)) u) (dot (parameter_part m i (whole_plan m z)) scenario)
-        (Q.le_refl_ℚ (1ℚ *ℚ constant_part m i (whole_plan m z)))
+        (le_refl_ℚ (1ℚ *ℚ constant_part m i (whole_plan m z)))
         (subst (λ v. dot (parameter_part m i (whole_plan m z)) u ≤ℚ v) peak
         (lifted_bound u (lifted_of m model 1ℚ u (admits_meets m model u admitted))))))
 

@@ -3,7 +3,9 @@ use Rattle.std.proofs.Common.{◌≡◌, ◌*◌, refl, sym, ap, ◌∙◌, subs
 use Rattle.std.specs.Bool.{Decides}
 use lib.IntN.{ℤ, pos, ◌+ℤ◌, ◌*ℤ◌}
 use lib.Signed.{◌≤ℤ◌, le_z}
-use Rattle.rob_algebra.specs.Fraction.{Fraction, of_int, ◌+ℚ◌, ◌≤ℚ◌, Is, is_self, is_int, is_add, is_le_in, is_le_out}
+use Rattle.rob_algebra.specs.Fraction.{Fraction, of_int, ◌+ℚ◌, ◌≤ℚ◌}
+use Rattle.rob_algebra.specs.FractionPairs.{Is, is_self, is_int, is_add}
+use Rattle.rob_algebra.specs.PairOrder.{is_le_in, is_le_out}
 use Rattle.rob_algebra.specs.Integer.{mul-one, zero-mul}
 use Rattle.rob_meaning.specs.Places.{0ℚ}
 

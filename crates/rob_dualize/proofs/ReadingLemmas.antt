@@ -9,8 +9,9 @@ use lib.IntN.{ℤ, pos, negsuc}
 use lib.Signed.{mag}
 use Rattle.rob_algebra.specs.Fraction.{Fraction, ◌-ℚ◌, neg_ℚ}
 use Rattle.rob_algebra.specs.FractionLaws.{ℚ_ring}
-use Rattle.rob_algebra.specs.Ring as Solver
-use Rattle.rob_algebra.specs.Ring.{lit, ◌:-◌, v0, v1}
+use Rattle.rob_algebra.specs.RingSolver as Solver
+use Rattle.rob_algebra.specs.Polynomials
+use Rattle.rob_algebra.specs.Polynomials.{lit, ◌:-◌, v0, v1}
 use Rattle.rob_algebra.specs.FractionOrder.{eq_ℚ, eq_ℚ-decides}
 use Rattle.rob_meaning.specs.Certificates.{Cover, Item}
 use Rattle.rob_meaning.specs.Places.{0ℚ, 1ℚ, at, tabulate}
@@ -236,7 +237,7 @@ pub minus_zero : (a b : Fraction) → b ≡ 0ℚ → a ≡ a -ℚ b
 minus_zero a b e = sym (Solver.from_one ℚ_ring (a ∷ b ∷ []) (v0 :- v1) v0 (lit (negsuc 0)) v1 (lit (pos 0)) refl e)
 
 pub zero_minus : (a b : Fraction) → a ≡ 0ℚ → neg_ℚ b ≡ a -ℚ b
-zero_minus a b e = sym (Solver.from_one ℚ_ring (a ∷ b ∷ []) (v0 :- v1) (Solver.minus v1) (lit (pos 1)) v0
+zero_minus a b e = sym (Solver.from_one ℚ_ring (a ∷ b ∷ []) (v0 :- v1) (Polynomials.minus v1) (lit (pos 1)) v0
     (lit (pos 0)) refl e)
 
 -- ---- the sign of 0

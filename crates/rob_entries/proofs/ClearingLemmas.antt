@@ -7,7 +7,8 @@ use Rattle.std.proofs.lemmas.Bool.{cases_eq}
 use Rattle.std.proofs.lemmas.List.{get_or-map, get_or_default, length-map}
 use lib.IntN.{ℤ, pos, ◌-ℤ◌, ◌*ℤ◌, nat_abs}
 use lib.Signed.{◌<ℤ◌}
-use Rattle.rob_algebra.specs.Integer.{mul_cancel_lt, mul_cancel_zero, mul_left_comm, mul-zero, *ℤ_comm}
+use Rattle.rob_algebra.specs.Integer.{mul_left_comm, mul-zero, *ℤ_comm}
+use Rattle.rob_algebra.specs.IntegerOrder.{mul_cancel_lt, mul_cancel_zero}
 use Rattle.rob_linear.specs.Vectors.{Vector, at}
 use Rattle.rob_linear.specs.Systems.{IsCombined, IsPrimitive}
 use Rattle.rob_linear.specs.Multiples.{IsClearedBy}

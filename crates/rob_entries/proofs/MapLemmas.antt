@@ -6,7 +6,8 @@ use Rattle.std.proofs.lemmas.List.{length-map, length-set, map-set, get_or_defau
 use Rattle.std.proofs.lemmas.Int.{ints}
 use lib.IntN.{ℤ, pos, ◌*ℤ◌, ◌-ℤ◌}
 use lib.Signed.{◌<ℤ◌}
-use Rattle.rob_algebra.specs.Integer.{mul-zero, mul_cancel_zero}
+use Rattle.rob_algebra.specs.Integer.{mul-zero}
+use Rattle.rob_algebra.specs.IntegerOrder.{mul_cancel_zero}
 use Rattle.rob_linear.specs.Vectors.{Vector, at}
 use Rattle.rob_linear.specs.Multiples.{IsClearedBy}
 use Rattle.rob_linear.proofs.Square.{cases_zero}

@@ -8,7 +8,7 @@ use Rattle.std.proofs.lemmas.Int.{ints, to_z-of_z}
 use mir.Val.{SFits, to_z, of_z}
 use Rattle.rob_index.specs.Membership.{Among, here, there}
 use Rattle.rob_index.specs.Forms.{Form, Ends, fixed, value_of, values_of, length_form, without, extensions, first_factor, only, plus_times}
-use Rattle.rob_algebra.specs.Integer.{mul_nonneg}
+use Rattle.rob_algebra.specs.IntegerOrder.{mul_nonneg}
 use Rattle.rob_index.proofs.DecisionLemmas.{fixed_within}
 use Rattle.rob_index.proofs.FormLemmas.{minus_is, plus_times_is}
 use Rattle.rob_index.proofs.ListLemmas.{values_within}

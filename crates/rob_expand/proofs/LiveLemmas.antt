@@ -3,7 +3,8 @@
 use Rattle.std.proofs.Common.{◌≡◌, ◌⊎◌, inl, inr, List, ◌∷◌, ap, subst, arith}
 use Rattle.std.specs.Prelude.{ℤ, pos, negsuc, ◌+ℤ◌, ◌-ℤ◌, ◌*ℤ◌, ◌≤ℤ◌, ◌<ℤ◌}
 use Rattle.std.proofs.lemmas.Int.{ints}
-use Rattle.rob_algebra.specs.Integer.{products, mul_nonneg, mul_mono, le_total}
+use Rattle.rob_algebra.specs.Integer.{products}
+use Rattle.rob_algebra.specs.IntegerOrder.{mul_nonneg, mul_mono, le_total}
 use Rattle.rob_index.specs.Forms.{Ends, value_of, outer, first_factor}
 use Rattle.rob_index.proofs.FormLemmas.{outer_is}
 use Rattle.rob_expand.specs.Live.{lack_at}

@@ -4,7 +4,8 @@ use Rattle.std.specs.Prelude.{ℤ, nat_abs, pos, negsuc, ◌+ℤ◌, ◌*ℤ◌,
 use Rattle.std.specs.Int.{int_rem_euclid, IsNonNegative}
 use Rattle.std.proofs.lemmas.Int.{ints}
 use Rattle.std.proofs.Math.Nat.{mul_comm}
-use Rattle.rob_algebra.specs.Integer.{products, mul-add, mul_nonneg, mul_left_comm}
+use Rattle.rob_algebra.specs.Integer.{products, mul-add, mul_left_comm}
+use Rattle.rob_algebra.specs.IntegerOrder.{mul_nonneg}
 use Rattle.rob_index.specs.Statements.{digits}
 use Rattle.rob_index.specs.Forms.{Form, value_of, plus_times}
 use Rattle.rob_index.specs.Fast.{atom_form, sign_factor}

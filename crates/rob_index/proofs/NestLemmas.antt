@@ -2,7 +2,8 @@
 use Rattle.std.proofs.Common.{◌≡◌, suc, Bool, true, false, List, [], ◌∷◌, refl, arith}
 use Rattle.std.specs.Prelude.{ℤ, pos, negsuc, ◌*ℤ◌, ◌≤ℤ◌, ◌<ℤ◌, ◌||◌, int_le, int_lt}
 use Rattle.std.proofs.lemmas.Int.{ints}
-use Rattle.rob_algebra.specs.Integer.{mul_le_mul, neg-mul}
+use Rattle.rob_algebra.specs.Integer.{neg-mul}
+use Rattle.rob_algebra.specs.IntegerOrder.{mul_le_mul}
 use Rattle.rob_index.specs.Forms.{Form, weighed, value_of, first_factor, Ends, AreWithin, far_end, without, greatest, length_form, lack_form, all_run, is_dead}
 use Rattle.rob_index.proofs.FormLemmas.{minus_is, outer_is, without_is}
 use Rattle.rob_index.proofs.ListLemmas.{both_true}

@@ -10,7 +10,8 @@ use Rattle.rob_linear.specs.Vectors.{sum_to}
 use Rattle.rob_linear.specs.Systems.{System, right, IsSpanned, IsPrimitive, LiesAlong, RowOf, IsBasis, IsNonnegative}
 use Rattle.rob_linear.specs.Programs.{Program, auxiliary_tag, auxiliary_row, auxiliary_of}
 use Rattle.rob_linear.specs.Turns.{IsLexPositive, key, IsLexFeasible}
-use Rattle.rob_algebra.specs.Integer.{ring, mul-zero, mul-one, mul-pos_z, mul_cancel_lt, mul_nonneg}
+use Rattle.rob_algebra.specs.Integer.{ring, mul-zero, mul-one}
+use Rattle.rob_algebra.specs.IntegerOrder.{mul-pos_z, mul_cancel_lt, mul_nonneg}
 use Rattle.rob_linear.proofs.Sums.{dot_combine}
 use Rattle.rob_linear.proofs.Solutions.{start_along}
 use Rattle.rob_linear.proofs.Endings.{own_positive}

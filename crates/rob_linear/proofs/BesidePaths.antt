@@ -5,7 +5,8 @@ use Rattle.std.proofs.lemmas.Bool.{cases_eq}
 use Rattle.std.proofs.lemmas.Bool.Decides.{nat_tests}
 use lib.IntN.{ℤ, pos, ◌*ℤ◌, neg_ℤ}
 use lib.Signed.{◌<ℤ◌, ◌≤ℤ◌}
-use Rattle.rob_algebra.specs.Integer.{ring, mul-pos_z}
+use Rattle.rob_algebra.specs.Integer.{ring}
+use Rattle.rob_algebra.specs.IntegerOrder.{mul-pos_z}
 use Rattle.rob_linear.specs.Systems.{System, right, IsPrimitive, LiesAlong, IsBasis, IsNonnegative}
 use Rattle.rob_linear.specs.Programs.{Program, system_of, auxiliary_of, auxiliary_place, kept_of}
 use Rattle.rob_linear.specs.Turns.{Enters, Leaves, own_of, StandsWith, TurnsTo}

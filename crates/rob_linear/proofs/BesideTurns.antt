@@ -4,7 +4,8 @@ use Rattle.std.proofs.lemmas.Int.{ints}
 use Rattle.std.proofs.lemmas.Bool.{cases_eq}
 use lib.IntN.{ℤ, pos, ◌+ℤ◌, ◌-ℤ◌, ◌*ℤ◌, neg_ℤ}
 use lib.Signed.{◌<ℤ◌, ◌≤ℤ◌}
-use Rattle.rob_algebra.specs.Integer.{ring, mul-zero, mul-pos_z}
+use Rattle.rob_algebra.specs.Integer.{ring, mul-zero}
+use Rattle.rob_algebra.specs.IntegerOrder.{mul-pos_z}
 use Rattle.rob_linear.specs.Systems.{System, IsTagged, right, IsNonnegative}
 use Rattle.rob_linear.specs.Programs.{Program, auxiliary_of}
 use Rattle.rob_linear.specs.Turns.{IsLexPositive, key, ComesBefore, Enters, Leaves}

@@ -8,7 +8,8 @@ use lib.Signed.{◌<ℤ◌, ◌≤ℤ◌}
 use Rattle.rob_linear.specs.Vectors.{sum_to, dot}
 use Rattle.rob_linear.specs.Systems.{LiesAlong, IsBasis, IsSpanned}
 use Rattle.rob_linear.specs.Programs.{Program, auxiliary_tag, auxiliary_row, auxiliary_of, EndsInfeasible, FallsIntoBlocks, LieInOneBlock, ShowsEmpty}
-use Rattle.rob_algebra.specs.Integer.{mul-zero, zero-mul, mul-one, *ℤ_comm, mul_cancel, mul_cancel_zero}
+use Rattle.rob_algebra.specs.Integer.{mul-zero, zero-mul, mul-one, *ℤ_comm}
+use Rattle.rob_algebra.specs.IntegerOrder.{mul_cancel, mul_cancel_zero}
 use Rattle.rob_linear.proofs.Sums.{sum_ext, sum_zero, sum_one, sum_neg}
 use Rattle.rob_linear.proofs.Endings.{own_positive}
 use Rattle.rob_linear.proofs.Unique.{row_unique}

@@ -6,7 +6,8 @@ use lib.IntN.{ℤ, pos, ◌+ℤ◌, ◌*ℤ◌, neg_ℤ}
 use lib.Signed.{◌<ℤ◌, ◌≤ℤ◌}
 use Rattle.rob_linear.specs.Vectors.{sum_to, dot}
 use Rattle.rob_linear.specs.Systems.{System, objective, right, LiesAlong, IsBasis, Meets, IsNonnegative, IsSolution, Feasible, Point, Move, EndsOptimal, EndsUnbounded}
-use Rattle.rob_algebra.specs.Integer.{ring, mul-zero, zero-mul, mul_le_mul, *ℤ_comm, mul_cancel_nonneg, mul_nonneg, mul_cancel_le, mul-pos_z}
+use Rattle.rob_algebra.specs.Integer.{ring, mul-zero, zero-mul, *ℤ_comm}
+use Rattle.rob_algebra.specs.IntegerOrder.{mul_le_mul, mul_cancel_nonneg, mul_nonneg, mul_cancel_le, mul-pos_z}
 use Rattle.rob_linear.proofs.Sums.{sum_one, sum_nonneg}
 use Rattle.rob_linear.proofs.Square.{basis_is_back}
 use Rattle.rob_linear.proofs.Solutions.{point_meets, point_nonnegative, meets_spanned, basic_or_not, own_below}

@@ -9,7 +9,7 @@ use Rattle.std.specs.Int.{◌∣◌, IsGcd}
 use lib.IntN.{ℤ, pos, negsuc, ◌*ℤ◌}
 use lib.Signed.{◌<ℤ◌}
 use Rattle.rob_linear.specs.Systems.{IsPrimitive}
-use Rattle.rob_algebra.specs.Integer.{mul_cancel}
+use Rattle.rob_algebra.specs.IntegerOrder.{mul_cancel}
 
 nothing : (g : ℕ) → g * 0 ≡ 0
 nothing g = omega arith

@@ -4,9 +4,10 @@
 use Rattle.std.proofs.Common.{◌≡◌, ℕ, suc, ◌+◌, sym, ap, ◌∙◌, arith, inl, inr, ◌⊎◌, [], ◌∷◌, refl}
 use Rattle.std.proofs.lemmas.Int.{ints}
 use lib.IntN.{ℤ, pos, ◌*ℤ◌}
-use Rattle.rob_algebra.specs.Ring.{lit, ◌:+◌, v0}
+use Rattle.rob_algebra.specs.Polynomials.{lit, ◌:+◌, v0}
 use Rattle.rob_algebra.specs.Fraction.{Fraction, of_int, ◌+ℚ◌, ◌*ℚ◌, ◌≤ℚ◌, ◌<ℚ◌}
-use Rattle.rob_algebra.specs.FractionLaws.{of_int-mul, le_antisym_ℚ, le_trans_ℚ, not_lt_ℚ, lt_from}
+use Rattle.rob_algebra.specs.FractionLaws.{of_int-mul}
+use Rattle.rob_algebra.specs.FractionOrderLaws.{le_antisym_ℚ, le_trans_ℚ, not_lt_ℚ, lt_from}
 use Rattle.rob_linear.specs.Systems.{System, right, IsBasis, Point, Move, EndsOptimal}
 use Rattle.rob_linear.specs.Programs.{Program, system_of, auxiliary_of, ShowsEmpty}
 use Rattle.rob_linear.specs.Optimality.{IsFeasible, objective_at, IsOptimal, IsInfeasible, IsUnbounded, IsDualFeasible, dual_objective_at, IsScaled, IsBasicPoint}

@@ -4,7 +4,8 @@ use Rattle.std.proofs.lemmas.Int.{ints, by_lt_z}
 use Rattle.std.proofs.lemmas.Bool.{cases_eq, cases_order}
 use lib.IntN.{ℤ, pos, ◌+ℤ◌, ◌-ℤ◌, ◌*ℤ◌, neg_ℤ}
 use lib.Signed.{◌<ℤ◌}
-use Rattle.rob_algebra.specs.Integer.{ring, mul-zero, zero-mul, mul_cancel_zero, mul_cancel_lt, mul-pos_z}
+use Rattle.rob_algebra.specs.Integer.{ring, mul-zero, zero-mul}
+use Rattle.rob_algebra.specs.IntegerOrder.{mul_cancel_zero, mul_cancel_lt, mul-pos_z}
 use Rattle.rob_linear.specs.Vectors.{sum_to}
 use Rattle.rob_linear.specs.Systems.{System, IsTagged, objective, right, RowOf, IsBasis, IsCombined}
 use Rattle.rob_linear.specs.Turns.{IsLexPositive, key, ComesBefore, IsLexFeasible, IsPivot, IsTurn, Rises}

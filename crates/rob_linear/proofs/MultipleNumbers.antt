@@ -7,7 +7,7 @@ use lib.Signed.{◌<ℤ◌}
 use Rattle.rob_algebra.specs.Integer.{ring}
 use Rattle.rob_algebra.specs.Fraction.{Fraction, of_int, ◌*ℚ◌}
 use Rattle.rob_algebra.specs.FractionLaws.{of_int-mul}
-use Rattle.rob_algebra.specs.Ring.{◌:*◌, v0, v1, v2}
+use Rattle.rob_algebra.specs.Polynomials.{◌:*◌, v0, v1, v2}
 use Rattle.rob_algebra.specs.FractionLaws as Q
 use Rattle.std.proofs.Common.{[], ◌∷◌, refl}
 use Rattle.rob_linear.specs.Systems.{System, IsTagged, objective, right}

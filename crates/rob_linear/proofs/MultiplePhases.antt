@@ -4,7 +4,8 @@ use Rattle.std.proofs.lemmas.Int.{ints}
 use Rattle.std.proofs.lemmas.Bool.{cases_eq}
 use lib.IntN.{ℤ, pos, ◌*ℤ◌}
 use lib.Signed.{◌<ℤ◌}
-use Rattle.rob_algebra.specs.Integer.{ring, one-mul, mul-pos_z}
+use Rattle.rob_algebra.specs.Integer.{ring, one-mul}
+use Rattle.rob_algebra.specs.IntegerOrder.{mul-pos_z}
 use Rattle.rob_linear.specs.Systems.{right, IsPrimitive, LiesAlong, RowOf, IsBasis, IsNonnegative, with_objective}
 use Rattle.rob_linear.specs.Programs.{Program, system_of, auxiliary_of, auxiliary_place, without_auxiliary, kept_row, kept_of}
 use Rattle.rob_linear.specs.Turns.{own_of, StandsWith}

@@ -4,7 +4,8 @@ use Rattle.std.proofs.lemmas.Int.{ints}
 use Rattle.std.proofs.lemmas.Bool.{cases_eq}
 use lib.IntN.{ℤ, pos, ◌-ℤ◌, ◌*ℤ◌}
 use lib.Signed.{◌<ℤ◌}
-use Rattle.rob_algebra.specs.Integer.{ring, mul_assoc, mul_left_comm, mul-zero, one-mul, mul_cancel_zero, mul_cancel_lt, mul-pos_z}
+use Rattle.rob_algebra.specs.Integer.{ring, mul_assoc, mul_left_comm, mul-zero, one-mul}
+use Rattle.rob_algebra.specs.IntegerOrder.{mul_cancel_zero, mul_cancel_lt, mul-pos_z}
 use Rattle.rob_linear.specs.Systems.{right, IsSpanned, IsPrimitive, IsBasis}
 use Rattle.rob_linear.specs.Programs.{Program, with_cost, starting_row, system_of}
 use Rattle.rob_linear.specs.Turns.{own_of}

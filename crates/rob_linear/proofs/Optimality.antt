@@ -6,8 +6,10 @@ use lib.IntN.{ℤ, pos, ◌*ℤ◌, neg_ℤ}
 use lib.Signed.{◌<ℤ◌, ◌≤ℤ◌}
 use Rattle.rob_algebra.specs.Integer.{ring, mul-one}
 use Rattle.rob_algebra.specs.Fraction.{Fraction, of_int, ◌*ℚ◌, ◌≤ℚ◌}
-use Rattle.rob_algebra.specs.Fraction.{den_pos, pos_lt}
-use Rattle.rob_algebra.specs.FractionLaws.{of_int-mul, le_antisym_ℚ}
+use Rattle.rob_algebra.specs.Fraction.{den_pos}
+use Rattle.rob_algebra.specs.FractionPairs.{pos_lt}
+use Rattle.rob_algebra.specs.FractionLaws.{of_int-mul}
+use Rattle.rob_algebra.specs.FractionOrderLaws.{le_antisym_ℚ}
 use Rattle.rob_linear.specs.Vectors.{dot}
 use Rattle.rob_linear.specs.Systems.{System, right, IsBasis, IsSolution, Point, Move, EndsOptimal, EndsUnbounded}
 use Rattle.rob_linear.specs.Programs.{Program, Admits, system_of, ShowsEmpty, IsDual, IsBest, HasNoGreatest}

@@ -9,7 +9,8 @@ use Rattle.std.specs.Int.{◌∣◌}
 use Rattle.rob_linear.specs.Vectors.{sum_to}
 use Rattle.rob_linear.specs.Systems.{System, right, IsSpanned, RowOf, IsBasis, IsCombined}
 use Rattle.rob_linear.specs.Turns.{IsExchange, IsPivot, IsPivotable}
-use Rattle.rob_algebra.specs.Integer.{ring, mul-zero, *ℤ_comm, mul_cancel, mul_cancel_zero, mul_cancel_lt, mul-pos_z}
+use Rattle.rob_algebra.specs.Integer.{ring, mul-zero, *ℤ_comm}
+use Rattle.rob_algebra.specs.IntegerOrder.{mul_cancel, mul_cancel_zero, mul_cancel_lt, mul-pos_z}
 use Rattle.rob_linear.proofs.Sums.{sum_ext, sum_scale, dot_combine}
 use Rattle.rob_linear.proofs.Solutions.{own_in}
 

@@ -10,7 +10,8 @@ use Rattle.std.specs.Int.{◌∣◌, IsGcd}
 use lib.IntN.{ℤ, pos, negsuc, ◌-ℤ◌, ◌*ℤ◌, neg_ℤ}
 use lib.Signed.{◌<ℤ◌}
 use Rattle.rob_algebra.specs.Gcd.{gcd, IsGcd-gcd}
-use Rattle.rob_algebra.specs.Integer.{ring, mul-zero, mul-pos_z}
+use Rattle.rob_algebra.specs.Integer.{ring, mul-zero}
+use Rattle.rob_algebra.specs.IntegerOrder.{mul-pos_z}
 use Rattle.rob_linear.specs.Systems.{System, right, IsPrimitive, IsCombined}
 use Rattle.rob_linear.specs.Turns.{IsPivotable, IsExchange, IsPivot}
 use Rattle.rob_linear.proofs.Solutions.{own_in}

@@ -4,11 +4,14 @@ use Rattle.std.proofs.lemmas.Int.{ints}
 use Rattle.std.specs.Int.RustNames.{unsigned_abs}
 use lib.IntN.{ℤ, pos, negsuc, ◌*ℤ◌}
 use lib.Signed.{◌<ℤ◌, ◌≤ℤ◌}
-use Rattle.rob_algebra.specs.Ring.{lit, ◌:+◌, ◌:*◌, v0, v1, v2, v3}
-use Rattle.rob_algebra.specs.Integer.{mul-pos_z, *ℤ_comm}
+use Rattle.rob_algebra.specs.Polynomials.{lit, ◌:+◌, ◌:*◌, v0, v1, v2, v3}
+use Rattle.rob_algebra.specs.Integer.{*ℤ_comm}
+use Rattle.rob_algebra.specs.IntegerOrder.{mul-pos_z}
 use Rattle.rob_algebra.specs.IntRing as Z
-use Rattle.rob_algebra.specs.Fraction.{Fraction, of_int, of_pair, ◌+ℚ◌, ◌*ℚ◌, ◌≤ℚ◌, ◌<ℚ◌, is_int, is_self, is_mul, is_of_pair, same_is, den_pos, pos_lt}
-use Rattle.rob_algebra.specs.FractionLaws.{ring, of_int-add, of_int-mul, mul_mono_ℚ, cancel_le_ℚ, le_antisym_ℚ, le_refl_ℚ, le_total_ℚ}
+use Rattle.rob_algebra.specs.Fraction.{Fraction, of_int, of_pair, ◌+ℚ◌, ◌*ℚ◌, ◌≤ℚ◌, ◌<ℚ◌, den_pos}
+use Rattle.rob_algebra.specs.FractionPairs.{is_int, is_self, is_mul, is_of_pair, same_is, pos_lt}
+use Rattle.rob_algebra.specs.FractionLaws.{ring, of_int-add, of_int-mul}
+use Rattle.rob_algebra.specs.FractionOrderLaws.{mul_mono_ℚ, cancel_le_ℚ, le_antisym_ℚ, le_refl_ℚ, le_total_ℚ}
 use Rattle.rob_linear.specs.Vectors.{sum_to, dot}
 use Rattle.rob_linear.specs.Programs.{Program, Admits, Keeps, IsDual}
 use Rattle.rob_linear.specs.Optimality.{linear_form, IsFeasible, objective_at, IsDualFeasible, dual_objective_at, IsImprovingRay, IsScaled}

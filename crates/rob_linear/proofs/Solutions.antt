@@ -9,7 +9,8 @@ use Rattle.std.specs.Int.{◌∣◌}
 use Rattle.std.proofs.Math.Nat.{eq-one_of_dvd-one}
 use Rattle.rob_linear.specs.Vectors.{sum_to, dot}
 use Rattle.rob_linear.specs.Systems.{System, objective, right, IsSpanned, IsPrimitive, LiesAlong, IsBasis, Meets, Solves, IsNonnegative, Feasible, Point, IsTagged}
-use Rattle.rob_algebra.specs.Integer.{ring, mul-zero, zero-mul, mul_cancel_nonneg, mul_nonneg, one-mul}
+use Rattle.rob_algebra.specs.Integer.{ring, mul-zero, zero-mul, one-mul}
+use Rattle.rob_algebra.specs.IntegerOrder.{mul_cancel_nonneg, mul_nonneg}
 use Rattle.rob_linear.proofs.Sums.{sum_ext, sum_scale, sum_one, dot_ext, dot_rows}
 
 -- a solution meets each spanned row

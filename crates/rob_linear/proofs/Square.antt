@@ -7,7 +7,8 @@ use lib.IntN.{ℤ, pos, ◌+ℤ◌, ◌-ℤ◌, ◌*ℤ◌, neg_ℤ}
 use lib.Signed.{◌<ℤ◌}
 use Rattle.rob_linear.specs.Vectors.{sum_to, dot}
 use Rattle.rob_linear.specs.Systems.{System, right, IsSpanned, RowOf, IsBasis, Meets, Solves}
-use Rattle.rob_algebra.specs.Integer.{ring, mul-zero, zero-mul, mul-one, *ℤ_comm, mul-neg, neg-mul, mul_cancel_zero}
+use Rattle.rob_algebra.specs.Integer.{ring, mul-zero, zero-mul, mul-one, *ℤ_comm, mul-neg, neg-mul}
+use Rattle.rob_algebra.specs.IntegerOrder.{mul_cancel_zero}
 use Rattle.rob_linear.proofs.Sums.{sum_ext, sum_zero, sum_one, sum_add, sum_scale, sum_neg, sum_swap, dot_combine, dot_scale_right, dot_rows}
 use Rattle.rob_linear.proofs.Solutions.{own_below}
 

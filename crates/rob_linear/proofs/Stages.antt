@@ -7,7 +7,8 @@ use Rattle.std.proofs.lemmas.Bool.Decides.{nat_tests}
 use Rattle.std.specs.Int.RustNames.{unsigned_abs}
 use lib.IntN.{ℤ, pos, ◌+ℤ◌, ◌-ℤ◌, ◌*ℤ◌, neg_ℤ}
 use lib.Signed.{◌<ℤ◌}
-use Rattle.rob_algebra.specs.Integer.{ring, zero-mul, mul-zero, mul-one, one-mul, *ℤ_comm, mul_cancel, mul_cancel_zero, mul_cancel_lt, mul-pos_z}
+use Rattle.rob_algebra.specs.Integer.{ring, zero-mul, mul-zero, mul-one, one-mul, *ℤ_comm}
+use Rattle.rob_algebra.specs.IntegerOrder.{mul_cancel, mul_cancel_zero, mul_cancel_lt, mul-pos_z}
 use Rattle.rob_linear.specs.Vectors.{sum_to}
 use Rattle.rob_linear.specs.Systems.{with_objective, System, IsSpanned, RowOf, IsBasis, IsCombined}
 use Rattle.rob_linear.specs.Programs.{Program, with_cost, starting_row, system_of}

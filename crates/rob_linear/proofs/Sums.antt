@@ -5,7 +5,8 @@ use Rattle.std.proofs.lemmas.Bool.{cases_eq}
 use lib.IntN.{ℤ, pos, ◌+ℤ◌, ◌-ℤ◌, ◌*ℤ◌, neg_ℤ}
 use lib.Signed.{◌≤ℤ◌}
 use Rattle.rob_linear.specs.Vectors.{sum_to, dot}
-use Rattle.rob_algebra.specs.Integer.{ring, mul-add, mul-zero, zero-mul, mul_le_mul, *ℤ_comm, neg-mul, add_assoc}
+use Rattle.rob_algebra.specs.Integer.{ring, mul-add, mul-zero, zero-mul, *ℤ_comm, neg-mul, add_assoc}
+use Rattle.rob_algebra.specs.IntegerOrder.{mul_le_mul}
 
 -- equal terms, equal sums
 pub sum_ext : (n : ℕ) (f g : ℕ → ℤ) → ((j : ℕ) → j < n → f j ≡ g j) → sum_to n f ≡ sum_to n g

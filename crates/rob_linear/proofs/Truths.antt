@@ -6,7 +6,8 @@ use lib.Signed.{◌<ℤ◌, ◌≤ℤ◌}
 use Rattle.rob_linear.specs.Vectors.{sum_to, dot}
 use Rattle.rob_linear.specs.Systems.{right, IsSpanned, IsBasis, IsNonnegative, IsSolution, Point, Move, EndsOptimal, EndsUnbounded}
 use Rattle.rob_linear.specs.Programs.{Program, Admits, Keeps, starting_row, system_of, auxiliary_tag, auxiliary_row, auxiliary_of, ShowsEmpty, IsDual, IsBest, HasNoGreatest}
-use Rattle.rob_algebra.specs.Integer.{ring, mul-zero, mul_le_mul, mul_nonneg, mul-pos_z, mul-one}
+use Rattle.rob_algebra.specs.Integer.{ring, mul-zero, mul-one}
+use Rattle.rob_algebra.specs.IntegerOrder.{mul_le_mul, mul_nonneg, mul-pos_z}
 use Rattle.rob_linear.proofs.Sums.{sum_ext, sum_nonneg, rows_bound, dot_along, dot_mono, dot_scale, dot_scale_right}
 use Rattle.rob_linear.proofs.Endings.{point_is_solution}
 use Rattle.rob_linear.proofs.Endings.{point_value, own_positive, optimal_is_best, move_is_ray}

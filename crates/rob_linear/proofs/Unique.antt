@@ -6,7 +6,8 @@ use Rattle.std.proofs.lemmas.Bool.Decides.{nat_tests}
 use lib.IntN.{ℤ, pos, ◌+ℤ◌, ◌*ℤ◌, neg_ℤ}
 use lib.Signed.{◌<ℤ◌}
 use Rattle.rob_linear.specs.Systems.{System, right, LiesAlong, IsBasis, Point, Move, Solves, RowOf}
-use Rattle.rob_algebra.specs.Integer.{ring, mul-zero, zero-mul, *ℤ_comm, mul_cancel, mul-pos_z}
+use Rattle.rob_algebra.specs.Integer.{ring, mul-zero, zero-mul, *ℤ_comm}
+use Rattle.rob_algebra.specs.IntegerOrder.{mul_cancel, mul-pos_z}
 use Rattle.rob_linear.proofs.Square.{basis_is_back}
 use Rattle.rob_linear.proofs.Solutions.{own_below, basic_dot, meets_spanned, point_meets, basic_or_not}
 use Rattle.rob_linear.proofs.Endings.{move_meets, move_dot}

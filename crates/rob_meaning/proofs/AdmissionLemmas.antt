@@ -3,7 +3,7 @@ use Rattle.std.proofs.Common.{sym, ap, ap₂, subst, refl}
 use Rattle.std.specs.Prelude.{◌≡◌, ℕ, zero, suc, pos, List, [], ◌∷◌, Option, Some, None}
 use Rattle.rob_algebra.specs.Fraction.{Fraction, ◌+ℚ◌, ◌-ℚ◌, ◌*ℚ◌, ◌/ℚ◌, ◌≤ℚ◌}
 use Rattle.rob_algebra.specs.FractionLaws as Q
-use Rattle.rob_algebra.specs.Ring.{lit, ◌:+◌, ◌:-◌, ◌:*◌, v0, v1}
+use Rattle.rob_algebra.specs.Polynomials.{lit, ◌:+◌, ◌:-◌, ◌:*◌, v0, v1}
 use Rattle.rob_meaning.proofs.EachLemmas.{each_append, each_left, each_right}
 use Rattle.rob_meaning.specs.Expressions.{Expression}
 use Rattle.rob_meaning.specs.JointMeaning.{AdmitsJointly}

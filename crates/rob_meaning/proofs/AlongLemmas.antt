@@ -5,7 +5,7 @@ use Rattle.rob_algebra.specs.Fraction.{Fraction, ◌+ℚ◌, ◌*ℚ◌, neg_ℚ
 use Rattle.rob_algebra.specs.FractionLaws as Q
 use Rattle.rob_algebra.specs.FractionLaws.{ℚ_ring}
 use Rattle.rob_algebra.specs.Lists.{scale, plus_all}
-use Rattle.rob_algebra.specs.Ring.{lit, minus, ◌:+◌, ◌:*◌, v0, v1, v2, v3, v4}
+use Rattle.rob_algebra.specs.Polynomials.{lit, minus, ◌:+◌, ◌:*◌, v0, v1, v2, v3, v4}
 use Rattle.rob_meaning.specs.Coefficients.{Table, single, table_at, unit}
 use Rattle.rob_meaning.specs.Places.{0ℚ, 1ℚ, along, at}
 

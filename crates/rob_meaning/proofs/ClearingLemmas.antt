@@ -4,13 +4,15 @@ use Rattle.std.proofs.Common.{sym, ◌∙◌, ap, ap₂, subst, arith, mul-pos}
 use Rattle.std.proofs.lemmas.Nat.Gcd.{dvd_trans, dvd_refl}
 use Rattle.std.proofs.Math.Nat.{dvd-mul_right, dvd-mul_left, div-mul_cancel, mul_assoc, mul_comm}
 use Prim.Native.Nat.{◌∣◌}
-use Rattle.rob_algebra.specs.Fraction.{Fraction, of_int, den_pos, same_is, is_int, is_mul, is_self, pos_lt, ◌+ℚ◌, ◌*ℚ◌, ◌<ℚ◌}
+use Rattle.rob_algebra.specs.Fraction.{Fraction, of_int, den_pos, ◌+ℚ◌, ◌*ℚ◌, ◌<ℚ◌}
+use Rattle.rob_algebra.specs.FractionPairs.{same_is, is_int, is_mul, is_self, pos_lt}
 use Rattle.rob_algebra.specs.FractionLaws as Q
+use Rattle.rob_algebra.specs.PairOrder.{is_pos_in}
 use Rattle.rob_algebra.specs.FractionLaws.{ℚ_ring}
 use Rattle.rob_algebra.specs.Gcd.{gcd, gcd-div_left, gcd-div_right}
 use Rattle.rob_algebra.specs.IntRing as Z
 use Rattle.rob_algebra.specs.Lists.{dot, scale, mat_vec, dot-scale}
-use Rattle.rob_algebra.specs.Ring.{lit, ◌:*◌, v0, v1, v2, v3}
+use Rattle.rob_algebra.specs.Polynomials.{lit, ◌:*◌, v0, v1, v2, v3}
 use Rattle.rob_meaning.proofs.AlongLemmas.{suc_same}
 use Rattle.rob_meaning.specs.Clearing.{cleared, denominator, entries, fractions, lcm, whole_at}
 use Rattle.rob_meaning.specs.Places.{0ℚ, Each, along, tabulate}
@@ -51,7 +53,7 @@ each_divides d (q ∷ qs) h = (
 )
 
 pub multiplier_pos : (d : ℕ) → 0 < d → 0ℚ <ℚ of_int (pos d)
-multiplier_pos d h = Q.is_pos_in (is_int (pos d)) (pos_lt d h)
+multiplier_pos d h = is_pos_in (is_int (pos d)) (pos_lt d h)
 
 pub whole_at-is : (d : ℕ) (q : Fraction) → q.den ∣ d → of_int (whole_at d q) ≡ of_int (pos d) *ℚ q
 whole_at-is d q h =

@@ -3,9 +3,10 @@ use Rattle.std.specs.Prelude.{◌≡◌, pos, List, [], ◌∷◌, length, refl,
 use Rattle.std.proofs.Common.{sym, ◌∙◌, ap, ap₂, subst, inl, inr}
 use Rattle.rob_algebra.specs.Fraction.{Fraction, ◌+ℚ◌, ◌*ℚ◌, inv_ℚ, ◌≤ℚ◌, ◌<ℚ◌}
 use Rattle.rob_algebra.specs.FractionLaws as Q
+use Rattle.rob_algebra.specs.FractionOrderLaws.{le_refl_ℚ, le_total_ℚ, le_antisym_ℚ, le_of_lt_ℚ, le_one, le_two}
 use Rattle.rob_algebra.specs.FractionLaws.{ℚ_ring}
 use Rattle.rob_algebra.specs.Lists.{scale, plus_all, length-scale, length-plus_all}
-use Rattle.rob_algebra.specs.Ring.{lit, ◌:+◌, ◌:*◌, v0, v1, v2, v3, v4, v5, v6}
+use Rattle.rob_algebra.specs.Polynomials.{lit, ◌:+◌, ◌:*◌, v0, v1, v2, v3, v4, v5, v6}
 use Rattle.rob_meaning.proofs.AdmittedLemmas.{admits_meets, meets_admits}
 use Rattle.rob_meaning.proofs.AlongLemmas.{along-plus_list, along-scale_list}
 use Rattle.rob_meaning.proofs.EachLemmas.{each_map, each_both}
@@ -34,7 +35,7 @@ sum_row s r p q T V e f row h k =
     record {
       at_most =
           le_along (ap₂ ◌+ℚ◌ (along-plus_list row.on_parameters p q e) (along-plus_list row.on_lifts T V f))
-          (Q.le_two (along row.on_parameters p ∷ along row.on_parameters q ∷ along row.on_lifts T ∷ along row.on_lifts
+          (le_two (along row.on_parameters p ∷ along row.on_parameters q ∷ along row.on_lifts T ∷ along row.on_lifts
           V ∷ s ∷ r ∷ row.limit ∷ [])
           ((v0 :+ v1) :+ (v2 :+ v3)) ((v4 :+ v5) :* v6)
           (lit (pos 1)) (v0 :+ v2) (v4 :* v6) (lit (pos 1)) (v1 :+ v3)
@@ -47,7 +48,7 @@ scaled_row c s p T some row h =
     record {
       at_most =
           le_along (ap₂ ◌+ℚ◌ (along-scale_list row.on_parameters c p) (along-scale_list row.on_lifts c T))
-          (Q.le_one (along row.on_parameters p ∷ along row.on_lifts T ∷ c ∷ s ∷ row.limit ∷ [])
+          (le_one (along row.on_parameters p ∷ along row.on_lifts T ∷ c ∷ s ∷ row.limit ∷ [])
           (v2 :* v0 :+ v2 :* v1) (v2 :* v3 :* v4) v2 (v0 :+ v1) (v3 :* v4) refl some h.at_most);
     }
 
@@ -116,26 +117,26 @@ module _ (m : RobustModel) (model : IsModel m) where
   -- ---- s times an admitted scenario, or a ray, is what meets the conditions taken s times, with s at least 0
   pub taken_meets : (s : Fraction) (p : List Fraction) → IsTaken m s p → (0ℚ ≤ℚ s) × Meets m s p
   taken_meets s p (inl h) = (
-    Q.le_of_lt_ℚ 0ℚ s h.0,
+    le_of_lt_ℚ 0ℚ s h.0,
     subst (λ z. Meets m z p) (Q.ring (s ∷ []) (v0 :* lit (pos 1)) v0 refl)
         (subst (λ (q : List Fraction). Meets m (s *ℚ 1ℚ) q) (scale_scale s (inv_ℚ s) p (Q.mul_inv s (pos_some s h.0)))
-        (meets_scaled s 1ℚ (scale ℚ_ring (inv_ℚ s) p) (Q.le_of_lt_ℚ 0ℚ s h.0)
+        (meets_scaled s 1ℚ (scale ℚ_ring (inv_ℚ s) p) (le_of_lt_ℚ 0ℚ s h.0)
         (admits_meets m model (scale ℚ_ring (inv_ℚ s) p) h.1))),
   )
-  taken_meets s p (inr h) = (subst (λ z. 0ℚ ≤ℚ z) (sym h.0) (Q.le_refl_ℚ 0ℚ), subst (λ z. Meets m z p) (sym h.0) h.1)
+  taken_meets s p (inr h) = (subst (λ z. 0ℚ ≤ℚ z) (sym h.0) (le_refl_ℚ 0ℚ), subst (λ z. Meets m z p) (sym h.0) h.1)
 
   pub meets_taken : (s : Fraction) (p : List Fraction) → 0ℚ ≤ℚ s → Meets m s p → IsTaken m s p
-  meets_taken s p some h = by (Q.le_total_ℚ s 0ℚ)
+  meets_taken s p some h = by (le_total_ℚ s 0ℚ)
     where
       by : (s ≤ℚ 0ℚ) ⊎ (0ℚ <ℚ s) → IsTaken m s p
-      by (inl k) = let e = Q.le_antisym_ℚ s 0ℚ k some in inr (e, subst (λ z. Meets m z p) e h)
+      by (inl k) = let e = le_antisym_ℚ s 0ℚ k some in inr (e, subst (λ z. Meets m z p) e h)
       by (inr k) =
           inl (
             k,
             meets_admits m model (scale ℚ_ring (inv_ℚ s) p)
                 (subst (λ z. Meets m z (scale ℚ_ring (inv_ℚ s) p))
                 (Q.ℚ-mul_comm (inv_ℚ s) s ∙ Q.mul_inv s (pos_some s k))
-                (meets_scaled (inv_ℚ s) s p (Q.le_of_lt_ℚ 0ℚ (inv_ℚ s) (inv_pos s k)) h)),
+                (meets_scaled (inv_ℚ s) s p (le_of_lt_ℚ 0ℚ (inv_ℚ s) (inv_pos s k)) h)),
           )
 
   pub taken_law : (s : Fraction) (p : List Fraction) → IsTaken m s p ↔ ((0ℚ ≤ℚ s) × Meets m s p)

@@ -4,10 +4,11 @@ use Rattle.std.proofs.Common.{sym, ◌∙◌, ap, ap₂, subst, length-append}
 use Rattle.std.proofs.lemmas.List.{length-map}
 use Rattle.rob_algebra.specs.Fraction.{Fraction, of_int, ◌+ℚ◌, ◌*ℚ◌, ◌≤ℚ◌, ◌<ℚ◌}
 use Rattle.rob_algebra.specs.FractionLaws as Q
+use Rattle.rob_algebra.specs.FractionOrderLaws.{le_two, cancel_le_ℚ}
 use Rattle.rob_algebra.specs.FractionLaws.{ℚ_ring}
 use Rattle.rob_algebra.specs.FractionLists.{AllLe, AllNonneg, dot_ℚ, dot_mono}
 use Rattle.rob_algebra.specs.Lists.{dot, scale, zeros, mat_vec, Rows, dot_comm, dot-scale, dot-zeros, dot-vec_mat, length-scale}
-use Rattle.rob_algebra.specs.Ring.{lit, ◌:+◌, ◌:*◌, v0, v1, v2, v3, v4}
+use Rattle.rob_algebra.specs.Polynomials.{lit, ◌:+◌, ◌:*◌, v0, v1, v2, v3, v4}
 use Rattle.rob_meaning.proofs.AlongLemmas.{suc_same}
 use Rattle.rob_meaning.proofs.ClearingLemmas.{dot-append, length-tabulate}
 use Rattle.rob_meaning.proofs.LinearLemmas.{zero_le_one}
@@ -65,7 +66,7 @@ module _ (m : RobustModel) where
   weigh : (s b h d amount : Fraction) → s *ℚ d ≤ℚ b *ℚ amount → amount +ℚ s *ℚ h ≤ℚ 0ℚ → 0ℚ ≤ℚ b →
       s *ℚ (b *ℚ h +ℚ d) ≤ℚ 0ℚ
   weigh s b h d amount p q some =
-      Q.le_two (s ∷ b ∷ h ∷ d ∷ amount ∷ []) (v0 :* (v1 :* v2 :+ v3)) (lit (pos 0)) (lit (pos 1)) (v0 :* v3)
+      le_two (s ∷ b ∷ h ∷ d ∷ amount ∷ []) (v0 :* (v1 :* v2 :+ v3)) (lit (pos 0)) (lit (pos 1)) (v0 :* v3)
       (v1 :* v4) v1 (v4 :+ v0 :* v2) (lit (pos 0)) refl zero_le_one p some q
 
   module _
@@ -117,6 +118,6 @@ module _ (m : RobustModel) where
 
       pub covered_at : (b : Fraction) (p : List Fraction) → 0ℚ <ℚ s → 0ℚ ≤ℚ b → Meets m b p → form_at m i b p z ≤ℚ 0ℚ
       covered_at b p positive nonneg meets =
-          Q.cancel_le_ℚ (form_at m i b p z) 0ℚ s positive
+          cancel_le_ℚ (form_at m i b p z) 0ℚ s positive
           (subst (λ y. s *ℚ form_at m i b p z ≤ℚ y) (Q.ring (s ∷ []) (lit (pos 0)) (v0 :* lit (pos 0)) refl)
           (covers_sound b p nonneg meets))

@@ -4,10 +4,11 @@ use Rattle.std.proofs.Common.{sym, ◌∙◌, ap, subst, refl, inl, inr}
 use Rattle.std.specs.Prelude.{◌≡◌, ◌≢◌, ◌⊎◌, ℕ, zero, suc, ◌+◌, ◌<◌, pos, List, [], ◌∷◌, ◌++◌, length, map, get_or}
 use Rattle.rob_algebra.specs.Fraction.{Fraction, of_int, ◌*ℚ◌, ◌≤ℚ◌, ◌<ℚ◌}
 use Rattle.rob_algebra.specs.FractionLaws as Q
+use Rattle.rob_algebra.specs.FractionOrderLaws.{le_refl_ℚ, le_total_ℚ, le_antisym_ℚ, not_lt_ℚ, add_mono_ℚ, mul_mono_ℚ}
 use Rattle.rob_algebra.specs.FractionLaws.{ℚ_ring}
 use Rattle.rob_algebra.specs.FractionLists.{AllNonneg}
 use Rattle.rob_algebra.specs.Lists.{dot, mat_vec, dot-zeros, dot-vec_mat}
-use Rattle.rob_algebra.specs.Ring.{lit, ◌:*◌, v0, v1}
+use Rattle.rob_algebra.specs.Polynomials.{lit, ◌:*◌, v0, v1}
 use Rattle.rob_meaning.proofs.AdmissionLemmas as Once
 use Rattle.rob_meaning.proofs.AdmittedLemmas.{Bounded, bounds_joint, each_from_map, length-parameters}
 use Rattle.rob_meaning.proofs.CoverLemmas.{rows_shape}
@@ -102,11 +103,11 @@ module _
 
     -- ---- the rows times weights that belong to set S alone
     none_or_some : (x : Fraction) → 0ℚ ≤ℚ x → (x ≡ 0ℚ) ⊎ (x ≢ 0ℚ)
-    none_or_some x low = by (Q.le_total_ℚ x 0ℚ)
+    none_or_some x low = by (le_total_ℚ x 0ℚ)
       where
         by : (x ≤ℚ 0ℚ) ⊎ (0ℚ <ℚ x) → (x ≡ 0ℚ) ⊎ (x ≢ 0ℚ)
-        by (inl h) = inl (Q.le_antisym_ℚ x 0ℚ h low)
-        by (inr h) = inr (λ e. Q.not_lt_ℚ x 0ℚ (subst (λ y. y ≤ℚ 0ℚ) (sym e) (Q.le_refl_ℚ 0ℚ)) h)
+        by (inl h) = inl (le_antisym_ℚ x 0ℚ h low)
+        by (inr h) = inr (λ e. not_lt_ℚ x 0ℚ (subst (λ y. y ≤ℚ 0ℚ) (sym e) (le_refl_ℚ 0ℚ)) h)
 
     weighed_row : (R : ℕ) (r : SetRow) → HoldsOwn R r → (x : Fraction) → 0ℚ ≤ℚ x → (x ≢ 0ℚ → R ≡ S) →
         x *ℚ dot ℚ_ring (map of_int (whole_row m r)) (u ++ T) ≤ℚ x *ℚ of_int (whole_limit m r)
@@ -119,9 +120,9 @@ module _
             (subst (λ y. y ≤ℚ 0ℚ *ℚ of_int (whole_limit m r))
             (Q.ring (dot ℚ_ring (map of_int (whole_row m r)) (u ++ T) ∷ of_int (whole_limit m r) ∷ [])
             (lit (pos 0) :* v1) (lit (pos 0) :* v0) refl)
-            (Q.le_refl_ℚ (0ℚ *ℚ of_int (whole_limit m r))))
+            (le_refl_ℚ (0ℚ *ℚ of_int (whole_limit m r))))
         by (inr d) =
-            Q.mul_mono_ℚ (dot ℚ_ring (map of_int (whole_row m r)) (u ++ T)) (of_int (whole_limit m r)) x
+            mul_mono_ℚ (dot ℚ_ring (map of_int (whole_row m r)) (u ++ T)) (of_int (whole_limit m r)) x
             (subst (λ y. dot ℚ_ring (map of_int (whole_row m r)) (u ++ T) ≤ℚ y) (Q.ℚ-one-mul (of_int (whole_limit m r)))
             (whole_in m 1ℚ u T length-u (length-lifts m 1ℚ u m.set_lines) r (holds (own d))).at_most)
             low
@@ -130,12 +131,12 @@ module _
         ((i : ℕ) → at ws i ≢ 0ℚ → get_or Rs i 0 ≡ S) →
         dot ℚ_ring ws (mat_vec ℚ_ring (map (λ (r : SetRow). map of_int (whole_row m r)) rs) (u ++ T))
         ≤ℚ dot ℚ_ring ws (map (λ (r : SetRow). of_int (whole_limit m r)) rs)
-    weighed [] Rs rs low h own = Q.le_refl_ℚ 0ℚ
-    weighed (x ∷ ws) [] [] low h own = Q.le_refl_ℚ 0ℚ
+    weighed [] Rs rs low h own = le_refl_ℚ 0ℚ
+    weighed (x ∷ ws) [] [] low h own = le_refl_ℚ 0ℚ
     weighed (x ∷ ws) [] (r ∷ rs) low h own = absurd h
     weighed (x ∷ ws) (R ∷ Rs) [] low h own = absurd h
     weighed (x ∷ ws) (R ∷ Rs) (r ∷ rs) low h own =
-        Q.add_mono_ℚ (x *ℚ dot ℚ_ring (map of_int (whole_row m r)) (u ++ T)) (x *ℚ of_int (whole_limit m r))
+        add_mono_ℚ (x *ℚ dot ℚ_ring (map of_int (whole_row m r)) (u ++ T)) (x *ℚ of_int (whole_limit m r))
         (dot ℚ_ring ws (mat_vec ℚ_ring (map (λ (r : SetRow). map of_int (whole_row m r)) rs) (u ++ T)))
         (dot ℚ_ring ws (map (λ (r : SetRow). of_int (whole_limit m r)) rs))
         (weighed_row R r h.0 x low.0 (own zero))
@@ -148,7 +149,7 @@ own_point m v = in_each_set m v ++ lifts_of m 1ℚ (in_each_set m v) m.set_lines
 pub shows_empty_in : (m : RobustModel) → IsModel m → (S : ℕ) (weights : List Fraction) → ShowsEmptyIn m S weights →
     IsEmptyIn m S
 shows_empty_in m model S weights w v admitted =
-    Q.not_lt_ℚ 0ℚ (dot ℚ_ring weights (set_limits m))
+    not_lt_ℚ 0ℚ (dot ℚ_ring weights (set_limits m))
     (subst (λ y. y ≤ℚ dot ℚ_ring weights (set_limits m)) left_side
     (weighed m model S w.is_set v admitted weights (set_row_sets m) (set_rows m) w.shows.nonnegative
     (own_rows_hold m model S w.is_set v admitted) w.own))

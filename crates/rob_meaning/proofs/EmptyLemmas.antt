@@ -3,6 +3,7 @@ use Rattle.std.proofs.Common.{sym, ◌∙◌, ap, subst}
 use Rattle.std.specs.Prelude.{◌≡◌, List, ◌++◌}
 use Rattle.rob_algebra.specs.Fraction.{Fraction, ◌≤ℚ◌}
 use Rattle.rob_algebra.specs.FractionLaws as Q
+use Rattle.rob_algebra.specs.FractionOrderLaws.{not_lt_ℚ}
 use Rattle.rob_algebra.specs.FractionLaws.{ℚ_ring}
 use Rattle.rob_algebra.specs.Lists.{dot, scale, mat_vec, dot-zeros, dot-vec_mat}
 use Rattle.rob_meaning.proofs.AdmittedLemmas.{admits_meets}
@@ -20,7 +21,7 @@ module _ (m : RobustModel) (model : IsModel m) (weights : List Fraction) (w : Sh
   -- the set rows times the weights would say that 0 is at most a negative number
   no_lifted : (u : List Fraction) → IsLifted m 1ℚ u → ⊥
   no_lifted u a =
-      Q.not_lt_ℚ 0ℚ (dot ℚ_ring weights (set_limits m))
+      not_lt_ℚ 0ℚ (dot ℚ_ring weights (set_limits m))
       (subst (λ y. y ≤ℚ dot ℚ_ring weights (set_limits m)) left_side
       (subst (λ y. dot ℚ_ring weights (mat_vec ℚ_ring (set_matrix m) (u ++ a.lifts)) ≤ℚ y)
       (dot-scale_right 1ℚ weights (set_limits m) ∙ Q.ℚ-one-mul (dot ℚ_ring weights (set_limits m)))

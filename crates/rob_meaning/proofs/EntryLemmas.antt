@@ -3,7 +3,7 @@ use Rattle.std.proofs.Common.{sym, ◌∙◌, ap, ap₂}
 use Rattle.std.specs.Prelude.{◌≡◌, ℕ, zero, suc, pos, [], ◌∷◌, refl}
 use Rattle.rob_algebra.specs.Fraction.{Fraction, ◌+ℚ◌, ◌-ℚ◌, ◌*ℚ◌}
 use Rattle.rob_algebra.specs.FractionLaws as Q
-use Rattle.rob_algebra.specs.Ring.{lit, ◌:+◌, ◌:-◌, ◌:*◌, v0, v1, v2, v3}
+use Rattle.rob_algebra.specs.Polynomials.{lit, ◌:+◌, ◌:-◌, ◌:*◌, v0, v1, v2, v3}
 use Rattle.rob_meaning.proofs.TableLemmas.{value-table}
 use Rattle.rob_meaning.specs.Coefficients.{table, unit_list}
 use Rattle.rob_meaning.specs.Degrees.{IsLinear}

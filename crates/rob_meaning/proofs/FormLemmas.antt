@@ -2,9 +2,9 @@
 use Rattle.std.specs.Prelude.{◌≡◌, ℕ, zero, suc, ◌+◌, ◌≤◌, pos, List, [], ◌∷◌, ◌++◌, length, refl, Option, Some, None}
 use Rattle.std.proofs.Common.{sym, subst, arith}
 use Rattle.rob_algebra.specs.Fraction.{Fraction, ◌+ℚ◌, neg_ℚ, ◌≤ℚ◌}
-use Rattle.rob_algebra.specs.FractionLaws as Q
+use Rattle.rob_algebra.specs.FractionOrderLaws as Q
 use Rattle.rob_algebra.specs.FractionLaws.{ℚ_ring}
-use Rattle.rob_algebra.specs.Ring.{lit, minus, ◌:+◌, v0, v1}
+use Rattle.rob_algebra.specs.Polynomials.{lit, minus, ◌:+◌, v0, v1}
 use Rattle.rob_meaning.proofs.EachLemmas.{each_append, each_left, each_right}
 use Rattle.rob_meaning.proofs.LinearLemmas.{le_by}
 use Rattle.rob_meaning.proofs.TauLemmas.{at-end, value_more, variable_more, rule_more}

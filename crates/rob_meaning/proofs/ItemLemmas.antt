@@ -3,10 +3,11 @@ use Rattle.std.specs.Prelude.{◌≡◌, ℕ, ℤ, pos, List, [], ◌∷◌, len
 use Rattle.std.proofs.Common.{sym, ◌∙◌, ap, ap₂, subst, inl, inr}
 use Rattle.rob_algebra.specs.Fraction.{Fraction, ◌+ℚ◌, ◌-ℚ◌, ◌*ℚ◌, inv_ℚ, ◌≤ℚ◌, ◌<ℚ◌}
 use Rattle.rob_algebra.specs.FractionLaws as Q
+use Rattle.rob_algebra.specs.FractionOrderLaws.{le_refl_ℚ, le_total_ℚ, le_antisym_ℚ, not_lt_ℚ, le_of_lt_ℚ, mul_nonneg_ℚ, le_two, cancel_le_ℚ}
 use Rattle.rob_algebra.specs.FractionLaws.{ℚ_ring}
 use Rattle.rob_algebra.specs.Lists.{dot, scale, plus_all, zeros, mat_vec, Rows, dot-zeros, dot-vec_mat, length-scale, length-zeros, length-vec_mat}
-use Rattle.rob_algebra.specs.Ring as Solver
-use Rattle.rob_algebra.specs.Ring.{lit, minus, ◌:+◌, ◌:-◌, ◌:*◌, v0, v1, v2, v3, v4, v5}
+use Rattle.rob_algebra.specs.RingSolver as Solver
+use Rattle.rob_algebra.specs.Polynomials.{lit, minus, ◌:+◌, ◌:-◌, ◌:*◌, v0, v1, v2, v3, v4, v5}
 use Rattle.rob_meaning.proofs.AtLemmas.{sum_at-plus, sum_at-scale}
 use Rattle.rob_meaning.proofs.ClearingLemmas.{dot-append}
 use Rattle.rob_meaning.proofs.ConeLemmas.{along_ray}
@@ -30,7 +31,7 @@ module _
     multiple_at : (s : Fraction) (p : List Fraction) → 0ℚ <ℚ s → Admits m (scale ℚ_ring (inv_ℚ s) p) →
         sum_at a s p z ≤ℚ 0ℚ
     multiple_at s p some admitted =
-        Q.cancel_le_ℚ (sum_at a s p z) 0ℚ (inv_ℚ s) (inv_pos s some)
+        cancel_le_ℚ (sum_at a s p z) 0ℚ (inv_ℚ s) (inv_pos s some)
         (subst (λ y. inv_ℚ s *ℚ sum_at a s p z ≤ℚ y) (Q.ring (inv_ℚ s ∷ []) (lit (pos 0)) (v0 :* lit (pos 0)) refl)
         (subst (λ y. y ≤ℚ 0ℚ) (ap (λ y. sum_at a y (scale ℚ_ring (inv_ℚ s) p) z)
         (sym (Q.ℚ-mul_comm (inv_ℚ s) s ∙ Q.mul_inv s (pos_some s some))) ∙ sum_at-scale a (inv_ℚ s) s p z)
@@ -51,12 +52,12 @@ module _
         one = Q.ring (t ∷ []) (lit (pos 1) :+ v0 :* lit (pos 0)) (lit (pos 1)) refl
 
     ray_at : (inside ray : List Fraction) → Admits m inside → IsRay m ray → sum_at a 0ℚ ray z ≤ℚ 0ℚ
-    ray_at inside ray admitted is_ray = by (Q.le_total_ℚ (sum_at a 0ℚ ray z) 0ℚ)
+    ray_at inside ray admitted is_ray = by (le_total_ℚ (sum_at a 0ℚ ray z) 0ℚ)
       where
         by : (sum_at a 0ℚ ray z ≤ℚ 0ℚ) ⊎ (0ℚ <ℚ sum_at a 0ℚ ray z) → sum_at a 0ℚ ray z ≤ℚ 0ℚ
         by (inl h) = h
         by (inr h) =
-            absurd (Q.not_lt_ℚ 1ℚ 0ℚ
+            absurd (not_lt_ℚ 1ℚ 0ℚ
             (subst (λ y. y ≤ℚ 0ℚ) (grows (sum_at a 1ℚ inside z) (sum_at a 0ℚ ray z) h)
             (far inside ray ((1ℚ -ℚ sum_at a 1ℚ inside z) *ℚ inv_ℚ (sum_at a 0ℚ ray z)) admitted is_ray
             (long (sum_at a 1ℚ inside z) (sum_at a 0ℚ ray z) (all inside admitted) h)))
@@ -69,10 +70,10 @@ module _
 
             long : (c x : Fraction) → c ≤ℚ 0ℚ → 0ℚ <ℚ x → 0ℚ ≤ℚ (1ℚ -ℚ c) *ℚ inv_ℚ x
             long c x h k =
-                Q.mul_nonneg_ℚ (1ℚ -ℚ c) (inv_ℚ x)
-                (Q.le_two (c ∷ []) (lit (pos 0)) (lit (pos 1) :- v0) (lit (pos 1)) v0 (lit (pos 0)) (lit (pos 1))
+                mul_nonneg_ℚ (1ℚ -ℚ c) (inv_ℚ x)
+                (le_two (c ∷ []) (lit (pos 0)) (lit (pos 1) :- v0) (lit (pos 1)) v0 (lit (pos 0)) (lit (pos 1))
                 (lit (pos 0)) (lit (pos 1)) refl zero_le_one h zero_le_one zero_le_one)
-                (Q.le_of_lt_ℚ 0ℚ (inv_ℚ x) (inv_pos x k))
+                (le_of_lt_ℚ 0ℚ (inv_ℚ x) (inv_pos x k))
 
     pub taken_at : (inside : List Fraction) → Admits m inside → (s : Fraction) (p : List Fraction) → IsTaken m s p →
         sum_at a s p z ≤ℚ 0ℚ
@@ -114,26 +115,26 @@ module _ (m : RobustModel) where
   -- each item at most 0, with positive weights
   pub weighted_nonpositive : (z : List Fraction) (items : List Item) → Each (IsItem m) items →
       Each (λ item. item_at z item ≤ℚ 0ℚ) items → weighted z items ≤ℚ 0ℚ
-  weighted_nonpositive z [] h k = Q.le_refl_ℚ 0ℚ
+  weighted_nonpositive z [] h k = le_refl_ℚ 0ℚ
   weighted_nonpositive z (item ∷ items) h k =
-      Q.le_two (item.weight ∷ item_at z item ∷ weighted z items ∷ []) (v0 :* v1 :+ v2) (lit (pos 0)) v0 v1 (lit (pos 0))
+      le_two (item.weight ∷ item_at z item ∷ weighted z items ∷ []) (v0 :* v1 :+ v2) (lit (pos 0)) v0 v1 (lit (pos 0))
       (lit (pos 1)) v2 (lit (pos 0)) refl
-      (Q.le_of_lt_ℚ 0ℚ item.weight h.0.weight) k.0 zero_le_one (weighted_nonpositive z items h.1 k.1)
+      (le_of_lt_ℚ 0ℚ item.weight h.0.weight) k.0 zero_le_one (weighted_nonpositive z items h.1 k.1)
 
   -- where the sum is not below 0, each item is 0
   pub weighted_tight : (z : List Fraction) (items : List Item) → Each (IsItem m) items →
       Each (λ item. item_at z item ≤ℚ 0ℚ) items → 0ℚ ≤ℚ weighted z items → Each (λ item. item_at z item ≡ 0ℚ) items
   weighted_tight z [] h k s = tt
   weighted_tight z (item ∷ items) h k s = (
-    Q.le_antisym_ℚ (item_at z item) 0ℚ k.0
-        (Q.cancel_le_ℚ 0ℚ (item_at z item) item.weight h.0.weight
-        (Q.le_two (item.weight ∷ item_at z item ∷ weighted z items ∷ []) (v0 :* lit (pos 0)) (v0 :* v1) (lit (pos 1))
+    le_antisym_ℚ (item_at z item) 0ℚ k.0
+        (cancel_le_ℚ 0ℚ (item_at z item) item.weight h.0.weight
+        (le_two (item.weight ∷ item_at z item ∷ weighted z items ∷ []) (v0 :* lit (pos 0)) (v0 :* v1) (lit (pos 1))
         (lit (pos 0)) (v0 :* v1 :+ v2) (lit (pos 1)) v2 (lit (pos 0)) refl
         zero_le_one s zero_le_one (weighted_nonpositive z items h.1 k.1))),
     weighted_tight z items h.1 k.1
-        (Q.le_two (item.weight ∷ item_at z item ∷ weighted z items ∷ []) (lit (pos 0)) v2 (lit (pos 1)) (lit (pos 0))
+        (le_two (item.weight ∷ item_at z item ∷ weighted z items ∷ []) (lit (pos 0)) v2 (lit (pos 1)) (lit (pos 0))
         (v0 :* v1 :+ v2) v0 v1 (lit (pos 0)) refl
-        zero_le_one s (Q.le_of_lt_ℚ 0ℚ item.weight h.0.weight) k.0),
+        zero_le_one s (le_of_lt_ℚ 0ℚ item.weight h.0.weight) k.0),
   )
 
 -- the first and the last number alone

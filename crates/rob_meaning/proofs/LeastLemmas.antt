@@ -4,10 +4,11 @@ use Rattle.std.proofs.Common.{sym, ◌∙◌, ap, subst}
 use Rattle.std.proofs.lemmas.Nat.Gcd.{dvd_refl, le_of_dvd}
 use Rattle.std.proofs.Math.Nat.{dvd-mul_left, div-mul_cancel, mul_assoc, mul_comm, one-dvd, mul-dvd-mul_left, mul-div_cancel}
 use Prim.Native.Nat.{◌∣◌}
-use Rattle.rob_algebra.specs.Fraction.{Fraction, coprime, Is, is_int, is_mul, is_self, is_same, nat_abs-times}
+use Rattle.rob_algebra.specs.Fraction.{Fraction, coprime}
+use Rattle.rob_algebra.specs.FractionPairs.{Is, is_int, is_mul, is_self, is_same, nat_abs-times}
 use Rattle.rob_algebra.specs.Gcd.{gcd, gauss, gcd_comm, gcd_pos, gcd-div_left, gcd-div_right, gcd-reduced}
 use Rattle.rob_algebra.specs.IntRing as Z
-use Rattle.rob_algebra.specs.Ring.{lit, ◌:*◌, v0, v1, v2, v3}
+use Rattle.rob_algebra.specs.Polynomials.{lit, ◌:*◌, v0, v1, v2, v3}
 use Rattle.rob_meaning.proofs.ClearingLemmas.{denominator_pos, each_divides, whole_at-is}
 use Rattle.rob_meaning.specs.Clearing.{MakesWhole, denominator, lcm, whole_at}
 use Rattle.rob_meaning.specs.Places.{Each}

@@ -2,17 +2,20 @@
 use Rattle.std.specs.Prelude.{◌≡◌, pos, List, []}
 use Rattle.std.proofs.Common.{arith, sym, subst}
 use Rattle.std.proofs.lemmas.Int.{ints}
-use Rattle.rob_algebra.specs.Fraction.{Fraction, ◌≤ℚ◌, ◌<ℚ◌, is_int}
-use Rattle.rob_algebra.specs.FractionLaws as Q
+use Rattle.rob_algebra.specs.Fraction.{Fraction, ◌≤ℚ◌, ◌<ℚ◌}
+use Rattle.rob_algebra.specs.FractionPairs.{is_int}
+use Rattle.rob_algebra.specs.FractionOrderLaws as Q
+use Rattle.rob_algebra.specs.PairOrder.{is_pos_in}
 use Rattle.rob_algebra.specs.FractionLaws.{ℚ_ring}
-use Rattle.rob_algebra.specs.Ring.{Expr, norm, eval, lit, ◌:-◌, ◌:*◌}
+use Rattle.rob_algebra.specs.Polynomials.{Expr, norm, lit, ◌:-◌, ◌:*◌}
+use Rattle.rob_algebra.specs.RingSolver.{eval}
 use Rattle.rob_meaning.specs.Places.{0ℚ, 1ℚ}
 
 pub zero_le_one : 0ℚ ≤ℚ 1ℚ
 zero_le_one = Q.int_nonneg (pos 1) (omega (arith, ints))
 
 pub zero_lt_one : 0ℚ <ℚ 1ℚ
-zero_lt_one = Q.is_pos_in (is_int (pos 1)) (omega (arith, ints))
+zero_lt_one = is_pos_in (is_int (pos 1)) (omega (arith, ints))
 
 -- r - l is q - p
 pub le_by : (ρ : List Fraction) (l r p q : Expr) → norm (r :- l :- lit (pos 1) :* (q :- p)) ≡ [] →

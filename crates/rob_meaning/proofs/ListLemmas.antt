@@ -5,7 +5,7 @@ use Rattle.rob_algebra.specs.Fraction.{Fraction, ◌+ℚ◌, ◌*ℚ◌}
 use Rattle.rob_algebra.specs.FractionLaws as Q
 use Rattle.rob_algebra.specs.FractionLaws.{ℚ_ring}
 use Rattle.rob_algebra.specs.Lists.{scale, plus_all, zeros}
-use Rattle.rob_algebra.specs.Ring.{lit, ◌:*◌, v0}
+use Rattle.rob_algebra.specs.Polynomials.{lit, ◌:*◌, v0}
 use Rattle.rob_meaning.proofs.AlongLemmas.{suc_same}
 use Rattle.rob_meaning.specs.Places.{0ℚ, at, tabulate}
 

@@ -4,9 +4,10 @@ use Rattle.std.proofs.Common.{◌∙◌, ap, ap₂, subst, sym, arith}
 use Rattle.std.proofs.lemmas.List.{length-map}
 use Rattle.rob_algebra.specs.Fraction.{Fraction, of_int, ◌+ℚ◌, ◌*ℚ◌, ◌≤ℚ◌, ◌<ℚ◌}
 use Rattle.rob_algebra.specs.FractionLaws as Q
+use Rattle.rob_algebra.specs.FractionOrderLaws.{le_of_lt_ℚ, le_one, cancel_le_ℚ}
 use Rattle.rob_algebra.specs.FractionLaws.{ℚ_ring}
 use Rattle.rob_algebra.specs.Lists.{dot, scale, plus_all, mat_vec, Rows, dot_comm, dot-scale, dot-plus}
-use Rattle.rob_algebra.specs.Ring.{lit, ◌:*◌, v0, v1}
+use Rattle.rob_algebra.specs.Polynomials.{lit, ◌:*◌, v0, v1}
 use Rattle.rob_meaning.proofs.ClearingLemmas.{mat_vec-cleared, denominator_pos, multiplier_pos, dot-tabulate, length-tabulate}
 use Rattle.rob_meaning.proofs.LinearLemmas.{le_along, along_le}
 use Rattle.rob_meaning.proofs.TableLemmas.{value-table}
@@ -85,16 +86,16 @@ module _ (m : RobustModel) where
       value m columns u e ≤ℚ 0ℚ → sum_at (matrix_of m e) 1ℚ u (1ℚ ∷ columns) ≤ℚ 0ℚ
   sum_in e u columns linear hu hc h =
       le_along (value_sum e u columns linear hu hc)
-      (Q.le_one (of_int (pos (denominator (entries (entries_of m (table m e))))) ∷ value m columns u e ∷ []) (v0 :* v1)
+      (le_one (of_int (pos (denominator (entries (entries_of m (table m e))))) ∷ value m columns u e ∷ []) (v0 :* v1)
       (lit (pos 0)) v0 v1 (lit (pos 0)) refl
-      (Q.le_of_lt_ℚ 0ℚ (of_int (pos (denominator (entries (entries_of m (table m e)))))) (multiplier_positive e)) h)
+      (le_of_lt_ℚ 0ℚ (of_int (pos (denominator (entries (entries_of m (table m e)))))) (multiplier_positive e)) h)
 
   pub sum_out : (e : Expression) (u columns : List Fraction) → IsLinear m e → length u ≡ length m.parameters →
       length columns ≡ suc (column_count m) →
       sum_at (matrix_of m e) 1ℚ u (1ℚ ∷ columns) ≤ℚ 0ℚ → value m columns u e ≤ℚ 0ℚ
   sum_out e u columns linear hu hc h =
       let d = of_int (pos (denominator (entries (entries_of m (table m e))))) in
-      Q.cancel_le_ℚ (value m columns u e) 0ℚ d (multiplier_positive e)
+      cancel_le_ℚ (value m columns u e) 0ℚ d (multiplier_positive e)
       (subst (λ z. d *ℚ value m columns u e ≤ℚ z) (Q.ring (d ∷ []) (lit (pos 0)) (v0 :* lit (pos 0)) refl)
       (along_le (value_sum e u columns linear hu hc) h))
 

@@ -9,7 +9,7 @@ use Rattle.rob_algebra.specs.Fraction.{Fraction, ◌+ℚ◌, ◌*ℚ◌, neg_ℚ
 use Rattle.rob_algebra.specs.FractionLaws as Q
 use Rattle.rob_algebra.proofs.Parts.{of_int-parts}
 use Rattle.rob_algebra.specs.Integer.{zero-mul}
-use Rattle.rob_algebra.specs.Ring.{lit, minus, ◌:+◌, ◌:*◌, v0}
+use Rattle.rob_algebra.specs.Polynomials.{lit, minus, ◌:+◌, ◌:*◌, v0}
 use Rattle.rob_meaning.proofs.AdmittedLemmas.{each_from_map, length-parameters}
 use Rattle.rob_meaning.proofs.ClearingLemmas.{length-tabulate}
 use Rattle.rob_meaning.proofs.JointScenarioLemmas.{at-right}

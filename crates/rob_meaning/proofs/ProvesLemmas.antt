@@ -3,10 +3,11 @@ use Rattle.std.specs.Prelude.{◌≡◌, ℕ, suc, ◌<◌, pos, negsuc, List, [
 use Rattle.std.proofs.Common.{sym, ◌∙◌, ap, ap₂, subst, inl, inr}
 use Rattle.rob_algebra.specs.Fraction.{Fraction, of_int, ◌+ℚ◌, ◌-ℚ◌, ◌*ℚ◌, inv_ℚ, neg_ℚ, ◌≤ℚ◌, ◌<ℚ◌}
 use Rattle.rob_algebra.specs.FractionLaws as Q
+use Rattle.rob_algebra.specs.FractionOrderLaws.{le_refl_ℚ, le_total_ℚ, not_lt_ℚ, le_of_lt_ℚ, nonneg_sub_ℚ, pos_sub_ℚ, mul_nonneg_ℚ, lt_from, le_two}
 use Rattle.rob_algebra.specs.FractionLaws.{ℚ_ring}
 use Rattle.rob_algebra.specs.Lists.{dot, scale, plus_all, length-scale, length-plus_all}
-use Rattle.rob_algebra.specs.Ring as Solver
-use Rattle.rob_algebra.specs.Ring.{lit, minus, ◌:+◌, ◌:-◌, ◌:*◌, v0, v1, v2, v3, v4, v5}
+use Rattle.rob_algebra.specs.RingSolver as Solver
+use Rattle.rob_algebra.specs.Polynomials.{lit, minus, ◌:+◌, ◌:-◌, ◌:*◌, v0, v1, v2, v3, v4, v5}
 use Rattle.rob_meaning.proofs.AdmittedLemmas.{admits_meets}
 use Rattle.rob_meaning.proofs.AlongLemmas.{suc_same}
 use Rattle.rob_meaning.proofs.AtLemmas.{bound_at, at_bound, sum_at-plus_plan, sum_at-scale_plan}
@@ -77,7 +78,7 @@ Reach sense v d t = IsNoWorse sense v t ⊎ ((c : Fraction) × ((0ℚ ≤ℚ c) 
 
 reach : (sense : Sense) (v d t : Fraction) → Improves sense d → Reach sense v d t
 unfolding Reach
-reach minimise v d t h = by (Q.le_total_ℚ v t)
+reach minimise v d t h = by (le_total_ℚ v t)
   where
     by : (v ≤ℚ t) ⊎ (t <ℚ v) → Reach minimise v d t
     by (inl k) = inl k
@@ -85,16 +86,16 @@ reach minimise v d t h = by (Q.le_total_ℚ v t)
         inr (
           (v -ℚ t) *ℚ inv_ℚ (neg_ℚ d),
           (
-            Q.mul_nonneg_ℚ (v -ℚ t) (inv_ℚ (neg_ℚ d)) (Q.nonneg_sub_ℚ t v (Q.le_of_lt_ℚ t v k))
-                (Q.le_of_lt_ℚ 0ℚ (inv_ℚ (neg_ℚ d)) (inv_pos (neg_ℚ d) some)),
+            mul_nonneg_ℚ (v -ℚ t) (inv_ℚ (neg_ℚ d)) (nonneg_sub_ℚ t v (le_of_lt_ℚ t v k))
+                (le_of_lt_ℚ 0ℚ (inv_ℚ (neg_ℚ d)) (inv_pos (neg_ℚ d) some)),
             Solver.from_one ℚ_ring (v ∷ t ∷ d ∷ inv_ℚ (neg_ℚ d) ∷ []) (v0 :+ (v0 :- v1) :* v3 :* v2) v1 (v1 :- v0)
                 (minus v2 :* v3) (lit (pos 1)) refl (Q.mul_inv (neg_ℚ d) (pos_some (neg_ℚ d) some)),
           ),
         )
       where
         some : 0ℚ <ℚ neg_ℚ d
-        some = Q.lt_from (d ∷ []) (lit (pos 0)) (minus v0) (lit (pos 0) :- v0) refl (Q.pos_sub_ℚ d 0ℚ h)
-reach maximise v d t h = by (Q.le_total_ℚ t v)
+        some = lt_from (d ∷ []) (lit (pos 0)) (minus v0) (lit (pos 0) :- v0) refl (pos_sub_ℚ d 0ℚ h)
+reach maximise v d t h = by (le_total_ℚ t v)
   where
     by : (t ≤ℚ v) ⊎ (v <ℚ t) → Reach maximise v d t
     by (inl k) = inl k
@@ -102,8 +103,8 @@ reach maximise v d t h = by (Q.le_total_ℚ t v)
         inr (
           (t -ℚ v) *ℚ inv_ℚ d,
           (
-            Q.mul_nonneg_ℚ (t -ℚ v) (inv_ℚ d) (Q.nonneg_sub_ℚ v t (Q.le_of_lt_ℚ v t k))
-                (Q.le_of_lt_ℚ 0ℚ (inv_ℚ d) (inv_pos d h)),
+            mul_nonneg_ℚ (t -ℚ v) (inv_ℚ d) (nonneg_sub_ℚ v t (le_of_lt_ℚ v t k))
+                (le_of_lt_ℚ 0ℚ (inv_ℚ d) (inv_pos d h)),
             Solver.from_one ℚ_ring (v ∷ t ∷ d ∷ inv_ℚ d ∷ []) (v0 :+ (v1 :- v0) :* v3 :* v2) v1 (v1 :- v0) (v2 :* v3)
                 (lit (pos 1)) refl (Q.mul_inv d (pos_some d h)),
           ),
@@ -151,7 +152,7 @@ module _ (m : RobustModel) (model : IsModel m) where
 
   pub proves_infeasible : (c : Certificate) → ProvesInfeasible m c → IsInfeasible m
   proves_infeasible c h plan tau b =
-      Q.not_lt_ℚ h.constant 0ℚ
+      not_lt_ℚ h.constant 0ℚ
       (le_by (h.constant ∷ tau ∷ []) v0 (lit (pos 0)) (v0 :* lit (pos 1) :+ lit (pos 0) :* v1) (lit (pos 0)) refl
       (subst (λ y. y ≤ℚ 0ℚ) (ends (column_count m) h.constant 0ℚ 1ℚ tau plan b.columns)
       (subst (λ (xs : List Fraction). dot ℚ_ring xs (plan_vector 1ℚ plan tau) ≤ℚ 0ℚ) h.sums
@@ -168,7 +169,7 @@ module _ (m : RobustModel) (model : IsModel m) where
       (sym (sym (combination-sum m (plan_vector 1ℚ c.plan c.value) c.items)
       ∙ ap (λ (xs : List Fraction). dot ℚ_ring xs (plan_vector 1ℚ c.plan c.value)) h.sums
       ∙ target_zero m.sense (column_count m) c.value c.plan h.columns))
-      (Q.le_refl_ℚ 0ℚ))
+      (le_refl_ℚ 0ℚ))
 
   -- the plan moved along the step, any number of times
   moved_bound : (c : Certificate) → ProvesUnbounded m c → (times : Fraction) → 0ℚ ≤ℚ times →
@@ -188,7 +189,7 @@ module _ (m : RobustModel) (model : IsModel m) where
       (subst (λ y. y ≤ℚ 0ℚ)
       (sym (sum_at-plus_plan a 1ℚ u z (scale ℚ_ring times w) (same_length c h times)
       ∙ ap (λ y. sum_at a 1ℚ u z +ℚ y) (sum_at-scale_plan a 1ℚ times u w)))
-      (Q.le_two (sum_at a 1ℚ u z ∷ times ∷ sum_at a 1ℚ u w ∷ []) (v0 :+ v1 :* v2) (lit (pos 0)) (lit (pos 1)) v0
+      (le_two (sum_at a 1ℚ u z ∷ times ∷ sum_at a 1ℚ u w ∷ []) (v0 :+ v1 :* v2) (lit (pos 0)) (lit (pos 1)) v0
       (lit (pos 0)) v1 v2 (lit (pos 0)) refl zero_le_one
       (covered c.covers c.scale z h.scale h.covered u admitted i k) some
       (covered c.holds 1ℚ w zero_lt_one h.held u admitted i k)))))

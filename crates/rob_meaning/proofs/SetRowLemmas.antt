@@ -3,8 +3,9 @@ use Rattle.std.specs.Prelude.{◌≡◌, ℕ, zero, suc, ◌+◌, ◌*◌, pos, 
 use Rattle.std.proofs.Common.{sym, ◌∙◌, ap, ap₂, subst, arith, append_assoc, length-append}
 use Rattle.rob_algebra.specs.Fraction.{Fraction, ◌+ℚ◌, ◌-ℚ◌, ◌*ℚ◌, neg_ℚ, ◌≤ℚ◌, ◌<ℚ◌}
 use Rattle.rob_algebra.specs.FractionLaws as Q
+use Rattle.rob_algebra.specs.FractionOrderLaws.{le_refl_ℚ, le_antisym_ℚ, add_mono_ℚ, le_trans_ℚ}
 use Rattle.rob_algebra.specs.FractionLaws.{ℚ_ring}
-use Rattle.rob_algebra.specs.Ring.{lit, minus, ◌:+◌, ◌:-◌, ◌:*◌, v0, v1, v2, v3, v4}
+use Rattle.rob_algebra.specs.Polynomials.{lit, minus, ◌:+◌, ◌:-◌, ◌:*◌, v0, v1, v2, v3, v4}
 use Rattle.rob_meaning.proofs.AlongLemmas.{along-zero, along-same, along-unit, along-neg, along-plus, along-scale}
 use Rattle.rob_meaning.proofs.EachLemmas.{each_append, each_left, each_right, declared}
 use Rattle.rob_meaning.proofs.LinearLemmas.{le_by, le_along, along_le}
@@ -149,8 +150,8 @@ module _ (m : RobustModel) (s : Fraction) (p : List Fraction) where
     sides_in l at_most r a b h = (line_in l r a b h, tt)
     sides_in l at_least r a b h = (line_in r l b a h, tt)
     sides_in l equal r a b h = (
-      line_in l r a b (subst (λ z. taken m s p l ≤ℚ z) h (Q.le_refl_ℚ (taken m s p l))),
-      (line_in r l b a (subst (λ z. z ≤ℚ taken m s p l) h (Q.le_refl_ℚ (taken m s p l))), tt),
+      line_in l r a b (subst (λ z. taken m s p l ≤ℚ z) h (le_refl_ℚ (taken m s p l))),
+      (line_in r l b a (subst (λ z. z ≤ℚ taken m s p l) h (le_refl_ℚ (taken m s p l))), tt),
     )
 
     sides_out : (l : Expression) (relation : Relation) (r : Expression) → IsLinear m l → IsLinear m r →
@@ -159,7 +160,7 @@ module _ (m : RobustModel) (s : Fraction) (p : List Fraction) where
     sides_out l at_most r a b h = line_out l r a b h.0
     sides_out l at_least r a b h = line_out r l b a h.0
     sides_out l equal r a b h =
-        Q.le_antisym_ℚ (taken m s p l) (taken m s p r) (line_out l r a b h.0) (line_out r l b a h.1.0)
+        le_antisym_ℚ (taken m s p l) (taken m s p r) (line_out l r a b h.0) (line_out r l b a h.1.0)
 
     -- ---- budgets
     up_sum : (h : Member) (t : ℕ) →
@@ -223,10 +224,10 @@ module _ (m : RobustModel) (s : Fraction) (p : List Fraction) where
 
     total_le : (t : ℕ) (hs : List Member) → Each (IsMember m) hs → Each (RowHolds s p T) (member_rows t hs) →
         total_taken m s p hs ≤ℚ along (members_sum t hs) T
-    total_le t [] ok d = subst (λ z. 0ℚ ≤ℚ z) (sym (along-zero T)) (Q.le_refl_ℚ 0ℚ)
+    total_le t [] ok d = subst (λ z. 0ℚ ≤ℚ z) (sym (along-zero T)) (le_refl_ℚ 0ℚ)
     total_le t (h ∷ hs) ok d =
         subst (λ z. total_taken m s p (h ∷ hs) ≤ℚ z) (sym (members-sum t h hs))
-        (Q.add_mono_ℚ (taken_deviation m s p h) (at T t) (total_taken m s p hs) (along (members_sum (suc t) hs) T)
+        (add_mono_ℚ (taken_deviation m s p h) (at T t) (total_taken m s p hs) (along (members_sum (suc t) hs) T)
         (div_le (abs_ℚ (at p h.parameter -ℚ s *ℚ h.centre)) h.deviation (at T t) ok.0.1
         (abs_least (at p h.parameter -ℚ s *ℚ h.centre) (h.deviation *ℚ at T t)
         (le_by (at p h.parameter ∷ s ∷ h.centre ∷ h.deviation ∷ at T t ∷ []) (v0 :- v1 :* v2) (v3 :* v4)
@@ -270,7 +271,7 @@ module _ (m : RobustModel) (s : Fraction) (p : List Fraction) where
         let right =
         each_right (RowHolds s p T) (member_rows t hs)
         (budget_row t limit hs ∷ statement_rows m (length hs + t) rest) h in (
-          Q.le_trans_ℚ (total_taken m s p hs) (along (members_sum t hs) T) (s *ℚ limit)
+          le_trans_ℚ (total_taken m s p hs) (along (members_sum t hs) T) (s *ℚ limit)
               (total_le t hs ok.0 (each_left (RowHolds s p T) (member_rows t hs)
               (budget_row t limit hs ∷ statement_rows m (length hs + t) rest) h))
               (along_le (zero_sum (along (members_sum t hs) T)) right.0.at_most),

@@ -2,8 +2,8 @@
 use Rattle.std.specs.Prelude.{◌≡◌, pos, List, [], ◌∷◌, refl}
 use Rattle.std.proofs.Common.{subst}
 use Rattle.rob_algebra.specs.Fraction.{Fraction, ◌+ℚ◌, ◌-ℚ◌}
-use Rattle.rob_algebra.specs.FractionLaws as Q
-use Rattle.rob_algebra.specs.Ring.{lit, ◌:+◌, ◌:-◌, v0}
+use Rattle.rob_algebra.specs.FractionOrderLaws as Q
+use Rattle.rob_algebra.specs.Polynomials.{lit, ◌:+◌, ◌:-◌, v0}
 use Rattle.rob_meaning.proofs.LinearLemmas.{zero_lt_one}
 use Rattle.rob_meaning.specs.Guarantee.{HasWorstCase, HasBound, IsNoWorse, KeepsIn}
 use Rattle.rob_meaning.specs.Places.{0ℚ, 1ℚ}

@@ -3,7 +3,7 @@ use Rattle.std.specs.Prelude.{◌≡◌, ℕ, zero, suc, ◌+◌, ◌≤◌, pos
 use Rattle.std.proofs.Common.{sym, ◌∙◌, ap, ap₂, arith}
 use Rattle.rob_algebra.specs.Fraction.{Fraction, ◌+ℚ◌, ◌*ℚ◌, neg_ℚ}
 use Rattle.rob_algebra.specs.FractionLaws as Q
-use Rattle.rob_algebra.specs.Ring.{var, lit, minus, ◌:+◌, ◌:*◌, v0, v1, v2, v3, v4, v5, v6, v7}
+use Rattle.rob_algebra.specs.Polynomials.{var, lit, minus, ◌:+◌, ◌:*◌, v0, v1, v2, v3, v4, v5, v6, v7}
 use Rattle.rob_meaning.proofs.AlongLemmas.{along-same, along-none, table_at-same, table_at-plus, table_at-neg, table_at-scale, table_at-zero, table_at-products, table_at-single}
 use Rattle.rob_meaning.specs.Coefficients.{Table, product_table, rule_table, single, sum_table, table, table_at, table_times, unit}
 use Rattle.rob_meaning.specs.Degrees.{AreLinear, FactorsLinear, IsLinear, decision_degree, one_if_some, uncertain_degree}

@@ -4,9 +4,10 @@ use Rattle.std.proofs.Common.{sym, ◌∙◌, ap, ap₂, subst}
 use Rattle.std.proofs.lemmas.Nat.Gcd.{dvd_refl}
 use Rattle.rob_algebra.specs.Fraction.{Fraction, of_int, ◌+ℚ◌, ◌*ℚ◌, ◌≤ℚ◌, ◌<ℚ◌}
 use Rattle.rob_algebra.specs.FractionLaws as Q
+use Rattle.rob_algebra.specs.FractionOrderLaws.{le_of_lt_ℚ, mul_mono_ℚ, cancel_le_ℚ}
 use Rattle.rob_algebra.specs.FractionLaws.{ℚ_ring}
 use Rattle.rob_algebra.specs.Lists.{dot, dot-scale}
-use Rattle.rob_algebra.specs.Ring.{◌:*◌, v0, v1, v2}
+use Rattle.rob_algebra.specs.Polynomials.{◌:*◌, v0, v1, v2}
 use Rattle.rob_meaning.proofs.ClearingLemmas.{each_divides, denominator_pos, multiplier_pos, whole_at-is, whole-row, dot-tabulate, dot-append, length-tabulate}
 use Rattle.rob_meaning.proofs.ConeLemmas.{Rows, rows_of, meets_of}
 use Rattle.rob_meaning.proofs.EachLemmas.{each_map}
@@ -57,16 +58,16 @@ module _
               le_along (whole_dot r)
               (subst (λ z. of_int (pos (row_denominator m r)) *ℚ (along r.on_parameters p +ℚ along r.on_lifts t) ≤ℚ z)
               (sym (right_side r))
-              (Q.mul_mono_ℚ (along r.on_parameters p +ℚ along r.on_lifts t) (s *ℚ r.limit)
+              (mul_mono_ℚ (along r.on_parameters p +ℚ along r.on_lifts t) (s *ℚ r.limit)
               (of_int (pos (row_denominator m r))) h.at_most
-              (Q.le_of_lt_ℚ 0ℚ (of_int (pos (row_denominator m r))) (positive r))));
+              (le_of_lt_ℚ 0ℚ (of_int (pos (row_denominator m r))) (positive r))));
         }
 
     pub whole_out : (r : SetRow) → WholeRowHolds m s (p ++ t) r → RowHolds s p t r
     whole_out r h =
         record {
           at_most =
-              Q.cancel_le_ℚ (along r.on_parameters p +ℚ along r.on_lifts t) (s *ℚ r.limit)
+              cancel_le_ℚ (along r.on_parameters p +ℚ along r.on_lifts t) (s *ℚ r.limit)
               (of_int (pos (row_denominator m r))) (positive r)
               (along_le (whole_dot r) (subst (λ z. dot ℚ_ring (map of_int (whole_row m r)) (p ++ t) ≤ℚ z)
               (right_side r) h.at_most));

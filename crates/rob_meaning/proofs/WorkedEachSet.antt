@@ -2,7 +2,7 @@
 use Rattle.std.proofs.Common.{arith, refl}
 use Rattle.std.specs.Prelude.{◌≡◌, zero, suc, List, [], ◌∷◌, Some, None, codes}
 use Rattle.rob_algebra.specs.Fraction.{Fraction, ratio, neg_ℚ, ◌≤ℚ◌}
-use Rattle.rob_algebra.specs.FractionLaws.{le_trans_ℚ, not_lt_ℚ}
+use Rattle.rob_algebra.specs.FractionOrderLaws.{le_trans_ℚ, not_lt_ℚ}
 use Rattle.rob_meaning.proofs.AdmittedLemmas.{some_admitted_law}
 use Rattle.rob_meaning.proofs.WorkedNotation.{int, over, ◌⊕◌, ◌⊖◌, uncertain, var, rule, row, cover, item, best, none}
 use Rattle.rob_meaning.proofs.WorkedTests.{found, test_admits, test_certificate, test_le, test_lt, test_model}

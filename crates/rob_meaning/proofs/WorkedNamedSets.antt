@@ -3,7 +3,7 @@ use Rattle.std.proofs.Common.{refl, subst, arith}
 use Rattle.std.specs.Fmt.{digits}
 use Rattle.std.specs.Prelude.{◌≡◌, ◌≢◌, ℕ, zero, suc, pos, negsuc, map, List, [], ◌∷◌, Some, None, codes}
 use Rattle.rob_algebra.specs.Fraction.{Fraction, ratio, ◌<ℚ◌}
-use Rattle.rob_algebra.specs.FractionLaws.{lt_irrefl_ℚ}
+use Rattle.rob_algebra.specs.FractionOrderLaws.{lt_irrefl_ℚ}
 use Rattle.rob_meaning.proofs.EmptyInLemmas.{shows_empty_in}
 use Rattle.rob_meaning.proofs.EmptyLemmas.{shows_empty}
 use Rattle.rob_meaning.proofs.LinearLemmas.{zero_lt_one}

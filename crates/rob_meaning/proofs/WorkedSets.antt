@@ -3,7 +3,7 @@ use Rattle.std.proofs.Common.{arith, refl}
 use Rattle.std.specs.Fmt.{digits}
 use Rattle.std.specs.Prelude.{◌≡◌, ◌<◌, ◌≤◌, ℕ, zero, suc, List, length, pos, negsuc, map, [], ◌∷◌, Some, None, codes}
 use Rattle.rob_algebra.specs.Fraction.{Fraction, ratio}
-use Rattle.rob_algebra.specs.FractionLaws.{not_lt_ℚ}
+use Rattle.rob_algebra.specs.FractionOrderLaws.{not_lt_ℚ}
 use Rattle.rob_meaning.proofs.AdmittedLemmas.{admits_jointly, jointly_admits, one_set_law}
 use Rattle.rob_meaning.proofs.EmptyLemmas.{shows_empty}
 use Rattle.rob_meaning.proofs.WorkedNotation.{int, over, times, uncertain, var, rule, around, row}

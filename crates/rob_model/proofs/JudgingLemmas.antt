@@ -6,7 +6,8 @@ use Rattle.std.specs.Ordering.{is_le, MatchOrdering}
 use Rattle.std.specs.Result.{result_ok}
 use Rattle.std.proofs.Common.{Ordering, Less, Equal, Greater}
 use Rattle.rob_algebra.specs.Fraction.{Fraction, ◌+ℚ◌, ◌-ℚ◌, ◌*ℚ◌, ◌/ℚ◌, ◌≤ℚ◌, ◌<ℚ◌}
-use Rattle.rob_algebra.specs.FractionLaws.{ℚ-add_assoc, le_refl_ℚ, le_of_lt_ℚ, not_lt_ℚ}
+use Rattle.rob_algebra.specs.FractionLaws.{ℚ-add_assoc}
+use Rattle.rob_algebra.specs.FractionOrderLaws.{le_refl_ℚ, le_of_lt_ℚ, not_lt_ℚ}
 use Rattle.rob_algebra.specs.FractionOrder.{cmp_ℚ, cmp_ℚ-ranks, eq_ℚ-decides}
 use Rattle.rob_algebra.specs.Width.{kept}
 use Rattle.rob_meaning.proofs.AdmittedLemmas.{admission_law}

@@ -2,7 +2,8 @@
 use Rattle.std.proofs.Common.{◌≡◌, ℕ, zero, suc, ◌<◌, ◌≤◌, List, [], ◌∷◌, ◌++◌, map, length, get_or, arith, refl, ap, sym, ◌∙◌, ℤ}
 use Rattle.std.specs.Prelude.{pos, negsuc, neg_ℤ, nat_abs, ◌*ℤ◌, ◌≤ℤ◌, ◌<ℤ◌, Some, None}
 use Rattle.std.proofs.lemmas.Int.{ints}
-use Rattle.rob_algebra.specs.Fraction.{Fraction, of_pair, of_int, ratio, ext, same_is, is_self, is_neg, neg_ℚ, sign_of, sign_ℚ}
+use Rattle.rob_algebra.specs.Fraction.{Fraction, of_pair, of_int, ratio, ext, neg_ℚ, sign_of, sign_ℚ}
+use Rattle.rob_algebra.specs.FractionPairs.{same_is, is_self, is_neg}
 use Rattle.rob_algebra.specs.Width.{Fits, kept}
 use Rattle.rob_algebra.proofs.WidthLaws.{kept-fits}
 use Rattle.rob_model.proofs.KeptLemmas.{some_is, none_is_none}

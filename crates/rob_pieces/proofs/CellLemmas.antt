@@ -3,7 +3,7 @@ use Rattle.std.specs.Prelude.{◌≡◌, ℕ, zero, suc, ◌+◌, ◌*◌, ◌%�
 use Rattle.std.proofs.Common.{sym, ◌∙◌, ap, subst, arith, pow_pos, pow-suc, zero-mul, one-mul, add-mul, mul_assoc, mul_comm, inl, inr}
 use Rattle.std.proofs.lemmas.Nat.{div-mul-add, mod-mul-add}
 use Rattle.rob_algebra.specs.Fraction.{Fraction, ◌≤ℚ◌, ◌<ℚ◌}
-use Rattle.rob_algebra.specs.FractionLaws as Q
+use Rattle.rob_algebra.specs.FractionOrderLaws as Q
 use Rattle.rob_meaning.specs.Places.{at}
 use Rattle.rob_pieces.specs.Cuts.{Cut, bit, CellHolds, IsCell, IsOnSide}
 

@@ -2,7 +2,8 @@
 use Rattle.std.proofs.Common.{◌≡◌, ◌<◌, ℕ, zero, suc, Bool, true, false, List, [], ◌∷◌, ◌++◌, length, get_or, sym, ◌∙◌, subst, arith}
 use Rattle.std.specs.Prelude.{ℤ, pos, negsuc, ◌+ℤ◌, ◌*ℤ◌, ◌≤ℤ◌, int_lt, if◌then◌else◌}
 use Rattle.std.proofs.lemmas.Int.{ints}
-use Rattle.rob_algebra.specs.Integer.{mul_le_mul, neg-mul}
+use Rattle.rob_algebra.specs.Integer.{neg-mul}
+use Rattle.rob_algebra.specs.IntegerOrder.{mul_le_mul}
 use Rattle.rob_index.proofs.NestLemmas.{lt_from}
 use Rattle.rob_ranges.specs.declared.digits.Wide.{Wide}
 use Rattle.rob_ranges.specs.declared.short.Short.{Short}

@@ -5,9 +5,9 @@ use Rattle.std.proofs.Common.{ap, sym, ◌∙◌, subst, inl, inr, arith, Orderi
 use Rattle.std.proofs.lemmas.Int.{ints}
 use Rattle.std.specs.Ordering.{MatchOrdering}
 use Rattle.rob_algebra.specs.Fraction.{Fraction, of_int, ◌≤ℚ◌, ◌<ℚ◌}
-use Rattle.rob_algebra.specs.FractionLaws as Q
+use Rattle.rob_algebra.specs.FractionOrderLaws as Q
 use Rattle.rob_algebra.specs.FractionOrder.{cmp_ℚ, cmp_ℚ-ranks}
-use Rattle.rob_algebra.specs.Integer as Z
+use Rattle.rob_algebra.specs.IntegerOrder as Z
 use Rattle.rob_meaning.specs.Guarantee.{HasBound}
 use Rattle.rob_meaning.specs.Places.{at, EachFrom}
 use Rattle.rob_meaning.specs.RobustModel.{Variable, RobustModel}

@@ -4,7 +4,7 @@ use Rattle.std.proofs.Common.{ap, sym, ◌∙◌, subst, inl, inr, arith, Orderi
 use Rattle.std.proofs.lemmas.List.{append_assoc, length-append}
 use Rattle.std.specs.Ordering.{MatchOrdering}
 use Rattle.rob_algebra.specs.Fraction.{Fraction, ◌≤ℚ◌, ◌<ℚ◌}
-use Rattle.rob_algebra.specs.FractionLaws as Q
+use Rattle.rob_algebra.specs.FractionOrderLaws as Q
 use Rattle.rob_algebra.specs.FractionOrder.{cmp_ℚ, cmp_ℚ-ranks}
 use Rattle.rob_meaning.proofs.StatusLemmas.{no_worse_trans, no_worse_refl}
 use Rattle.rob_meaning.specs.Certificates.{Certificate, Status, optimal, infeasible, unbounded}

@@ -2,7 +2,7 @@
 use Rattle.std.specs.Prelude.{◌≡◌, ◌≢◌, ◌<◌, ℕ, zero, suc, List, [], ◌∷◌, length, slice_get, Some, ◌↔◌, ◌^◌, refl}
 use Rattle.std.proofs.Common.{ap, ap₂, sym, subst, arith}
 use Rattle.rob_algebra.specs.Fraction.{Fraction, ◌≤ℚ◌, ◌<ℚ◌}
-use Rattle.rob_algebra.specs.FractionLaws as Q
+use Rattle.rob_algebra.specs.FractionOrderLaws as Q
 use Rattle.rob_meaning.proofs.StatusLemmas.{one_optimum, optimal_not_infeasible, optimal_not_unbounded, infeasible_not_unbounded}
 use Rattle.rob_meaning.specs.Guarantee.{HasBound, IsNoWorse}
 use Rattle.rob_meaning.specs.Named.{IsNamed, HasDistinctMembers}

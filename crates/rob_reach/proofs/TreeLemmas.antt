@@ -5,7 +5,7 @@ use Rattle.rob_algebra.specs.Fraction.{Fraction, ◌+ℚ◌, ◌*ℚ◌, ◌≤�
 use Rattle.rob_algebra.specs.FractionLaws as Q
 use Rattle.rob_algebra.specs.FractionLaws.{ℚ_ring}
 use Rattle.rob_algebra.specs.Lists.{scale, plus_all, length-scale}
-use Rattle.rob_algebra.specs.Ring.{lit, ◌:+◌, ◌:*◌, v0, v1}
+use Rattle.rob_algebra.specs.Polynomials.{lit, ◌:+◌, ◌:*◌, v0, v1}
 use Rattle.rob_meaning.proofs.PlaceLemmas.{at-scale, at-plus_all}
 use Rattle.rob_meaning.proofs.ProvesLemmas.{certificate_true}
 use Rattle.rob_meaning.proofs.StatusLemmas.{no_worse_trans, bound_weakens}

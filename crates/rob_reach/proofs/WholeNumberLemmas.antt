@@ -3,9 +3,12 @@ use Rattle.std.specs.Prelude.{◌≡◌, ℕ, zero, suc, ◌+◌, ◌*◌, ◌/�
 use Rattle.std.proofs.Common.{arith, sym, ◌∙◌, ap, subst, suc-mul}
 use Rattle.std.proofs.Math.Nat.{div-mul-le_self, lt-div-mul-add}
 use Rattle.std.proofs.lemmas.Int.{ints}
-use Rattle.rob_algebra.specs.Fraction.{Fraction, of_int, is_int, is_self, is_le_in, is_le_out, is_lt_in, den_pos, pos_lt, same_is, ◌≤ℚ◌, ◌<ℚ◌}
-use Rattle.rob_algebra.specs.FractionLaws as Q
+use Rattle.rob_algebra.specs.Fraction.{Fraction, of_int, den_pos, ◌≤ℚ◌, ◌<ℚ◌}
+use Rattle.rob_algebra.specs.FractionPairs.{is_int, is_self, pos_lt, same_is}
+use Rattle.rob_algebra.specs.PairOrder.{is_le_in, is_le_out, is_lt_in}
+use Rattle.rob_algebra.specs.FractionOrderLaws as Q
 use Rattle.rob_algebra.specs.Integer as Z
+use Rattle.rob_algebra.specs.IntegerOrder.{le_antisym, le_trans_z, mul_mono, le_of_lt_z, cancel_lt}
 use Rattle.rob_algebra.proofs.Parts.{of_int-parts}
 use Rattle.rob_reach.specs.WholeNumbers.{IsWhole, rounded_down, floor, ceiling}
 use Rattle.rob_algebra.proofs.WholeNumbers.{of_int_le, le_of_int}
@@ -59,7 +62,7 @@ rounded_high (negsuc n) d h =
 pub floor_greatest : (z : ℤ) (x : Fraction) → of_int z ≤ℚ x → z ≤ℤ floor x
 floor_greatest z x h =
     below_next z (floor x)
-    (Z.cancel_lt z (floor x +ℤ pos 1) (pos x.den) (Z.le_of_lt_z (pos 0) (pos x.den) (pos_lt x.den (den_pos x)))
+    (cancel_lt z (floor x +ℤ pos 1) (pos x.den) (le_of_lt_z (pos 0) (pos x.den) (pos_lt x.den (den_pos x)))
     (between (z *ℤ pos x.den) x.num ((floor x +ℤ pos 1) *ℤ pos x.den)
     (subst (λ w. (z *ℤ pos x.den) ≤ℤ w) (Z.mul-one x.num) (is_le_out (is_int z) (is_self x) h))
     (rounded_high x.num x.den (den_pos x))))
@@ -74,8 +77,8 @@ pub at_most_floor : (z : ℤ) (x : Fraction) → z ≤ℤ floor x → of_int z �
 at_most_floor z x h =
     is_le_in (is_int z) (is_self x)
     (subst (λ w. (z *ℤ pos x.den) ≤ℤ w) (sym (Z.mul-one x.num))
-    (Z.le_trans_z (z *ℤ pos x.den) (floor x *ℤ pos x.den) x.num
-    (Z.mul_mono z (floor x) (pos x.den) h (Z.le_of_lt_z (pos 0) (pos x.den) (pos_lt x.den (den_pos x))))
+    (le_trans_z (z *ℤ pos x.den) (floor x *ℤ pos x.den) x.num
+    (mul_mono z (floor x) (pos x.den) h (le_of_lt_z (pos 0) (pos x.den) (pos_lt x.den (den_pos x))))
     (rounded_low x.num x.den (den_pos x))))
 
 pub below_floor_next : (x : Fraction) → x <ℚ of_int (floor x +ℤ pos 1)
@@ -96,8 +99,8 @@ at_most_ceiling x =
 pub ceiling_least : (z : ℤ) (x : Fraction) → x ≤ℚ of_int z → ceiling x ≤ℤ z
 ceiling_least z x h =
     negated z (rounded_down (neg_ℤ x.num) x.den)
-    (Z.cancel_lt (neg_ℤ z) (rounded_down (neg_ℤ x.num) x.den +ℤ pos 1) (pos x.den)
-    (Z.le_of_lt_z (pos 0) (pos x.den) (pos_lt x.den (den_pos x)))
+    (cancel_lt (neg_ℤ z) (rounded_down (neg_ℤ x.num) x.den +ℤ pos 1) (pos x.den)
+    (le_of_lt_z (pos 0) (pos x.den) (pos_lt x.den (den_pos x)))
     (below x.num z (pos x.den) ((rounded_down (neg_ℤ x.num) x.den +ℤ pos 1) *ℤ pos x.den)
     (is_le_out (is_self x) (is_int z) h) (rounded_high (neg_ℤ x.num) x.den (den_pos x))))
   where
@@ -112,7 +115,7 @@ ceiling_least z x h =
 -- ---- whole numbers
 pub floor-int : (z : ℤ) → floor (of_int z) ≡ z
 floor-int z =
-    Z.le_antisym (floor (of_int z)) z
+    le_antisym (floor (of_int z)) z
     (le_of_int (floor (of_int z)) z (at_most_floor (floor (of_int z)) (of_int z) (le_self (floor (of_int z)))))
     (floor_greatest z (of_int z) (Q.le_refl_ℚ (of_int z)))
   where
@@ -121,7 +124,7 @@ floor-int z =
 
 pub ceiling-int : (z : ℤ) → ceiling (of_int z) ≡ z
 ceiling-int z =
-    Z.le_antisym (ceiling (of_int z)) z (ceiling_least z (of_int z) (Q.le_refl_ℚ (of_int z)))
+    le_antisym (ceiling (of_int z)) z (ceiling_least z (of_int z) (Q.le_refl_ℚ (of_int z)))
     (le_of_int z (ceiling (of_int z)) (at_most_ceiling (of_int z)))
 
 -- a number with denominator 1 is its numerator

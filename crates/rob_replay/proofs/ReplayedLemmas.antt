@@ -3,7 +3,8 @@ use Rattle.std.proofs.Common.{◌≡◌, ℕ, suc, List, [], ◌∷◌, ◌++◌
 use Rattle.std.specs.Prelude.{Option, Some, None, pos, if◌then◌else◌}
 use Rattle.rob_algebra.specs.Fraction.{Fraction, ◌-ℚ◌, ◌≤ℚ◌}
 use Rattle.rob_algebra.specs.FractionLaws as Q
-use Rattle.rob_algebra.specs.Ring.{lit, ◌:-◌, v0}
+use Rattle.rob_algebra.specs.FractionOrderLaws.{nonneg_sub_ℚ}
+use Rattle.rob_algebra.specs.Polynomials.{lit, ◌:-◌, v0}
 use Rattle.rob_algebra.specs.Width.{kept}
 use Rattle.rob_meaning.proofs.AdmittedLemmas.{admits_jointly}
 use Rattle.rob_meaning.proofs.JointBoundLemmas.{bound_joint}
@@ -159,8 +160,8 @@ nothing_left : (x : Fraction) → x -ℚ x ≡ 0ℚ
 nothing_left x = Q.ring (x ∷ []) (v0 :- v0) (lit (pos 0)) refl
 
 kept_row : (r : Relation) (left right : Fraction) → Relates r left right → IsKept r (slack_of r left right)
-kept_row at_most left right h = Q.nonneg_sub_ℚ left right h
-kept_row at_least left right h = Q.nonneg_sub_ℚ right left h
+kept_row at_most left right h = nonneg_sub_ℚ left right h
+kept_row at_least left right h = nonneg_sub_ℚ right left h
 kept_row equal left right h = ap (λ x. right -ℚ x) h ∙ nothing_left right
 
 each_append : (xs ys : List Fraction) → Each (λ x. 0ℚ ≤ℚ x) xs → Each (λ x. 0ℚ ≤ℚ x) ys → Each (λ x. 0ℚ ≤ℚ x) (xs ++ ys)
@@ -169,11 +170,11 @@ each_append (x ∷ xs) ys h g = (h.0, each_append xs ys h.1 g)
 
 kept_lower : (l : Option Fraction) (x : Fraction) → KeepsLower l x → Each (λ x. 0ℚ ≤ℚ x) (if_declared (λ l. x -ℚ l) l)
 kept_lower None x h = tt
-kept_lower (Some l) x h = (Q.nonneg_sub_ℚ l x h, tt)
+kept_lower (Some l) x h = (nonneg_sub_ℚ l x h, tt)
 
 kept_upper : (b : Option Fraction) (x : Fraction) → KeepsUpper b x → Each (λ x. 0ℚ ≤ℚ x) (if_declared (λ b. b -ℚ x) b)
 kept_upper None x h = tt
-kept_upper (Some b) x h = (Q.nonneg_sub_ℚ x b h, tt)
+kept_upper (Some b) x h = (nonneg_sub_ℚ x b h, tt)
 
 module _ (m : RobustModel) (plan u : List Fraction) where
   kept_bounds : (k : ℕ) (ys : List AdaptiveVariable)

@@ -9,7 +9,9 @@ use Rattle.std.specs.Cmp.{int_ranks}
 use Rattle.std.specs.Cmp.Lexicographic.{slice_cmp}
 use lib.IntN.{ℤ, pos, ◌*ℤ◌, nat_abs}
 use lib.Signed.{◌<ℤ◌}
-use Rattle.rob_algebra.specs.Fraction.{of_pair, of_pair_eq, is_of_pair, is_lt_out, ◌<ℚ◌}
+use Rattle.rob_algebra.specs.Fraction.{of_pair, ◌<ℚ◌}
+use Rattle.rob_algebra.specs.FractionPairs.{of_pair_eq, is_of_pair}
+use Rattle.rob_algebra.specs.PairOrder.{is_lt_out}
 use Rattle.rob_algebra.specs.FractionOrder.{cmp_ℚ, cmp_ℚ-ranks}
 use Rattle.rob_rows.specs.Quotients.{quotients}
 use Rattle.rob_rows.proofs.Entries.{read, read_long}

@@ -7,7 +7,8 @@ use Rattle.std.proofs.lemmas.List.{get_or-map, length-map, same_lists, get_or_de
 use Rattle.std.specs.Int.{◌∣◌}
 use lib.IntN.{ℤ, pos, ◌*ℤ◌, nat_abs}
 use Rattle.rob_algebra.specs.Fraction.{int_over, times-over, nat_abs-over}
-use Rattle.rob_algebra.specs.Integer.{mul_cancel, mul_cancel_zero, mul_assoc, *ℤ_comm}
+use Rattle.rob_algebra.specs.Integer.{mul_assoc, *ℤ_comm}
+use Rattle.rob_algebra.specs.IntegerOrder.{mul_cancel, mul_cancel_zero}
 use Rattle.rob_rows.specs.PrimitiveParts.{content, scaled, IsPrimitivePart, HasWideEntry, HasWidePart}
 use Rattle.rob_rows.proofs.Contents.{content-scale, content-divides, content_zero}
 

@@ -4,7 +4,7 @@ use Rattle.std.proofs.Common.{sym, ◌∙◌, ap, ap₂, arith, get_or, add-one}
 use Rattle.std.proofs.lemmas.List.{length-map}
 use Rattle.rob_algebra.specs.Fraction.{Fraction, ◌+ℚ◌, ◌*ℚ◌, neg_ℚ}
 use Rattle.rob_algebra.specs.FractionLaws as Q
-use Rattle.rob_algebra.specs.Ring.{lit, ◌:+◌, ◌:*◌, v0, v1}
+use Rattle.rob_algebra.specs.Polynomials.{lit, ◌:+◌, ◌:*◌, v0, v1}
 use Rattle.rob_meaning.specs.Coefficients.{Table, unit, single}
 use Rattle.rob_meaning.specs.Places.{0ℚ, 1ℚ}
 use Rattle.rob_meaning.specs.RobustModel.{Member}

@@ -8,7 +8,7 @@ use Rattle.std.specs.declared.cmp.Ordering.{Ordering}
 use Rattle.std.specs.declared.cmp.Ordering.TheVariants.{Less, Equal, Greater}
 use Rattle.rob_algebra.specs.Fraction.{Fraction, ratio, ◌+ℚ◌, ◌*ℚ◌}
 use Rattle.rob_algebra.specs.FractionLaws as Q
-use Rattle.rob_algebra.specs.Ring.{lit, minus as minus', ◌:+◌, ◌:*◌, v0, v1, v2}
+use Rattle.rob_algebra.specs.Polynomials.{lit, minus as minus', ◌:+◌, ◌:*◌, v0, v1, v2}
 use Rattle.rob_meaning.specs.Values.{signed}
 use Rattle.rob_meaning.specs.Coefficients.{unit, single}
 use Rattle.rob_meaning.specs.Places.{0ℚ, 1ℚ}

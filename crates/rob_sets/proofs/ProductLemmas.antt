@@ -3,7 +3,7 @@ use Rattle.std.specs.Prelude.{◌≡◌, ℕ, ◌≤◌, max, not, pos, [], ◌�
 use Rattle.std.proofs.Common.{sym, ◌∙◌, ap, ap₂, arith, subst, inl, inr}
 use Rattle.rob_algebra.specs.Fraction.{Fraction, ◌+ℚ◌, ◌*ℚ◌}
 use Rattle.rob_algebra.specs.FractionLaws as Q
-use Rattle.rob_algebra.specs.Ring.{lit, ◌:+◌, ◌:*◌, v0, v1, v2, v3, v4, v5}
+use Rattle.rob_algebra.specs.Polynomials.{lit, ◌:+◌, ◌:*◌, v0, v1, v2, v3, v4, v5}
 use Rattle.rob_algebra.specs.Width.{Fits, IsWide}
 use Rattle.rob_algebra.proofs.WidthLaws.{Fits-of_int, fits_not_wide}
 use Rattle.rob_meaning.specs.Coefficients.{Table, unit, single, table_times}

@@ -6,7 +6,8 @@ use Rattle.std.proofs.lemmas.Int.{ints}
 use Rattle.std.proofs.lemmas.List.{get_or-set_same, get_or-set_other, length-set}
 use lib.IntN.{ℤ, pos, ◌+ℤ◌, ◌-ℤ◌, ◌*ℤ◌}
 use lib.Signed.{◌<ℤ◌}
-use Rattle.rob_algebra.specs.Integer.{mul_assoc, mul-pos_z, mul-zero, mul_cancel_zero, ring}
+use Rattle.rob_algebra.specs.Integer.{mul_assoc, mul-zero, ring}
+use Rattle.rob_algebra.specs.IntegerOrder.{mul-pos_z, mul_cancel_zero}
 use Rattle.rob_linear.specs.Systems.{IsPrimitive}
 use Rattle.rob_linear.specs.Multiples.{IsClearedBy, IsParallel}
 use Rattle.rob_linear.proofs.Multiples.{parallel_sym, parallel_positive}

@@ -2,7 +2,8 @@
 use Rattle.std.proofs.Common.{◌≡◌, ℕ, ◌<◌, sym, ap, ◌∙◌, subst}
 use lib.IntN.{ℤ, pos, ◌-ℤ◌, ◌*ℤ◌}
 use lib.Signed.{◌<ℤ◌}
-use Rattle.rob_algebra.specs.Integer.{ring, mul-pos_z, mul-zero, mul_cancel_zero, mul_cancel_lt}
+use Rattle.rob_algebra.specs.Integer.{ring, mul-zero}
+use Rattle.rob_algebra.specs.IntegerOrder.{mul-pos_z, mul_cancel_zero, mul_cancel_lt}
 use Rattle.rob_linear.specs.Vectors.{Vector}
 use Rattle.rob_linear.specs.Multiples.{IsClearedBy}
 use Rattle.rob_entries.specs.Updates.{IsMultipleOf, IsWideCleared}

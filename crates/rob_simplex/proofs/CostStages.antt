@@ -7,7 +7,8 @@ use Rattle.std.specs.Int.RustNames.{unsigned_abs}
 use Rattle.std.specs.Int.{◌∣◌}
 use lib.IntN.{ℤ, pos, ◌-ℤ◌, ◌*ℤ◌}
 use lib.Signed.{◌<ℤ◌}
-use Rattle.rob_algebra.specs.Integer.{mul-zero, mul_cancel_zero, *ℤ_comm}
+use Rattle.rob_algebra.specs.Integer.{mul-zero, *ℤ_comm}
+use Rattle.rob_algebra.specs.IntegerOrder.{mul_cancel_zero}
 use Rattle.rob_linear.specs.Vectors.{Vector}
 use Rattle.rob_linear.specs.Systems.{IsPrimitive}
 use Rattle.rob_linear.specs.Programs.{Program, system_of, auxiliary_place}

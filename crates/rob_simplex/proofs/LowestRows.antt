@@ -8,7 +8,8 @@ use Rattle.std.specs.Int.RustNames.{unsigned_abs}
 use Rattle.std.specs.Int.{◌∣◌, IsGcd}
 use lib.IntN.{ℤ, pos, neg_ℤ, nat_abs, ◌*ℤ◌}
 use lib.Signed.{◌<ℤ◌}
-use Rattle.rob_algebra.specs.Fraction.{of_pair, of_pair_eq, times-over}
+use Rattle.rob_algebra.specs.Fraction.{of_pair, times-over}
+use Rattle.rob_algebra.specs.FractionPairs.{of_pair_eq}
 use Rattle.rob_algebra.specs.Gcd.{gcd, IsGcd-gcd}
 use Rattle.rob_algebra.specs.Integer.{*ℤ_comm, neg-mul}
 use Rattle.rob_linear.specs.Vectors.{Vector}

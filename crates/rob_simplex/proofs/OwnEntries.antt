@@ -5,7 +5,8 @@ use Rattle.std.proofs.lemmas.Int.{ints}
 use Rattle.std.proofs.lemmas.List.{get_or-set_other, length-set}
 use lib.IntN.{ℤ, pos, ◌-ℤ◌, ◌*ℤ◌}
 use lib.Signed.{◌<ℤ◌}
-use Rattle.rob_algebra.specs.Integer.{mul-zero, mul_cancel_zero}
+use Rattle.rob_algebra.specs.Integer.{mul-zero}
+use Rattle.rob_algebra.specs.IntegerOrder.{mul_cancel_zero}
 use Rattle.rob_linear.specs.Systems.{System, objective}
 use Rattle.rob_linear.specs.Programs.{Program, auxiliary_of, kept_of}
 use Rattle.rob_linear.specs.Turns.{own_of}

@@ -1,12 +1,12 @@
--- A pivot of a dictionary: a row in lowest terms, its position opened by the spare column, the others cleared, and
--- the column brought in.
+-- A pivot: a row in lowest terms, its position opened by the spare column, the others cleared, the column brought in.
 use Rattle.std.proofs.Common.{◌≡◌, ◌≢◌, ℕ, zero, suc, ◌+◌, ◌<◌, ◌≤◌, sym, refl, ap, ◌∙◌, subst, arith, inl, inr, List, [], ◌∷◌, length, set}
 use Rattle.std.proofs.lemmas.Bool.{cases_eq, cases_lt}
 use Rattle.std.proofs.lemmas.Int.{ints}
 use Rattle.std.proofs.lemmas.List.{get_or-set_same, get_or-set_other, length-set}
 use lib.IntN.{ℤ, pos, ◌-ℤ◌, ◌*ℤ◌}
 use lib.Signed.{◌<ℤ◌}
-use Rattle.rob_algebra.specs.Integer.{mul_assoc, mul_left_comm, mul-sub, mul-zero, one-mul, mul-pos_z, mul_cancel_zero, mul_cancel_lt, *ℤ_comm}
+use Rattle.rob_algebra.specs.Integer.{mul_assoc, mul_left_comm, mul-sub, mul-zero, one-mul, *ℤ_comm}
+use Rattle.rob_algebra.specs.IntegerOrder.{mul-pos_z, mul_cancel_zero, mul_cancel_lt}
 use Rattle.rob_linear.specs.Multiples.{IsClearedBy}
 use Rattle.rob_entries.specs.Updates.{IsWideCleared}
 use Rattle.rob_simplex.specs.Dictionaries.{Table, positions, width_of, columns_of, basic_columns, right_column, spare_column, rows_of, kept_row_of, IsFree, IsAlone, IsOpen, IsClosed, IsPivoted, IsBegunPivot, ClearsTable, StopsTable, IsSized}

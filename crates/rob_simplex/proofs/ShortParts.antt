@@ -6,7 +6,8 @@ use lib.IntN.{ℤ, pos, nat_abs, ◌*ℤ◌}
 use lib.Signed.{◌<ℤ◌}
 use Rattle.rob_algebra.specs.Fraction.{Fraction, of_pair}
 use Rattle.rob_algebra.specs.Gcd.{gcd, IsGcd-gcd}
-use Rattle.rob_algebra.specs.Integer.{mul_assoc, mul_left_comm, mul-zero, mul_cancel_lt}
+use Rattle.rob_algebra.specs.Integer.{mul_assoc, mul_left_comm, mul-zero}
+use Rattle.rob_algebra.specs.IntegerOrder.{mul_cancel_lt}
 use Rattle.rob_algebra.specs.Width.{Fits, IsWide, kept}
 use Rattle.rob_algebra.proofs.Parts.{lowest_parts}
 use Rattle.rob_number.proofs.AnswerLaws.{ok_tells, err_tells}

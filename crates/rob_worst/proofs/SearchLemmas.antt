@@ -3,7 +3,7 @@ use Rattle.std.proofs.Common.{◌≡◌, ℕ, zero, suc, ◌+◌, ◌<◌, List,
 use lib.IntN.{ℤ, pos, neg_ℤ}
 use Rattle.rob_algebra.specs.Fraction.{Fraction, of_int, ◌+ℚ◌, ◌*ℚ◌}
 use Rattle.rob_algebra.specs.FractionLaws as Q
-use Rattle.rob_algebra.specs.Ring.{◌:+◌, v0, v1, v2}
+use Rattle.rob_algebra.specs.Polynomials.{◌:+◌, v0, v1, v2}
 use Rattle.rob_linear.specs.Vectors.{Columns, at}
 use Rattle.rob_linear.specs.Systems.{System}
 use Rattle.rob_linear.specs.Programs.{Program, system_of, with_cost}

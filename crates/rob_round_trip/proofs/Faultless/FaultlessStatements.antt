@@ -3,8 +3,9 @@ use Rattle.std.proofs.Common.{◌≡◌, ◌≢◌, ℕ, zero, suc, ◌^◌, ◌
 use Rattle.std.specs.Prelude.{◌&&◌, ◌||◌, not, ℤ, pos, negsuc, nat_abs, ◌<ℤ◌, Option, Some, None}
 use Rattle.std.specs.List.{list_any, flat_map}
 use Rattle.std.proofs.lemmas.Int.{ints}
-use Rattle.rob_algebra.specs.Fraction.{Fraction, is_self, ◌<ℚ◌}
-use Rattle.rob_algebra.specs.FractionLaws.{is_pos_out}
+use Rattle.rob_algebra.specs.Fraction.{Fraction, ◌<ℚ◌}
+use Rattle.rob_algebra.specs.FractionPairs.{is_self}
+use Rattle.rob_algebra.specs.PairOrder.{is_pos_out}
 use Rattle.rob_lex.specs.declared.token.Kind.TheVariants as kind
 use Rattle.rob_meaning.proofs.EachLemmas.{each_append}
 use Rattle.rob_meaning.specs.Expressions as meaning

@@ -4,7 +4,8 @@ use Rattle.std.specs.Prelude.{neg_ℤ, nat_abs, int_lt, nat_lt, not, ◌&&◌, i
 use Rattle.std.proofs.Math.Nat.{div-add-mod, mul-mod_left}
 use Rattle.std.proofs.lemmas.Bool.Decides.{nat_tests}
 use Rattle.rob_algebra.proofs.Parts.{neg_parts}
-use Rattle.rob_algebra.specs.Fraction.{Fraction, den_pos, is_of_pair, nat_abs-times, neg_ℚ, of_pair, of_pair_eq}
+use Rattle.rob_algebra.specs.Fraction.{Fraction, den_pos, neg_ℚ, of_pair}
+use Rattle.rob_algebra.specs.FractionPairs.{is_of_pair, nat_abs-times, of_pair_eq}
 use Rattle.rob_algebra.specs.Gcd as euclid
 use Rattle.rob_index.specs.Counting.{divisor_fits, fits, minus_tokens, number_tokens, signed_tokens}
 use Rattle.rob_meaning.specs.Values.{signed as with_sign}

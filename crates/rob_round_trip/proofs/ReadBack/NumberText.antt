@@ -3,7 +3,8 @@ use Rattle.std.proofs.Common.{◌≡◌, ℕ, ◌^◌, ◌<◌, Bool, true, fals
 use Rattle.std.specs.Prelude.{ℤ, pos, negsuc, nat_abs, neg_ℤ, ◌*ℤ◌, int_lt, min, ◌==◌, if◌then◌else◌, Option, Some, None, unwrap_or}
 use Rattle.std.specs.Fmt.{decimal}
 use Rattle.std.proofs.lemmas.Bool.Decides.{nat_tests}
-use Rattle.rob_algebra.specs.Fraction.{Fraction, of_pair, of_pair_parts, neg_ℚ, is_neg, is_of_pair, is_self, same_is, den_pos}
+use Rattle.rob_algebra.specs.Fraction.{Fraction, of_pair, neg_ℚ, den_pos}
+use Rattle.rob_algebra.specs.FractionPairs.{of_pair_parts, is_neg, is_of_pair, is_self, same_is}
 use Rattle.rob_lex.specs.declared.token.Kind.TheVariants as kind
 use Rattle.rob_syntax.specs.declared.symbol.Symbol.{Symbol}
 use Rattle.rob_syntax.specs.declared.symbol.Symbol.TheVariants.{Digits, Sign}

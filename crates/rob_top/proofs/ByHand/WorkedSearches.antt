@@ -6,7 +6,7 @@ use Rattle.std.specs.Prelude.{codes}
 use Rattle.rob_algebra.proofs.WidthLaws.{fits_not_wide, fits_of_kept}
 use Rattle.rob_algebra.specs.Fraction.{Fraction, neg_ℚ, ratio, ◌+ℚ◌, ◌*ℚ◌}
 use Rattle.rob_algebra.specs.FractionLaws as Q
-use Rattle.rob_algebra.specs.Ring.{lit, minus, ◌:*◌, ◌:+◌, v0}
+use Rattle.rob_algebra.specs.Polynomials.{lit, minus, ◌:*◌, ◌:+◌, v0}
 use Rattle.rob_algebra.specs.Width.{Fits, IsWide}
 use Rattle.rob_linear.specs.Vectors.{columns_of}
 use Rattle.rob_bounds.proofs.NarrowPaths.{narrow_path}

@@ -7,7 +7,7 @@ use Rattle.rob_algebra.proofs.WidthLaws.{wide_of_kept}
 use Rattle.rob_algebra.specs.Fraction.{Fraction, neg_ℚ, ratio, ◌+ℚ◌, ◌*ℚ◌, ◌≤ℚ◌}
 use Rattle.rob_algebra.specs.FractionLaws as Q
 use Rattle.std.proofs.lemmas.Int.{ints}
-use Rattle.rob_algebra.specs.Ring.{lit, ◌:*◌, ◌:+◌, v0}
+use Rattle.rob_algebra.specs.Polynomials.{lit, ◌:*◌, ◌:+◌, v0}
 use Rattle.rob_algebra.specs.Width.{IsWide, kept}
 use Rattle.rob_dualize.proofs.NarrowModels.{one_demand_admitted, one_demand_model}
 use Rattle.rob_dualize.specs.SmallestModel.{one_demand}

@@ -3,7 +3,7 @@ use Rattle.std.proofs.Common.{◌≡◌, ◌≢◌, ℕ, ◌<◌, ◌≤◌, tru
 use Rattle.std.proofs.lemmas.List.{length-map}
 use Rattle.std.proofs.lemmas.Option.{get_or_from_slice_get, slice_get-get_or, slice_get_within}
 use Rattle.rob_algebra.specs.Fraction.{Fraction, of_int, ◌+ℚ◌, ◌≤ℚ◌}
-use Rattle.rob_algebra.specs.FractionLaws.{le_trans_ℚ, lt_irrefl_ℚ, lt_le_trans_ℚ}
+use Rattle.rob_algebra.specs.FractionOrderLaws.{le_trans_ℚ, lt_irrefl_ℚ, lt_le_trans_ℚ}
 use Rattle.rob_algebra.specs.Width.{Fits, IsWide}
 use Rattle.rob_cert.specs.Apart.{FitsLines}
 use Rattle.rob_cert.specs.Spelling.{name_at}

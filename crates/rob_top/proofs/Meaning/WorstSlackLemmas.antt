@@ -3,10 +3,10 @@
 use Rattle.std.proofs.Common.{◌≡◌, ◌≢◌, ℕ, pos, ◌<◌, List, [], ◌∷◌, length, refl, sym, ◌∙◌, ap, ap₂, subst, inl, inr, ◌⊎◌}
 use Rattle.rob_algebra.proofs.WidthLaws.{fits_not_wide}
 use Rattle.rob_algebra.specs.Fraction.{Fraction, neg_ℚ, inv_ℚ, ◌+ℚ◌, ◌*ℚ◌, ◌/ℚ◌, ◌≤ℚ◌}
-use Rattle.rob_algebra.specs.FractionLaws as Q
+use Rattle.rob_algebra.specs.FractionOrderLaws as Q
 use Rattle.rob_algebra.specs.FractionLaws.{ℚ_ring, mul_inv}
-use Rattle.rob_algebra.specs.Ring as R
-use Rattle.rob_algebra.specs.Ring.{lit, minus, ◌:*◌, ◌:+◌, v0, v1, v2}
+use Rattle.rob_algebra.specs.RingSolver as R
+use Rattle.rob_algebra.specs.Polynomials.{lit, minus, ◌:*◌, ◌:+◌, v0, v1, v2}
 use Rattle.rob_algebra.specs.Width.{Fits, IsWide}
 use Rattle.rob_meaning.proofs.AbsoluteLemmas.{pos_some}
 use Rattle.rob_meaning.proofs.AtLemmas.{bound_at}

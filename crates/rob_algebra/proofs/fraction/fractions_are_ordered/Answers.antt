@@ -1,4 +1,4 @@
-use Rattle.rob_algebra.specs.FractionLaws.{le_total_ℚ, le_antisym_ℚ, le_trans_ℚ, not_lt_ℚ, trichotomy, add_mono_ℚ, mul_mono_ℚ}
+use Rattle.rob_algebra.specs.FractionOrderLaws.{le_total_ℚ, le_antisym_ℚ, le_trans_ℚ, not_lt_ℚ, trichotomy, add_mono_ℚ, mul_mono_ℚ}
 use Rattle.rob_algebra.proofs.Parts.{of_int-le}
 use Rattle.rob_algebra.proofs.fraction.fractions_are_ordered.Goals as goal
 

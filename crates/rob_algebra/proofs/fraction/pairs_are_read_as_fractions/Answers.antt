@@ -1,4 +1,5 @@
-use Rattle.rob_algebra.specs.Fraction.{of_pair_eq, of_pair_parts, den_pos}
+use Rattle.rob_algebra.specs.Fraction.{den_pos}
+use Rattle.rob_algebra.specs.FractionPairs.{of_pair_eq, of_pair_parts}
 use Rattle.rob_algebra.specs.FractionLaws.{of_int-add, of_int-mul}
 use Rattle.rob_algebra.proofs.Parts.{of_int-parts}
 use Rattle.rob_algebra.proofs.fraction.pairs_are_read_as_fractions.Goals as goal

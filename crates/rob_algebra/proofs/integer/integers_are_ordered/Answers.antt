@@ -1,4 +1,4 @@
-use Rattle.rob_algebra.specs.Integer.{le_total, le_antisym, le_trans_z, add_mono, mul_mono, cancel_le}
+use Rattle.rob_algebra.specs.IntegerOrder.{le_total, le_antisym, le_trans_z, add_mono, mul_mono, cancel_le}
 use Rattle.rob_algebra.proofs.integer.integers_are_ordered.Goals as goal
 
 pub returns : goal.returns
