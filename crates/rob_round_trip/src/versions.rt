@@ -20,7 +20,7 @@ ghost use Rattle.rob_rules.specs.Scopes.{Earlier};
 ghost use Rattle.rob_rules.specs.Texts as texts;
 ghost use Rattle.rob_rules.specs.declared.sort.Sort.{Sort};
 ghost use Rattle.rob_syntax.specs.Numbered.{numbered};
-ghost use Rattle.rob_syntax.specs.Seen.{seen_line};
+ghost use Rattle.rob_syntax.specs.SeenSymbols.{seen_line};
 ghost use Rattle.rob_syntax.specs.Statements.{IsStatement};
 ghost use Rattle.rob_syntax.specs.Symbols.{lines_of};
 ghost use Rattle.rob_syntax.specs.Versions.{text_lines};

@@ -24,7 +24,7 @@ use Rattle.rob_rules.specs.Growing.{AreAmong}
 use Rattle.rob_rules.specs.Links.{Keeps, AreLinked}
 use Rattle.rob_rules.specs.Names.{Named, names_of, grown, widened, named_behind}
 use Rattle.rob_rules.specs.Scopes.{Earlier, start, behind, declare, declared_by}
-use Rattle.rob_syntax.specs.Seen.{seen_line}
+use Rattle.rob_syntax.specs.SeenSymbols.{seen_line}
 use Rattle.rob_syntax.specs.Versions.{text_version, text_lines}
 use Rattle.rob_rules.specs.Texts.{has_later, is_declared, in_front, Reads}
 use Rattle.rob_rules.proofs.GrowingLemmas.{all_grow, grown_has, sorts_grow}

@@ -15,7 +15,7 @@ use Rattle.rob_syntax.specs.declared.symbol.Symbol.{Symbol as Known}
 use Rattle.rob_syntax.specs.declared.syntax.Statement.{Statement}
 use Rattle.rob_syntax.specs.Known.{texts}
 use Rattle.rob_syntax.specs.Numbered.{numbered}
-use Rattle.rob_syntax.specs.Seen.{seen_line}
+use Rattle.rob_syntax.specs.SeenSymbols.{seen_line}
 use Rattle.rob_rules.specs.declared.fault.Fault.{Fault}
 use Rattle.rob_rules.specs.declared.lines.Reader.{Reader}
 use Rattle.rob_rules.specs.declared.lines.Stop.{Stop}

@@ -10,7 +10,7 @@ use Rattle.rob_index.specs.Reading.{Version, no_objective}
 use Rattle.rob_syntax.specs.declared.syntax.Statement.{Statement}
 use Rattle.rob_syntax.specs.Known.{texts}
 use Rattle.rob_syntax.specs.Numbered.{numbered}
-use Rattle.rob_syntax.specs.Seen.{seen_line}
+use Rattle.rob_syntax.specs.SeenSymbols.{seen_line}
 use Rattle.rob_syntax.specs.Symbols.{words_of, symbols_of, token_lines}
 use Rattle.rob_syntax.specs.Versions.{body, has_token, text_version}
 use Rattle.rob_rules.specs.declared.error.ModelErr.{ModelErr}

@@ -11,7 +11,7 @@ use Rattle.rob_syntax.specs.declared.syntax.Statement.{Statement}
 use Rattle.rob_syntax.specs.Symbols.{words_of}
 use Rattle.rob_syntax.specs.Versions.{text_version, text_lines}
 use Rattle.rob_syntax.specs.Numbered.{numbered}
-use Rattle.rob_syntax.specs.Seen.{seen_line}
+use Rattle.rob_syntax.specs.SeenSymbols.{seen_line}
 use Rattle.rob_rules.specs.declared.fault.Fault.{Fault}
 use Rattle.rob_rules.specs.declared.error.ModelErr.{ModelErr}
 use Rattle.rob_rules.specs.declared.error.ModelErr.TheVariants.{Rule, Memory}

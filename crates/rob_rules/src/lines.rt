@@ -7,7 +7,8 @@ ghost use Rattle.rob_rules.specs.Scopes.{earlier_of};
 ghost use Rattle.rob_rules.specs.Stages.{IsBetween, StartsAt, ReadsOn, IsAppended, IsTaken, HasFaultStop, HasIndexStop, HasLineStop, HasNoStatement, HaveStop, IsExpanded, IsWidened, LeaveRoom, lower_of, lowest_fault, behind_all, declare_all, mark_declared, padded, stage_of};
 ghost use Rattle.rob_rules.specs.Texts.{Reads, HasTextCause};
 ghost use Rattle.rob_syntax.specs.Known.{texts};
-ghost use Rattle.rob_syntax.specs.Seen.{seen_line, seen_statement};
+ghost use Rattle.rob_syntax.specs.SeenSymbols.{seen_line};
+ghost use Rattle.rob_syntax.specs.Seen.{seen_statement};
 ghost use Rattle.rob_syntax.specs.Symbols.{words_of, symbols_of, token_lines};
 ghost use Rattle.rob_syntax.specs.Versions.{body, seen_version};
 

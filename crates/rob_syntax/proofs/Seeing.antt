@@ -7,7 +7,7 @@ use Rattle.rob_syntax.specs.declared.symbol.Keyword.{Keyword}
 use Rattle.rob_syntax.specs.declared.symbol.Symbol.{Symbol}
 use Rattle.rob_syntax.specs.declared.symbol.Symbol.TheVariants.{Name, Digits, Sign, Reserved}
 use Rattle.rob_syntax.specs.Fronts.{BeginsNot, BeginsNone}
-use Rattle.rob_syntax.specs.Seen.{seen_mark, seen_keyword, seen_symbol, seen_line}
+use Rattle.rob_syntax.specs.SeenSymbols.{seen_mark, seen_keyword, seen_symbol, seen_line}
 use Rattle.rob_syntax.proofs.SeenLemmas.{own_symbol, own-seen_mark, own-seen_keyword, own-seen_symbol}
 
 line_back : (symbols : List Symbol) → map own_symbol (map seen_symbol symbols) ≡ symbols

@@ -7,7 +7,7 @@ use Rattle.rob_syntax.specs.declared.symbol.Keyword.{Keyword}
 use Rattle.rob_syntax.specs.declared.symbol.Keyword.TheVariants as word
 use Rattle.rob_syntax.specs.declared.symbol.Symbol.{Symbol}
 use Rattle.rob_syntax.specs.declared.symbol.Symbol.TheVariants.{Name, Digits, Sign, Reserved}
-use Rattle.rob_syntax.specs.Seen.{seen_mark, seen_keyword, seen_symbol, seen_line}
+use Rattle.rob_syntax.specs.SeenSymbols.{seen_mark, seen_keyword, seen_symbol, seen_line}
 
 -- the code's sign
 abbrev pub own_mark : index.Mark → Mark

@@ -6,6 +6,7 @@ pub mod Grammar
 pub mod Lists
 pub mod Statements
 pub mod Trees
+pub mod SeenSymbols
 pub mod Seen
 pub mod Fronts
 pub mod Parts

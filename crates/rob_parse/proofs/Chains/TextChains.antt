@@ -38,7 +38,7 @@ use Rattle.rob_rules.specs.Texts.{Reads, has_later, in_front, is_declared}
 use Rattle.rob_rules.specs.declared.fault.Fault.{Fault}
 use Rattle.rob_syntax.specs.Names.{GoesOn, IsWord}
 use Rattle.rob_syntax.specs.Numbered.{numbered}
-use Rattle.rob_syntax.specs.Seen.{seen_line}
+use Rattle.rob_syntax.specs.SeenSymbols.{seen_line}
 use Rattle.rob_syntax.specs.Symbols.{keyword_among, keywords, longest_name, number_of, word_in, words_of}
 use Rattle.rob_syntax.specs.Versions.{text_lines, text_version}
 use Rattle.rob_syntax.specs.declared.symbol.Symbol.{Symbol}

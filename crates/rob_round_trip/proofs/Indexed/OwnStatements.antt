@@ -12,7 +12,7 @@ use Rattle.rob_round_trip.proofs.Indexed.PlainExpressions.{plain_expr, plain_fac
 use Rattle.rob_round_trip.proofs.Indexed.PlainLines.{bare_entry, bare_over, bare_share, bounds_back, is_line, line_seen, plain_line, plain_sides, rel_back, sense_back}
 use Rattle.rob_syntax.specs.Grammar.{Expr, Factor, Factors, Term, Terms, expr, name, no_factors, no_terms, number, parens, signed, term, times, tree_expr, tree_factor, tree_factors, tree_term, tree_terms}
 use Rattle.rob_syntax.specs.Numbered.{own_bounds, own_numeral, own_rel, own_sense, own_signed}
-use Rattle.rob_syntax.specs.Seen.{seen_line}
+use Rattle.rob_syntax.specs.SeenSymbols.{seen_line}
 use Rattle.rob_syntax.specs.Statements.{IsStatement, Line, Sides, relation_of, spell_line, statement_of}
 use Rattle.rob_syntax.specs.Statements as line
 use Rattle.rob_syntax.specs.declared.symbol.Symbol.{Symbol}

@@ -12,7 +12,8 @@ use Rattle.rob_meaning.specs.Places.{Each}
 use Rattle.rob_round_trip.specs.Shown.{IsFoundAgain}
 use Rattle.rob_syntax.specs.Grammar.{Expr, Factor, Factors, Term, Terms, expr, name, no_factors, no_terms, number, parens, sign_of, signed, spell_expr, spell_factor, spell_factors, spell_minus, spell_number, spell_term, spell_terms, term, times, tree_expr, tree_factor, tree_factors, tree_term, tree_terms}
 use Rattle.rob_syntax.specs.Numbered.{numbered_factors, numbered_parts, numbered_tree}
-use Rattle.rob_syntax.specs.Seen.{seen_line, seen_numeral, seen_symbol}
+use Rattle.rob_syntax.specs.SeenSymbols.{seen_line, seen_symbol}
+use Rattle.rob_syntax.specs.Seen.{seen_numeral}
 use Rattle.rob_syntax.specs.declared.symbol.Mark.TheVariants as mark
 use Rattle.rob_syntax.specs.declared.symbol.Symbol.{Symbol}
 use Rattle.rob_syntax.specs.declared.symbol.Symbol.TheVariants.{Sign}

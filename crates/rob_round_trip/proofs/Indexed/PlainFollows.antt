@@ -34,7 +34,7 @@ use Rattle.rob_rules.specs.Scopes.{Earlier, behind, declared_by}
 use Rattle.rob_rules.specs.Texts.{has_later, is_declared}
 use Rattle.rob_rules.specs.declared.fault.Fault.{Fault}
 use Rattle.rob_syntax.specs.Numbered.{numbered}
-use Rattle.rob_syntax.specs.Seen.{seen_line}
+use Rattle.rob_syntax.specs.SeenSymbols.{seen_line}
 use Rattle.rob_syntax.specs.Statements.{IsStatement}
 use Rattle.rob_syntax.specs.Symbols.{add_word, number_of}
 use Rattle.rob_syntax.specs.declared.symbol.Symbol.{Symbol}

@@ -23,7 +23,8 @@ use Rattle.rob_round_trip.specs.Shown.{IsFoundAgain}
 use Rattle.rob_syntax.specs.Grammar.{spell_expr, spell_minus, spell_number}
 use Rattle.rob_syntax.specs.Lists.{spell_list, spell_more}
 use Rattle.rob_syntax.specs.Numbered.{numbered, numbered_member, numbered_relation, own_bounds, own_rel, own_sense}
-use Rattle.rob_syntax.specs.Seen.{seen_bounds, seen_line, seen_numeral, seen_rel, seen_sense, seen_signed, seen_symbol}
+use Rattle.rob_syntax.specs.SeenSymbols.{seen_line, seen_symbol}
+use Rattle.rob_syntax.specs.Seen.{seen_bounds, seen_numeral, seen_rel, seen_sense, seen_signed}
 use Rattle.rob_syntax.specs.Statements.{IsStatement, Line, Sides, members_of, relation_of, spell_line, spell_member, spell_members, spell_name, spell_optional, spell_over, spell_rel, spell_sense, spell_sides, spell_signed, statement_of}
 use Rattle.rob_syntax.specs.Statements as line
 use Rattle.rob_syntax.specs.Symbols.{number_of}

@@ -26,7 +26,7 @@ use Rattle.rob_rules.specs.Texts as texts
 use Rattle.rob_rules.specs.Texts.{has_goal, has_later, in_front, is_declared}
 use Rattle.rob_rules.specs.declared.fault.Fault.{Fault}
 use Rattle.rob_syntax.proofs.VersionLemmas.{body_of_version_one}
-use Rattle.rob_syntax.specs.Seen.{seen_line}
+use Rattle.rob_syntax.specs.SeenSymbols.{seen_line}
 use Rattle.rob_syntax.specs.Statements.{Line, spell_line}
 use Rattle.rob_syntax.specs.Statements as line
 use Rattle.rob_syntax.specs.Symbols.{add_token, bytes_of, lines_of, symbol_at, symbols_of, token_lines, word_in, words_of}

@@ -18,7 +18,7 @@ use Rattle.rob_lex.specs.declared.token.Token.{Token}
 use Rattle.rob_meaning.specs.Places.{Each}
 use Rattle.rob_round_trip.proofs.Lengths.DepthSteps.{stays, step_of_mark}
 use Rattle.rob_round_trip.proofs.Lengths.TokenPlaces.{other_stays}
-use Rattle.rob_syntax.specs.Seen.{seen_keyword, seen_line, seen_mark, seen_symbol}
+use Rattle.rob_syntax.specs.SeenSymbols.{seen_keyword, seen_line, seen_mark, seen_symbol}
 use Rattle.rob_syntax.specs.Symbols.{add_token, bytes_of, is_name, keyword_among, keywords, lines_of, mark_of, number_of, symbol_at, symbols_of, token_lines, word_symbol}
 use Rattle.rob_syntax.specs.Versions.{body, has_token, names_version, text_lines, text_version}
 use Rattle.rob_syntax.specs.declared.symbol.Keyword.{Keyword}

@@ -10,7 +10,7 @@ use Rattle.rob_index.specs.Lines.{spell_line, statement_of, IsLine, IsStatement}
 use Rattle.rob_syntax.specs.Fronts.{EndsLine, Found, IsMissing, HasCause, Reads}
 use Rattle.rob_syntax.specs.Parts.{spell_named, spell_declared, spell_related, tree_related, spell_row, tree_row, spell_goal, tree_goal, spell_budget, spell_adaptive}
 use Rattle.rob_syntax.specs.Whole.{ReadsLine, IsNoLine, HasLineCause, IsNoStatement, HasStatementCause}
-use Rattle.rob_syntax.specs.Seen.{seen_keyword}
+use Rattle.rob_syntax.specs.SeenSymbols.{seen_keyword}
 use Rattle.rob_syntax.specs.declared.symbol.Keyword.{Keyword}
 use Rattle.rob_syntax.specs.declared.symbol.Keyword.TheVariants as keyword
 use Rattle.rob_syntax.specs.declared.error.ParseErr.{ParseErr}

@@ -5,7 +5,8 @@ ghost use Rattle.std.specs.Option.{option_map};
 ghost use Rattle.rob_index.specs.Grammar.{spell_bounds};
 ghost use Rattle.rob_syntax.specs.Fronts.{Ends, EndsBounds, Found, IsMissing};
 ghost use Rattle.rob_syntax.specs.Parts.{spell_interval};
-ghost use Rattle.rob_syntax.specs.Seen.{seen_line, seen_signed, seen_bounds};
+ghost use Rattle.rob_syntax.specs.SeenSymbols.{seen_line};
+ghost use Rattle.rob_syntax.specs.Seen.{seen_signed, seen_bounds};
 
 use crate::indexed::front::{behind_mark, behind_word};
 use crate::indexed::number::signed;

@@ -5,7 +5,8 @@ ghost use Rattle.rob_index.specs.Grammar.{spell_list, spell_more};
 ghost use Rattle.rob_index.specs.Lines.{spell_ranged, spell_share};
 ghost use Rattle.rob_syntax.specs.Fronts.{EndsLine, EndsList, EndsNumber, EndsShare, Found, HasCause, ReadsMore};
 ghost use Rattle.rob_syntax.specs.Parts.{spell_budget};
-ghost use Rattle.rob_syntax.specs.Seen.{seen_line, seen_numeral, seen_over, seen_ranged, seen_share};
+ghost use Rattle.rob_syntax.specs.SeenSymbols.{seen_line};
+ghost use Rattle.rob_syntax.specs.Seen.{seen_numeral, seen_over, seen_ranged, seen_share};
 
 use crate::error::ParseErr;
 use crate::indexed::front::{behind_mark, behind_word, front_name};

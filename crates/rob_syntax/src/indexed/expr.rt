@@ -7,7 +7,8 @@ ghost use Rattle.rob_index.specs.Symbols as is;
 ghost use Rattle.rob_index.specs.Grammar.{sign_of, spell_factor, spell_factors, spell_term, spell_terms, spell_expr, tree_factor, tree_term, tree_expr};
 ghost use Rattle.rob_syntax.specs.Fronts.{BeginsNot, BeginsNone, Ends, EndsFactor, EndsTerm, EndsExpr, HasCause, Reads, ReadsMore};
 ghost use Rattle.rob_syntax.specs.Parts.{spell_closed, spell_summed, tree_summed, factor_trees, term_parts};
-ghost use Rattle.rob_syntax.specs.Seen.{seen_line, seen_tree, seen_part};
+ghost use Rattle.rob_syntax.specs.SeenSymbols.{seen_line};
+ghost use Rattle.rob_syntax.specs.Seen.{seen_tree, seen_part};
 
 use crate::error::ParseErr;
 use crate::indexed::front::{behind_mark, behind_word, front_sign};

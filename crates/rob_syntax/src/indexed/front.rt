@@ -4,7 +4,7 @@ ghost use Rattle.std.specs.Prelude.{◌≡◌, ◌∷◌, MatchOption};
 ghost use Rattle.rob_index.specs.Symbols.{name, digits, sign, word};
 ghost use Rattle.rob_index.specs.Grammar.{sign_of};
 ghost use Rattle.rob_syntax.specs.Fronts.{BeginsNot, BeginsNone};
-ghost use Rattle.rob_syntax.specs.Seen.{seen_mark, seen_keyword, seen_line};
+ghost use Rattle.rob_syntax.specs.SeenSymbols.{seen_mark, seen_keyword, seen_line};
 
 use crate::symbol;
 use crate::symbol::{Keyword, Mark, Symbol};

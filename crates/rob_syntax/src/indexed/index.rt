@@ -3,7 +3,8 @@
 ghost use Rattle.std.specs.Prelude.{◌≡◌, [], ◌∷◌, map, MatchOption, MatchResult};
 ghost use Rattle.rob_index.specs.Grammar.{spell_atom, spell_steps, spell_index, spell_more, spell_indices, spell_ref};
 ghost use Rattle.rob_syntax.specs.Fronts.{BeginsNone, EndsIndex, EndsRef, EndsList, Found, HasCause, ReadsMore};
-ghost use Rattle.rob_syntax.specs.Seen.{seen_atom, seen_step, seen_index, seen_ref, seen_line};
+ghost use Rattle.rob_syntax.specs.SeenSymbols.{seen_line};
+ghost use Rattle.rob_syntax.specs.Seen.{seen_atom, seen_step, seen_index, seen_ref};
 
 use crate::error::ParseErr;
 use crate::indexed::front::{behind_mark, front_digits, front_name, front_sign};

@@ -6,7 +6,8 @@ ghost use Rattle.rob_index.specs.Grammar.{spell_over, spell_ranges};
 ghost use Rattle.rob_index.specs.Lines.{spell_rel, spell_sides, trees_of};
 ghost use Rattle.rob_syntax.specs.Fronts.{BeginsNone, EndsLine, EndsOver, EndsSides, Found, HasCause, Reads};
 ghost use Rattle.rob_syntax.specs.Parts.{spell_named, spell_bounded, spell_declared, spell_ending, tree_ending, spell_related, tree_related};
-ghost use Rattle.rob_syntax.specs.Seen.{seen_line, seen_bounds, seen_rel, seen_ref, seen_ranges, seen_over, seen_tree, seen_sides};
+ghost use Rattle.rob_syntax.specs.SeenSymbols.{seen_line};
+ghost use Rattle.rob_syntax.specs.Seen.{seen_bounds, seen_rel, seen_ref, seen_ranges, seen_over, seen_tree, seen_sides};
 
 use crate::error::ParseErr;
 use crate::indexed::bounds::bounds;

@@ -5,7 +5,8 @@ ghost use Rattle.rob_index.specs.Symbols.{sign};
 ghost use Rattle.rob_index.specs.Symbols as is;
 ghost use Rattle.rob_index.specs.Grammar.{spell_divisor, spell_minus, spell_number, spell_signed};
 ghost use Rattle.rob_syntax.specs.Fronts.{BeginsNot, EndsNumber, Found, IsMissing};
-ghost use Rattle.rob_syntax.specs.Seen.{seen_line, seen_numeral, seen_signed};
+ghost use Rattle.rob_syntax.specs.SeenSymbols.{seen_line};
+ghost use Rattle.rob_syntax.specs.Seen.{seen_numeral, seen_signed};
 
 use crate::indexed::front::{behind_mark, front_digits};
 use crate::symbol::{Mark, Symbol};

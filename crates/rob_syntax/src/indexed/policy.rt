@@ -6,7 +6,8 @@ ghost use Rattle.rob_index.specs.Grammar.{spell_list, spell_more, spell_ref};
 ghost use Rattle.rob_index.specs.Lines.{spell_ranged};
 ghost use Rattle.rob_syntax.specs.Fronts.{EndsEntry, EndsLine, EndsList, Found, HasCause, ReadsMore};
 ghost use Rattle.rob_syntax.specs.Parts.{spell_adaptive};
-ghost use Rattle.rob_syntax.specs.Seen.{seen_line, seen_bounds, seen_ranged, seen_ranges, seen_ref};
+ghost use Rattle.rob_syntax.specs.SeenSymbols.{seen_line};
+ghost use Rattle.rob_syntax.specs.Seen.{seen_bounds, seen_ranged, seen_ranges, seen_ref};
 
 use crate::error::ParseErr;
 use crate::indexed::front::{behind_mark, front_name};

@@ -3,7 +3,8 @@
 ghost use Rattle.std.specs.Prelude.{[], ◌∷◌, map, MatchOption, MatchResult};
 ghost use Rattle.rob_index.specs.Grammar.{spell_more, spell_range, spell_ranges};
 ghost use Rattle.rob_syntax.specs.Fronts.{BeginsNoRange, BeginsRange, EndsIndex, EndsRanges, Found, HasCause, ReadsMore};
-ghost use Rattle.rob_syntax.specs.Seen.{seen_line, seen_range, seen_ranges};
+ghost use Rattle.rob_syntax.specs.SeenSymbols.{seen_line};
+ghost use Rattle.rob_syntax.specs.Seen.{seen_range, seen_ranges};
 
 use crate::error::ParseErr;
 use crate::indexed::front::{behind_mark, behind_word, front_name};

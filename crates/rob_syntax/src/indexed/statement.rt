@@ -6,7 +6,8 @@ ghost use Rattle.rob_index.specs.Symbols as is;
 ghost use Rattle.rob_index.specs.Lines.{IsStatement};
 ghost use Rattle.rob_syntax.specs.Fronts.{EndsLine, HasCause, Reads};
 ghost use Rattle.rob_syntax.specs.Parts.{spell_goal, tree_goal, spell_row, tree_row};
-ghost use Rattle.rob_syntax.specs.Seen.{seen_keyword, seen_line, seen_over, seen_ranges, seen_ref, seen_sides, seen_statement, seen_tree};
+ghost use Rattle.rob_syntax.specs.SeenSymbols.{seen_keyword, seen_line};
+ghost use Rattle.rob_syntax.specs.Seen.{seen_over, seen_ranges, seen_ref, seen_sides, seen_statement, seen_tree};
 ghost use Rattle.rob_syntax.specs.Whole.{ReadsLine, HasLineCause, HasStatementCause};
 
 use crate::error::ParseErr;

@@ -1,7 +1,7 @@
 use Rattle.std.proofs.Common.{length, ap}
 use Rattle.std.proofs.lemmas.Result.{err_from_is_err_and}
 use Rattle.rob_syntax.specs.Known.{texts}
-use Rattle.rob_syntax.specs.Seen.{seen_line}
+use Rattle.rob_syntax.specs.SeenSymbols.{seen_line}
 use Rattle.rob_syntax.specs.Versions.{seen_version}
 use Rattle.rob_rules.specs.Stages.{stage_of}
 use Rattle.rob_rules.proofs.MoreLines.{read_nothing}

@@ -2,7 +2,8 @@ use Rattle.std.proofs.Common.{◌+◌, ◌*◌, [], ◌∷◌, length, map}
 use Rattle.rob_index.specs.Grammar.{spell_factors, spell_terms}
 use Rattle.rob_syntax.specs.Fronts.{EndsTerm, EndsExpr}
 use Rattle.rob_syntax.specs.Parts.{factor_trees, term_parts}
-use Rattle.rob_syntax.specs.Seen.{seen_line, seen_tree, seen_part}
+use Rattle.rob_syntax.specs.SeenSymbols.{seen_line}
+use Rattle.rob_syntax.specs.Seen.{seen_tree, seen_part}
 use Rattle.rob_syntax.proofs.Fronts.ChainLemmas.{Front}
 use Rattle.rob_syntax.proofs.indexed.expr.+indexed_expr.Given as goal
 

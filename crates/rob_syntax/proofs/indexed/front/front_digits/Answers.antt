@@ -1,5 +1,5 @@
 use Rattle.std.proofs.Common.{ap}
-use Rattle.rob_syntax.specs.Seen.{seen_line}
+use Rattle.rob_syntax.specs.SeenSymbols.{seen_line}
 use Rattle.rob_syntax.proofs.Seeing.{no_digits}
 use Rattle.rob_syntax.proofs.indexed.front.front_digits.Goals as goal
 

@@ -1,7 +1,8 @@
 use Rattle.std.proofs.Common.{[], ◌∷◌, length, map}
 use Rattle.rob_index.specs.Grammar.{spell_more, spell_index}
 use Rattle.rob_syntax.specs.Fronts.{EndsIndex, EndsList}
-use Rattle.rob_syntax.specs.Seen.{seen_line, seen_index}
+use Rattle.rob_syntax.specs.SeenSymbols.{seen_line}
+use Rattle.rob_syntax.specs.Seen.{seen_index}
 use Rattle.rob_syntax.proofs.Fronts.ChainLemmas.{Front}
 use Rattle.rob_syntax.proofs.indexed.index.indices.Given as goal
 

@@ -1,7 +1,8 @@
 use Rattle.std.proofs.Common.{[], length, map}
 use Rattle.rob_index.specs.Grammar.{spell_steps}
 use Rattle.rob_syntax.specs.Fronts.{EndsIndex}
-use Rattle.rob_syntax.specs.Seen.{seen_line, seen_step}
+use Rattle.rob_syntax.specs.SeenSymbols.{seen_line}
+use Rattle.rob_syntax.specs.Seen.{seen_step}
 use Rattle.rob_syntax.proofs.Fronts.ChainLemmas.{Front}
 use Rattle.rob_syntax.proofs.indexed.index.steps.Given as goal
 

@@ -2,7 +2,8 @@ use Rattle.std.proofs.Common.{[], ◌∷◌, length, map}
 use Rattle.rob_index.specs.Grammar.{spell_more, spell_ref}
 use Rattle.rob_index.specs.Lines.{spell_ranged}
 use Rattle.rob_syntax.specs.Fronts.{EndsList, EndsEntry}
-use Rattle.rob_syntax.specs.Seen.{seen_line, seen_ranged, seen_ref}
+use Rattle.rob_syntax.specs.SeenSymbols.{seen_line}
+use Rattle.rob_syntax.specs.Seen.{seen_ranged, seen_ref}
 use Rattle.rob_syntax.proofs.Fronts.ChainLemmas.{Front}
 use Rattle.rob_syntax.proofs.indexed.policy.entries_behind.Given as goal
 

@@ -1,7 +1,8 @@
 use Rattle.std.proofs.Common.{[], ◌∷◌, length, map}
 use Rattle.rob_index.specs.Grammar.{spell_more, spell_range}
 use Rattle.rob_syntax.specs.Fronts.{EndsRanges}
-use Rattle.rob_syntax.specs.Seen.{seen_line, seen_range}
+use Rattle.rob_syntax.specs.SeenSymbols.{seen_line}
+use Rattle.rob_syntax.specs.Seen.{seen_range}
 use Rattle.rob_syntax.proofs.Fronts.ChainLemmas.{Front}
 use Rattle.rob_syntax.proofs.indexed.range.ranges_behind.Given as goal
 
