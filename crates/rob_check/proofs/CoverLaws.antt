@@ -30,7 +30,8 @@ use Rattle.rob_meaning.specs.Vectors.{dot, mat_vec, scale, vec_mat, zeros}
 use Rattle.rob_model.proofs.JudgingLemmas.{at_most_decides}
 use Rattle.rob_model.proofs.KeptLemmas.{kept_is, some_is, through, through_kept}
 use Rattle.rob_model.specs.Within.{◌>>=◌, is_at_most}
-use Rattle.rob_check.specs.Conditions.{Covering, column_test, column_tests, constant_test, cover_tests, covering_tests, covers_of, form_tests, form_within, rows_within, sign_test}
+use Rattle.rob_check.specs.Covers.{Covering, column_test, column_tests, constant_test, cover_tests, covers_of, form_tests, form_within, rows_within, sign_test}
+use Rattle.rob_check.specs.Conditions.{covering_tests}
 use Rattle.rob_check.specs.LiftedSet.{lifted}
 use Rattle.rob_check.specs.Sums.{column, dot_within, is_nonnegative, numbers_from, row_at}
 use Rattle.rob_check.specs.Verdicts.{Judges, verdict}

@@ -13,7 +13,7 @@ use Rattle.rob_model.proofs.PartLemmas.{drop_at, drop_past}
 use Rattle.rob_model.specs.Within.{◌>>=◌}
 use Rattle.rob_sets.specs.declared.set_form.SetForm.{SetForm}
 use Rattle.rob_sets.specs.declared.set_form.SetRow.{SetRow}
-use Rattle.rob_check.specs.Conditions.{Covering, column_test, cover_tests, covers_of, form_tests, form_within, rows_within}
+use Rattle.rob_check.specs.Covers.{Covering, column_test, cover_tests, covers_of, form_tests, form_within, rows_within}
 use Rattle.rob_check.specs.LiftedSet.{LiftedSet, lifted_of, numbers_in}
 use Rattle.rob_check.specs.Sums.{added_within, column, dot_within, products, row_at, with_part}
 use Rattle.rob_check.specs.Verdicts.{verdict}

@@ -11,7 +11,7 @@ use Rattle.rob_meaning.specs.Certificates.{Cover, IsBefore}
 use Rattle.rob_meaning.specs.Places.{0ℚ, at, Each, tabulate, InOrder}
 use Rattle.rob_meaning.specs.Proves.{amount_at}
 use Rattle.rob_meaning.specs.Vectors.{dot}
-use Rattle.rob_check.specs.Conditions.{covers_of}
+use Rattle.rob_check.specs.Covers.{covers_of}
 use Rattle.rob_check.proofs.RunLemmas.{same_number, equal, unequal}
 use Rattle.rob_check.proofs.SumLaws.{total}
 

@@ -16,7 +16,8 @@ use Rattle.rob_model.specs.View.{sense_of}
 use Rattle.rob_model.specs.declared.place.Place.TheVariants as At
 use Rattle.rob_sets.specs.SetForm.{IsSetForm}
 use Rattle.rob_sets.specs.declared.set_form.SetForm.{SetForm}
-use Rattle.rob_check.specs.Conditions.{Covering, cover_tests, covering_tests, inside_tests, items_tests, set_tests, sum_tests}
+use Rattle.rob_check.specs.Covers.{Covering, cover_tests}
+use Rattle.rob_check.specs.Conditions.{covering_tests, inside_tests, items_tests, set_tests, sum_tests}
 use Rattle.rob_check.specs.LiftedSet.{LiftedSet, lifted, lifted_of}
 use Rattle.rob_check.specs.Verdicts.{verdict}
 use Rattle.rob_check.specs.declared.covering.Covered.{Covered}

@@ -7,7 +7,7 @@ use Rattle.rob_cert.specs.View.{cover_of}
 use Rattle.rob_cert.specs.declared.certificate.Cover as program
 use Rattle.rob_meaning.specs.Certificates.{Cover, IsBefore}
 use Rattle.rob_meaning.specs.Places.{Each, InOrder}
-use Rattle.rob_check.specs.Conditions.{covers_of}
+use Rattle.rob_check.specs.Covers.{covers_of}
 use Rattle.rob_check.specs.View.{AreOrdered, NameRows, run}
 use Rattle.std.proofs.lemmas.List.{take-map}
 

@@ -1,4 +1,5 @@
 pub mod Claims
+pub mod Covers
 pub mod Conditions
 pub mod LiftedSet
 pub mod Narrow

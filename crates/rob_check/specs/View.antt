@@ -10,13 +10,13 @@ use Rattle.rob_meaning.specs.Places.{Each, at, InOrder}
 use Rattle.rob_model.specs.Valid.{IsValid}
 use Rattle.rob_model.specs.View.{robust}
 use Rattle.rob_sets.specs.declared.set_form.SetRow.{SetRow}
-use Rattle.rob_check.specs.Conditions as conditions
+use Rattle.rob_check.specs.Covers
 use Rattle.rob_check.specs.declared.covering.Covering.{Covering}
 use Rattle.rob_check.specs.declared.given.Given.{Given}
 use Rattle.rob_meaning.specs.Certificates.{IsBefore}
 
 -- what is covered, with its scale, its vector and its multipliers
-abbrev pub covering_of : {N : Type 0} → (N → Fraction) → Covering N → conditions.Covering
+abbrev pub covering_of : {N : Type 0} → (N → Fraction) → Covering N → Covers.Covering
 covering_of value g = record {
   covered = g.covered;
   scale = value g.scale;

@@ -5,7 +5,7 @@ ghost use Rattle.std.specs.Result.{result_ok};
 ghost use Rattle.rob_algebra.specs.Fraction.{of_int, ◌*ℚ◌};
 ghost use Rattle.rob_algebra.specs.Width.{kept};
 ghost use Rattle.rob_cert.specs.View.{cover_of};
-ghost use Rattle.rob_check.specs.Conditions.{column_test, column_tests, constant_test, cover_place, cover_tests, form_tests, form_within, rows_within, sign_place, sign_test};
+ghost use Rattle.rob_check.specs.Covers.{column_test, column_tests, constant_test, cover_place, cover_tests, form_tests, form_within, rows_within, sign_place, sign_test};
 ghost use Rattle.rob_check.specs.LiftedSet.{lifted_of, numbers_in};
 ghost use Rattle.rob_check.specs.Sums.{dot_within, with_part};
 ghost use Rattle.rob_check.specs.Verdicts.{Counted, RoseIfWide, verdict};

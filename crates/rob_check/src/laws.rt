@@ -3,7 +3,8 @@
 ghost use Rattle.std.specs.Prelude.{◌≡◌, ℕ, List, length, None, Some};
 ghost use Rattle.rob_algebra.specs.Fraction.{Fraction};
 ghost use Rattle.rob_cert.specs.Shape.{AreCoversOf, HasShape, IsItemOf};
-ghost use Rattle.rob_check.specs.Conditions.{Covering, covering_tests, inside_tests, items_tests, sum_tests, verdict_of};
+ghost use Rattle.rob_check.specs.Covers.{Covering};
+ghost use Rattle.rob_check.specs.Conditions.{covering_tests, inside_tests, items_tests, sum_tests, verdict_of};
 ghost use Rattle.rob_check.specs.Narrow.{IsDecided, NoneWide};
 ghost use Rattle.rob_check.specs.Verdicts.{Judges, verdict};
 ghost use Rattle.rob_check.specs.Claims.{SumsToPositive};

@@ -8,7 +8,8 @@ use Rattle.rob_cert.specs.Apart.{FitsLines}
 use Rattle.rob_cert.specs.Shape.{AreCoversOf, HasShape, IsCoverOf}
 use Rattle.rob_cert.specs.Whole.{IsTextOf}
 use Rattle.rob_check.proofs.SumLaws.{numbers_each}
-use Rattle.rob_check.specs.Conditions.{Covering, base_tests, conditions_as, cover_tests, covering_tests, inside_tests, items_sum_tests, items_tests, item_tests, move_test, plan_covering, set_tests, step_covering, sum_test, verdict_of, column_test, constant_test, column_tests, cover_place, covers_of, form_tests, sign_place, sign_test}
+use Rattle.rob_check.specs.Covers.{Covering, cover_tests, column_test, constant_test, column_tests, cover_place, covers_of, form_tests, sign_place, sign_test}
+use Rattle.rob_check.specs.Conditions.{base_tests, conditions_as, covering_tests, inside_tests, items_sum_tests, items_tests, item_tests, move_test, plan_covering, set_tests, step_covering, sum_test, verdict_of}
 use Rattle.rob_check.specs.LiftedSet.{lifted}
 use Rattle.rob_check.specs.Sums.{numbers_from}
 use Rattle.rob_check.specs.Verdicts.{Condition, Judges, OnAccepted, RoseIfWide, decided, verdict}

@@ -1,7 +1,7 @@
 use Rattle.std.proofs.Common.{arith, map, ap, suc, add-one, ◌∙◌}
 use Rattle.std.specs.Result.{result_ok}
 use Rattle.rob_cert.specs.View.{cover_of}
-use Rattle.rob_check.specs.Conditions.{column_test, constant_test, cover_place}
+use Rattle.rob_check.specs.Covers.{column_test, constant_test, cover_place}
 use Rattle.rob_check.specs.LiftedSet.{lifted_of}
 use Rattle.rob_check.specs.View.{covering_of}
 use Rattle.rob_meaning.specs.Clearing.{fractions}

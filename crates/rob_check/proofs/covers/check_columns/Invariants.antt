@@ -1,7 +1,7 @@
 use Rattle.std.proofs.Common.{◌≡◌, ◌-◌, [], ◌∷◌, ◌++◌, map}
 use Rattle.rob_number.specs.Counts.{NeverFell}
 use Rattle.rob_cert.specs.View.{cover_of}
-use Rattle.rob_check.specs.Conditions.{column_test, column_tests, constant_test}
+use Rattle.rob_check.specs.Covers.{column_test, column_tests, constant_test}
 use Rattle.rob_check.specs.LiftedSet.{lifted_of}
 use Rattle.rob_check.specs.Sums.{numbers_from}
 use Rattle.rob_check.specs.Verdicts.{verdict}

@@ -1,7 +1,7 @@
 use Rattle.std.proofs.Common.{◌≡◌, length, map, drop}
 use Rattle.rob_number.specs.Counts.{NeverFell}
 use Rattle.rob_cert.specs.View.{cover_of}
-use Rattle.rob_check.specs.Conditions.{cover_tests}
+use Rattle.rob_check.specs.Covers.{cover_tests}
 use Rattle.rob_check.specs.LiftedSet.{lifted_of}
 use Rattle.rob_check.specs.Verdicts.{verdict}
 use Rattle.rob_check.specs.View.{HasColumns, covering_of}

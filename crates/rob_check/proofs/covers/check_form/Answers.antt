@@ -1,6 +1,6 @@
 use Rattle.std.proofs.Common.{arith, map, ◌∙◌}
 use Rattle.rob_cert.specs.View.{cover_of}
-use Rattle.rob_check.specs.Conditions.{column_tests, sign_test}
+use Rattle.rob_check.specs.Covers.{column_tests, sign_test}
 use Rattle.rob_check.specs.LiftedSet.{lifted_of}
 use Rattle.rob_check.specs.View.{covering_of}
 use Rattle.rob_meaning.specs.Clearing.{fractions}

@@ -1,6 +1,6 @@
 use Rattle.std.proofs.Common.{◌≡◌, map, drop}
 use Rattle.rob_cert.specs.View.{cover_of}
-use Rattle.rob_check.specs.Conditions.{sign_test}
+use Rattle.rob_check.specs.Covers.{sign_test}
 use Rattle.rob_check.specs.Verdicts.{verdict}
 use Rattle.rob_check.specs.View.{covering_of}
 use Rattle.rob_check.proofs.covers.check_signs.Given as goal

@@ -1,7 +1,7 @@
 use Rattle.std.proofs.Common.{◌≡◌, length, map, drop}
 use Rattle.rob_number.specs.Counts.{NeverFell}
 use Rattle.rob_cert.specs.View.{cover_of}
-use Rattle.rob_check.specs.Conditions.{rows_within}
+use Rattle.rob_check.specs.Covers.{rows_within}
 use Rattle.rob_check.specs.LiftedSet.{lifted_of, numbers_in}
 use Rattle.rob_check.specs.View.{NameRows}
 use Rattle.rob_check.proofs.CoverLemmas.{rows_left}
