@@ -1,8 +1,7 @@
 -- Which answer has to come. The words and the files decide it, and a number that is wide is named; a fault of the
 -- outside and want of memory may come in its place, which say nothing of the model.
-use Rattle.std.specs.Prelude.{◌≡◌, ◌⊎◌, ◌++◌, ℕ, List, []}
+use Rattle.std.specs.Prelude.{◌≡◌, ◌⊎◌, ℕ, List, []}
 use Rattle.rob_algebra.specs.Fraction.{Fraction}
-use Rattle.rob_branch.specs.Verdicts.{IsAccepted, NoneWide as NoneWideInTree}
 use Rattle.rob_check.specs.Conditions.{verdict_of}
 use Rattle.rob_check.specs.Narrow.{IsFirstFailing, NoneWide}
 use Rattle.rob_dualize.specs.Solving.{IsNarrowModel}
@@ -15,14 +14,12 @@ use Rattle.rob_model.specs.declared.place.Place.{Place}
 use Rattle.rob_model.specs.declared.place.Spot.{Spot}
 use Rattle.rob_outside.specs.Files.{missing, too_long}
 use Rattle.rob_rules.specs.Texts.{Breaks}
-use Rattle.rob_reach.specs.Trees.{ProvesTree, Tree}
 use Rattle.rob_reach.specs.Sweeps.{IsBudgetAt}
 use Rattle.rob_reach.specs.WholeStatus.{HasWholeStatus}
 use Rattle.rob_replay.specs.Files.{IsFile}
 use Rattle.rob_replay.specs.Outcome.{outcome}
 use Rattle.rob_runs.specs.Spots.{IsWideSlack}
 use Rattle.rob_sets.specs.FirstWide.{IsFirstWide}
-use Rattle.rob_tree.specs.Reading.{Breaks as BreaksTree}
 use Rattle.rob_sweep.specs.Stops.{BreaksRule, KeepsRules}
 use Rattle.rob_top.specs.Branched.{BreaksWhole}
 use Rattle.rob_top.specs.Calls.{Call, Known, known_call, limit_of}
@@ -32,19 +29,19 @@ use Rattle.rob_top.specs.Inputs.{BreaksCertificate, HasCertificate, HasCertifica
 use Rattle.rob_top.specs.Replayed.{replay_ended}
 use Rattle.rob_top.specs.Routes.{IsWideOnWay}
 use Rattle.rob_top.specs.Searched.{IsWideSought, NamesNoForm, certificate_vector}
-use Rattle.rob_top.specs.TreeChecked.{HasTree, HasTreeFile}
 use Rattle.rob_top.specs.ComparedEnds.{MustEndCompared}
 use Rattle.rob_top.specs.SplitEnds.{MustEndSplit}
+use Rattle.rob_top.specs.TreeEnds.{MustEndTree}
 use Rattle.rob_top.specs.Swept.{HasLimit, HasSweep}
 use Rattle.rob_top.specs.Work.{ended_of, verdict_ended}
 use Rattle.rob_top.specs.declared.ended.Ended.{Ended}
-use Rattle.rob_top.specs.declared.ended.Ended.TheVariants.{Printed, Accepted, Rejected, Words, Missing, TooLong, Model, TooWide, WideNode, Cert, Whole, Sweep, Tree as TreeRule, NoRow}
+use Rattle.rob_top.specs.declared.ended.Ended.TheVariants.{Printed, Accepted, Rejected, Words, Missing, TooLong, Model, TooWide, WideNode, Cert, Whole, Sweep, NoRow}
 use Rattle.rob_words.specs.Commands.{Line, IsCommandLine, IsSpelled}
 use Rattle.rob_words.specs.Values.{Word}
 use Rattle.rob_words.specs.declared.route.Route.TheVariants.{Dual}
 use Rattle.rob_words.specs.declared.verb.Own.TheVariants as own
 use Rattle.rob_words.specs.declared.verb.Verb.TheVariants.{Rows, Text, Narrow}
-use Rattle.rob_top.specs.Endings.{IsUnput, IsOutside, EndsAs, IsSolveAnswer, IsEmptyAnswer, IsShownAnswer, IsProvedAnswer, IsWholeAnswer, IsWorstAnswer, IsEmptyWholeAnswer, IsSweepAnswer, IsNarrowAt, IsNarrowBelow, NamesFault, NamesWidth, NamesWideSought, IsTreeAnswer}
+use Rattle.rob_top.specs.Endings.{IsUnput, EndsAs, IsSolveAnswer, IsEmptyAnswer, IsShownAnswer, IsProvedAnswer, IsWholeAnswer, IsWorstAnswer, IsEmptyWholeAnswer, IsSweepAnswer, IsNarrowAt, IsNarrowBelow, NamesWideSought}
 use Rattle.rob_elab.specs.Written.{judged}
 use Rattle.rob_words.specs.declared.verb.Verb.TheVariants as verbs
 
@@ -168,28 +165,8 @@ module _ (call : Call) (result : Ended) where
     pub worst_slack : (line : Line) (m : RobustModel) (c : Certificate) (form : ℕ) → HasSought call line m c form
         → IsWideSlack (limit_of line) m form (certificate_vector c)
         → NamesWideSought (limit_of line) m form (certificate_vector c) result
-    -- `checktree`: the tree's text breaks a rule, so that rule and its line are named
-    pub tree_broken : (line : Line) (m : RobustModel) (names bytes : List ℕ) (rule number : ℕ)
-        → HasTreeFile call line m names bytes
-        → BreaksTree (limit_of line) m names bytes rule number → EndsAs (TreeRule rule number) result
-    -- it is the text of a tree, so the answer is the verdict on it
-    pub tree_verdict : (line : Line) (m : RobustModel) (names : List ℕ) (t : Tree) → HasTree call line m names t
-        → IsTreeAnswer (limit_of line) m names t result
-    -- the tree proves, so it is accepted, or a number of the check is wide
-    pub tree_proved : (line : Line) (m : RobustModel) (names : List ℕ) (t : Tree) → HasTree call line m names t
-        → ProvesTree m names t → EndsAs Accepted result ⊎ NamesWidth (limit_of line) m names t result
-    -- it proves, and no number of the check is wide, so it is accepted
-    pub tree_accepted : (line : Line) (m : RobustModel) (names : List ℕ) (t : Tree) → HasTree call line m names t
-        → IsAccepted (limit_of line) m names t → EndsAs Accepted result
-    -- it doesn't prove, so it is rejected, or a number of the check is wide
-    pub tree_rejected : (line : Line) (m : RobustModel) (names : List ℕ) (t : Tree) → HasTree call line m names t
-        → (ProvesTree m names t → ⊥)
-        → NamesFault (limit_of line) m names t result ⊎ (NamesWidth (limit_of line) m names t result ⊎ IsOutside result)
-    -- it doesn't prove, and no number of the check is wide, so it is rejected, at the first condition of a leaf that
-    -- fails
-    pub tree_judged : (line : Line) (m : RobustModel) (names : List ℕ) (t : Tree) → HasTree call line m names t
-        → NoneWideInTree (limit_of line) m t → (ProvesTree m names t → ⊥)
-        → NamesFault (limit_of line) m names t result ⊎ IsOutside result
+    -- `checktree`: specs/TreeEnds.antt
+    pub tree : MustEndTree call result
     -- `sweep`: the statement is no budget, or the limits don't rise, so the first broken rule is named
     pub sweep_rule : (line : Line) (m : RobustModel) (n : ℕ) (limits : List Fraction) (rule : ℕ)
         → HasSweep call line m n limits

@@ -28,6 +28,7 @@ pub mod SplitTexts
 pub mod SplitWork
 pub mod Swept
 pub mod TreeChecked
+pub mod TreeEnds
 pub mod TreeWork
 pub mod Ways
 pub mod Work

@@ -115,7 +115,7 @@ empty_breaks = in_claim NoLine (λ first after begins s is. empty_split first 10
 pub empty_tree_is_refused : (result : Ended) → MustEnd (tree_call half_a_demand []) result
     → EndsAs (TreeRule 71 1) result
 empty_tree_is_refused result must =
-    must.tree_broken line half_a_demand (0 ∷ []) [] 71 1 (has_file [] nothing_comes) empty_breaks
+    must.tree.broken line half_a_demand (0 ∷ []) [] 71 1 (has_file [] nothing_comes) empty_breaks
 
 -- ---- the text of a tree
 abbrev bytes_of : Tree → List ℕ
@@ -246,7 +246,7 @@ whole_orders_prove = found (test_tree half_a_demand (0 ∷ []) whole_orders) tt
 pub whole_orders_are_accepted : (result : Ended) → MustEnd (tree_call half_a_demand (bytes_of whole_orders)) result
     → EndsAs Accepted result ⊎ NamesWidth greatest half_a_demand (0 ∷ []) whole_orders result
 whole_orders_are_accepted result must =
-    must.tree_proved line half_a_demand (0 ∷ []) whole_orders
+    must.tree.proved line half_a_demand (0 ∷ []) whole_orders
     (tree_on whole_orders whole_orders_come (shape_at (int 7)) whole_orders_fit) whole_orders_prove
 
 -- ---- 6 is claimed
@@ -278,5 +278,5 @@ pub cheaper_orders_are_rejected : (result : Ended) → MustEnd (tree_call half_a
     → NamesFault greatest half_a_demand (0 ∷ []) cheaper_orders result
     ⊎ (NamesWidth greatest half_a_demand (0 ∷ []) cheaper_orders result ⊎ IsOutside result)
 cheaper_orders_are_rejected result must =
-    must.tree_rejected line half_a_demand (0 ∷ []) cheaper_orders
+    must.tree.rejected line half_a_demand (0 ∷ []) cheaper_orders
     (tree_on cheaper_orders cheaper_orders_come (shape_at (int 6)) cheaper_orders_fit) cheaper_orders_prove_not

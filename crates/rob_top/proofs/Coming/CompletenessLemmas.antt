@@ -21,7 +21,6 @@ use Rattle.rob_meaning.specs.WellFormed.{IsModel}
 use Rattle.rob_model.specs.declared.place.Place.{Place}
 use Rattle.rob_model.specs.declared.place.Spot.{Spot}
 use Rattle.rob_algebra.specs.Fraction.{Fraction}
-use Rattle.rob_reach.specs.Trees.{Tree}
 use Rattle.rob_reach.specs.WholeStatus.{HasWholeStatus}
 use Rattle.rob_runs.specs.Spots.{IsWideSlack}
 use Rattle.rob_sweep.specs.Stops.{KeepsRules}
@@ -40,20 +39,19 @@ use Rattle.rob_top.proofs.Courses.ReadOnceLemmas.{well}
 use Rattle.rob_top.proofs.Coming.TrueAnswerLemmas.{empty_decides, rows_decide, rule_decides, solve_decides, status_decides, verdict_decides, wide_decides}
 use Rattle.rob_top.proofs.Coming.WholeAnswerLemmas.{some_whole_status, whole_decides, whole_empty_decides, whole_status_decides, whole_wide_decides}
 use Rattle.rob_top.proofs.Coming.WorstAnswerLemmas.{unnamed_decides, unplanned_decides, worst_decides, worst_empty_decides, worst_printed_decides, worst_slack_decides}
-use Rattle.rob_top.proofs.Coming.TreeAnswerLemmas.{accepted_tree, breaking_decides, judged_tree, proved_tree, tree_broken_decides, tree_verdict_decides, unproved_tree}
+use Rattle.rob_top.proofs.Coming.TreeAnswerLemmas.{breaking_decides, tree_ends}
 use Rattle.rob_top.proofs.Coming.SplitAnswerLemmas.{split_ends}
 use Rattle.rob_top.proofs.Coming.SweepAnswerLemmas.{limit_decides, limit_rule_decides, narrow_sweep_decides, sweep_decides, sweep_rule_decides}
 use Rattle.rob_top.specs.Calls.{Call, Known, Output, known_call, limit_of}
 use Rattle.rob_top.specs.Commands.{IsBranching, IsSolving}
 use Rattle.rob_top.specs.Completeness.{IsComplete, MustEnd}
-use Rattle.rob_top.specs.Endings.{EndsAs, IsEmptyAnswer, IsEmptyWholeAnswer, IsNarrowBelow, IsOutside, IsProvedAnswer, IsSolveAnswer, IsSweepAnswer, IsTreeAnswer, IsUnput, IsWholeAnswer, IsWorstAnswer, NamesWideSought}
+use Rattle.rob_top.specs.Endings.{EndsAs, IsEmptyAnswer, IsEmptyWholeAnswer, IsNarrowBelow, IsOutside, IsProvedAnswer, IsSolveAnswer, IsSweepAnswer, IsUnput, IsWholeAnswer, IsWorstAnswer, NamesWideSought}
 use Rattle.rob_top.specs.Headline.{Ends, Means}
 use Rattle.rob_top.specs.Inputs.{HasCertificate, HasCertificateFile, HasForms, HasSought, HasWholeVariables}
 use Rattle.rob_top.specs.Replayed.{replay_ended}
 use Rattle.rob_top.specs.Routes.{IsWideOnWay}
 use Rattle.rob_top.specs.Searched.{certificate_vector}
 use Rattle.rob_top.specs.Solved.{IsPrinted, IsSolved}
-use Rattle.rob_top.specs.TreeChecked.{HasTree}
 use Rattle.rob_top.specs.Swept.{HasSweep}
 use Rattle.rob_top.specs.Work.{ended_of, verdict_ended}
 use Rattle.rob_top.specs.declared.ended.Ended.{Ended}
@@ -196,14 +194,6 @@ module _ (call : Call) (known : Known call.source) (ended : Ended) (comes : Come
               (whole_status_decides call known line m names has is u admitted narrow s.0 s.1 s.2 ended),
         )
 
-    tree_verdict_ends : (names : List ℕ) (t : Tree) → HasTree call line m names t
-        → IsTreeAnswer (limit_of line) m names t ended
-    tree_verdict_ends names t has = by comes
-      where
-        by : Comes call ended → IsTreeAnswer (limit_of line) m names t ended
-        by (inl h) = tree_verdict_decides call known line m names has.bytes has.file t has.text has.fits ended h.0 h.1
-        by (inr h) = inr (inr (inr (inr h)))
-
     sweep_ends : (n : ℕ) (gs : List Fraction) → HasSweep call line m n gs → KeepsRules m.set_lines n gs
         → IsSweepAnswer (limit_of line) m n gs ended
     sweep_ends n gs has keeps =
@@ -288,18 +278,7 @@ module _ (call : Call) (known : Known call.source) (ended : Ended) (comes : Come
         comes_ends call Printed ended comes
         (worst_printed_decides call known line m c form has u admitted narrow ended);
     worst_slack = worst_slack_ends;
-    tree_broken = λ line m names bytes rule number has breaks.
-        comes_ends call (TreeRule rule number) ended comes
-        (tree_broken_decides call known line m names bytes has rule number breaks ended);
-    tree_verdict = tree_verdict_ends;
-    tree_proved = λ line m names t has proves.
-        proved_tree (limit_of line) m names t has.text.shape ended proves (tree_verdict_ends line m names t has);
-    tree_accepted = λ line m names t has accepted.
-        accepted_tree (limit_of line) m names t has.text.shape ended accepted (tree_verdict_ends line m names t has);
-    tree_rejected = λ line m names t has not.
-        unproved_tree (limit_of line) m names t has.text.shape ended not (tree_verdict_ends line m names t has);
-    tree_judged = λ line m names t has none not.
-        judged_tree (limit_of line) m names t has.text.shape ended none not (tree_verdict_ends line m names t has);
+    tree = tree_ends call known ended comes;
     sweep_rule = λ line m n gs rule has breaks.
         comes_ends call (Sweep rule) ended comes (sweep_rule_decides call known line m n gs has rule breaks ended);
     sweep = sweep_ends;

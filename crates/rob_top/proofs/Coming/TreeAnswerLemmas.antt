@@ -16,6 +16,7 @@ use Rattle.rob_top.proofs.Courses.ReadOnceLemmas.{well, named, in_words, most}
 use Rattle.rob_top.proofs.Courses.StageLemmas.{file_once}
 use Rattle.rob_top.proofs.Meaning.TreeCheckLemmas.{rejected_not}
 use Rattle.rob_top.proofs.Courses.TreeCourseLemmas.{TreeCourse, breaks_names, breaks_text, judges_tree}
+use Rattle.rob_top.proofs.Coming.ComingLemmas.{Comes, comes_ends}
 use Rattle.rob_top.proofs.Coming.TrueAnswerLemmas.{first_of_two, unformed_course}
 use Rattle.rob_top.proofs.Coming.WholeAnswerLemmas.{branching_decides, model_of, no_break, one_rule, whole_once}
 use Rattle.rob_top.specs.Branched.{BreaksWhole}
@@ -26,6 +27,7 @@ use Rattle.rob_top.specs.Endings.{EndsAs, IsOutside, IsTreeAnswer, NamesFault, N
 use Rattle.rob_top.specs.Headline.{Means}
 use Rattle.rob_top.specs.Inputs.{HasModel}
 use Rattle.rob_top.specs.TreeChecked.{HasTree, HasTreeFile}
+use Rattle.rob_top.specs.TreeEnds.{MustEndTree}
 use Rattle.rob_top.specs.declared.ended.Ended.{Ended}
 use Rattle.rob_top.specs.declared.ended.Ended.TheVariants.{Accepted, Memory, ReadFault, Tree as TreeRule, Whole}
 use Rattle.rob_words.specs.Commands.{Line}
@@ -197,3 +199,29 @@ module _ (limit : ℕ) (m : RobustModel) (names : List ℕ) (t : Tree)
       by (inl h) = inl h
       by (inr (inl h)) = absurd (no_width_told none h)
       by (inr (inr h)) = inr h
+
+-- ---- all of it
+module _ (call : Call) (known : Known call.source) (ended : Ended) (comes : Comes call ended) where
+  tree_verdict_ends : (line : Line) (m : RobustModel) (names : List ℕ) (t : Tree) → HasTree call line m names t
+      → IsTreeAnswer (limit_of line) m names t ended
+  tree_verdict_ends line m names t has = by comes
+    where
+      by : Comes call ended → IsTreeAnswer (limit_of line) m names t ended
+      by (inl h) = tree_verdict_decides call known line m names has.bytes has.file t has.text has.fits ended h.0 h.1
+      by (inr h) = inr (inr (inr (inr h)))
+
+  pub tree_ends : MustEndTree call ended
+  tree_ends = record {
+    broken = λ line m names bytes rule number has breaks.
+        comes_ends call (TreeRule rule number) ended comes
+        (tree_broken_decides call known line m names bytes has rule number breaks ended);
+    verdict = tree_verdict_ends;
+    proved = λ line m names t has proves.
+        proved_tree (limit_of line) m names t has.text.shape ended proves (tree_verdict_ends line m names t has);
+    accepted = λ line m names t has accepted.
+        accepted_tree (limit_of line) m names t has.text.shape ended accepted (tree_verdict_ends line m names t has);
+    rejected = λ line m names t has not.
+        unproved_tree (limit_of line) m names t has.text.shape ended not (tree_verdict_ends line m names t has);
+    judged = λ line m names t has none not.
+        judged_tree (limit_of line) m names t has.text.shape ended none not (tree_verdict_ends line m names t has);
+  }

@@ -39,7 +39,7 @@ module _ (growing checking : Call) (known : Known checking.source) (status : Sta
       → HasTreeFile (known_call checking known) line b.m b.names text → (ended : Ended)
       → MustEnd (known_call checking known) ended → EndsAs Accepted ended
       ⊎ NamesWidth (limit_of line) b.m b.names b.t ended
-  grown_then_checked is file ended must = must.tree_proved line b.m b.names b.t (printed_tree is file) b.proves
+  grown_then_checked is file ended must = must.tree.proved line b.m b.names b.t (printed_tree is file) b.proves
 
 -- a tree that is accepted claims the status that a tree has grown for, and the value of an optimum
 pub accepted_status : (growing checking : Call) (status : Status) (text shown : List ℕ)
