@@ -1,7 +1,7 @@
 -- A row of the cells that another row clears.
 use Rattle.std.proofs.Common.{◌≡◌, ◌≢◌, ℕ, ◌+◌, ◌-◌, ◌<◌, ◌≤◌, sym, ap, ◌∙◌, subst, arith, List, length, map}
 use Rattle.std.proofs.lemmas.List.{length-map}
-use Rattle.rob_algebra.specs.Fraction.{pos_lt}
+use Rattle.rob_algebra.specs.FractionPairs.{pos_lt}
 use lib.IntN.{ℤ, pos, nat_abs, ◌*ℤ◌}
 use Rattle.rob_linear.specs.Vectors.{Vector, at}
 use Rattle.rob_linear.specs.Multiples.{IsClearedBy}

@@ -6,7 +6,7 @@ use Rattle.std.proofs.lemmas.Bool.Decides.{nat_tests}
 use Rattle.std.specs.Option.{IfSome, MatchOption}
 use lib.IntN.{ℤ, pos, neg_ℤ}
 use lib.Signed.{◌<ℤ◌, ◌≤ℤ◌}
-use Rattle.rob_algebra.specs.Integer.{le_total}
+use Rattle.rob_algebra.specs.IntegerOrder.{le_total}
 use Rattle.rob_linear.specs.Vectors.{Matrix, Vector}
 use Rattle.rob_linear.specs.Programs.{auxiliary_tag}
 use Rattle.rob_linear.specs.Turns.{key, ComesBefore}

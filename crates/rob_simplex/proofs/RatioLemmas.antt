@@ -5,7 +5,8 @@ use Rattle.std.proofs.lemmas.Bool.Decides.{nat_tests}
 use Rattle.std.proofs.lemmas.Int.{ints}
 use lib.IntN.{ℤ, pos, neg_ℤ, ◌-ℤ◌, ◌*ℤ◌}
 use lib.Signed.{◌<ℤ◌, ◌≤ℤ◌}
-use Rattle.rob_algebra.specs.Integer.{mul_nonneg, mul-pos_z, mul-neg, le_of_lt_z}
+use Rattle.rob_algebra.specs.Integer.{mul-neg}
+use Rattle.rob_algebra.specs.IntegerOrder.{mul_nonneg, mul-pos_z, le_of_lt_z}
 use Rattle.rob_linear.specs.Vectors.{Vector}
 use Rattle.rob_linear.specs.Programs.{auxiliary_tag}
 use Rattle.rob_linear.specs.Turns.{IsLexPositive, key, ComesBefore}

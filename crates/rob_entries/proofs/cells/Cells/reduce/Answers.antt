@@ -1,6 +1,6 @@
 use Rattle.std.proofs.Common.{◌≡◌, ◌≤◌, ◌∙◌, ap, refl, subst, sym, arith, List, length, map, pos, nat_abs, ◌*ℤ◌}
 use Rattle.std.proofs.lemmas.List.{length-map}
-use Rattle.rob_algebra.specs.Fraction.{pos_lt}
+use Rattle.rob_algebra.specs.FractionPairs.{pos_lt}
 use lib.IntN.{ℤ}
 use Rattle.rob_entries.specs.Maps.{IsMapped}
 use Rattle.rob_entries.proofs.MapLemmas.{mapped_back, part_zero}
