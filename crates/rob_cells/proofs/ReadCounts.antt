@@ -4,9 +4,9 @@ use Rattle.std.proofs.Common.{◌≡◌, ℕ, ◌+◌, ◌-◌, ◌*◌, ◌≤�
 use Rattle.std.proofs.lemmas.List.{length-map}
 use Rattle.rob_algebra.specs.Fraction.{Fraction}
 use Rattle.rob_cells.proofs.CountLemmas.{few_adaptives, few_lines, few_params, few_rows, few_vars, less_of}
-use Rattle.rob_cells.proofs.SetSizeLemmas.{length-parameter_bound_names, parameter_bounds, rows_of}
+use Rattle.rob_cells.proofs.SetSizeLemmas.{length-parameter_bound_names}
 use Rattle.rob_cells.proofs.SplitSizeLemmas.{cell_form_count, counted, counts_are, counts_few, few_times, own_forms, own_set_rows}
-use Rattle.rob_cells.specs.Counts.{AreCountsOf, AreSmall, adaptive_bounds, variable_bounds}
+use Rattle.rob_cells.specs.Counts.{AreCountsOf, AreSmall}
 use Rattle.rob_cells.specs.View.{cut_of}
 use Rattle.rob_cells.specs.declared.cut.Cut.{Cut}
 use Rattle.rob_cells.specs.declared.size.Counts.{Counts}
@@ -14,6 +14,7 @@ use Rattle.rob_meaning.proofs.NameLemmas.{length-column_names, length-form_names
 use Rattle.rob_meaning.specs.Names.{column_names, form_names, set_row_names}
 use Rattle.rob_meaning.specs.RobustModel.{RobustModel}
 use Rattle.rob_meaning.specs.SetRows.{lift_count}
+use Rattle.rob_meaning.specs.Sizes.{adaptive_bounds, parameter_bounds, rows_of, variable_bounds}
 use Rattle.rob_model.proofs.NameCountLemmas.{kind_few}
 use Rattle.rob_model.specs.GroupNames.{parameter_bound_names}
 use Rattle.rob_model.specs.Valid.{IsValid}
