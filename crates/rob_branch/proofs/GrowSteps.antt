@@ -1,6 +1,7 @@
 -- A box that grows, one step at a time: its scenario, what is asked of it and of a box behind it, what is counted, and
 -- why it may stop.
-use Rattle.std.proofs.Common.{◌≡◌, ◌≢◌, ℕ, ◌+◌, ◌-◌, ◌^◌, ◌<◌, ◌≤◌, List, [], ◌∷◌, ◌++◌, ◌⊎◌, T, inl, inr, refl, ap, sym, ◌∙◌, subst, arith, append-nil, to_z, of_z, w64}
+use Rattle.std.proofs.Common.{◌≡◌, ℕ, List, [], ◌⊎◌, inl, inr, refl, sym, subst, append-nil, ◌≢◌, ◌+◌, ◌-◌, ◌^◌, ◌<◌, ◌≤◌, ◌∷◌, ◌++◌, T, ap, ◌∙◌, to_z, of_z, w64, arith}
+use Rattle.std.specs.Prelude.{map, None, Result, Ok, Err, IfErr, ℤ, pos, nat_abs}
 use Rattle.std.proofs.lemmas.List.{map-append}
 use Rattle.std.specs.Prelude.{ℤ, pos, nat_abs, map, None, Result, Ok, Err, IfErr}
 use Rattle.rob_cert.specs.declared.ending.Stop.{Stop}

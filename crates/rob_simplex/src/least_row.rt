@@ -1,7 +1,7 @@
 //! The least row over minus its entry in the auxiliary column: of the rows that are negative there and
 //! lexicographically negative, the one that comes first.
 
-ghost use Rattle.std.specs.Prelude.{◌≡◌, ◌≢◌, ◌<◌, ◌≤◌, ◌+◌, ◌<ℤ◌, ◌≤ℤ◌, ◌↔◌, ℕ, suc, pos, neg_ℤ, IsTrue, IfSome, MatchOption};
+ghost use Rattle.std.specs.Prelude.{◌≡◌, ◌<◌, ◌≤◌, ◌<ℤ◌, ◌↔◌, suc, pos, neg_ℤ, IsTrue, IfSome, MatchOption, ◌≤ℤ◌, ◌+◌};
 ghost use Rattle.std.specs.Bool.{OnTrue};
 ghost use Rattle.rob_linear.specs.Turns.{key};
 ghost use Rattle.rob_linear.specs.Beside.{IsLexNegative};
