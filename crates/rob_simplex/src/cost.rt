@@ -1,15 +1,13 @@
 //! A new cost, put on a dictionary that stands, column by column.
 
-ghost use Rattle.std.specs.Prelude.{◌≡◌, ◌≢◌, ◌<◌, ◌≤◌, ◌+◌, ◌-◌, ◌^◌, ℕ, suc, pos, nat_abs, length, OnOk, OnErr, IfErr, MatchResult};
+ghost use Rattle.std.specs.Prelude.{◌≡◌, ◌<◌, ◌≤◌, ◌+◌, ◌-◌, ◌^◌, ℕ, suc, nat_abs, OnOk, OnErr, IfErr, MatchResult};
 ghost use Rattle.rob_linear.specs.Vectors.{at};
 ghost use Rattle.rob_linear.specs.Programs.{Program, with_cost};
 ghost use Rattle.rob_linear.specs.Stages.{truncated, unit_row};
 ghost use Rattle.rob_linear.specs.WideRows.{IsOwnWideAt, HasWideRowFrom};
-ghost use Rattle.rob_number.specs.Counts.{CountsOnly};
-ghost use Rattle.rob_rows.specs.PrimitiveParts.{IsWithin};
-ghost use Rattle.rob_simplex.specs.Dictionaries.{positions, width_of, columns_of, rows_of, IsAlone, IsSized};
-ghost use Rattle.rob_simplex.specs.Lowering.{IsLowered, IsWideLowered, amount_of, HasCleared, HasRefusedCost, HasWay};
-ghost use Rattle.rob_simplex.specs.Pivots.{CanClear};
+ghost use Rattle.rob_simplex.specs.Counting.{CountsRows};
+ghost use Rattle.rob_simplex.specs.Dictionaries.{positions, width_of, columns_of, rows_of, IsSized};
+ghost use Rattle.rob_simplex.specs.Lowering.{CanLowerAndClear, CanLowerObjective, IsBasicAt, IsCostOf, IsLowered, IsWideLowered, amount_of, HasCleared, HasRefusedCost};
 ghost use Rattle.rob_simplex.specs.Phases.{StandsFor, EndsFrom};
 ghost use Rattle.rob_simplex.specs.Judging.{Tells};
 ghost use Rattle.rob_simplex.specs.PathEnds.{PathStopsFrom};
@@ -43,10 +41,8 @@ impl<E: Entry> Dictionary<E> {
     /// Takes the factor times the objective's entry off the entry of a column that is not basic, in the objective's
     /// row. `Wide` where that row in lowest terms then has an entry over the limit; the row is then open.
     fn lower<L: Ledger>(&mut self, column: usize, factor: i64, ledger: &mut L) -> Result<(), Wide>
-        requires way { HasWay self.old column }
+        requires ready { CanLowerObjective self.old column }
         requires factor { nat_abs factor < 2 ^ 62 }
-        requires own { rows_of self.old (positions self.old)
-            (suc (self.old.columns + positions self.old)) ≢ pos 0 }
         ensures lowered { OnOk result (IsLowered (width_of self.old) column
             (amount_of self.old factor) (rows_of self.old (positions self.old))
             (rows_of self.new (positions self.old))) }
@@ -85,12 +81,7 @@ impl<E: Entry> Dictionary<E> {
         factor: i64,
         ledger: &mut L,
     ) -> Result<(), Wide>
-        requires ready { CanClear (positions self.old + 1) self.old i column }
-        requires way { HasWay self.old column }
-        requires alone { IsAlone self.old i column }
-        requires small { (k c : ℕ) → k ≤ positions self.old → nat_abs (rows_of self.old k c)
-            ≤ self.old.limit }
-        requires factor { nat_abs factor < 2 ^ 62 }
+        requires ready { CanLowerAndClear self.old i column factor }
         ensures cleared { OnOk result (HasCleared self.old self.new i column factor) }
         ensures wide { OnErr result (HasRefusedCost self.old.limit self.old i column factor) }
         ensures basis { self.new.basis ≡ self.old.basis }
@@ -114,8 +105,7 @@ impl<E: Entry> Dictionary<E> {
         ledger: &mut L,
     ) -> Result<(), Wide>
         requires stands { (P : Program) × StandsFor (truncated P column) self.old }
-        requires column_in { column < self.old.columns }
-        requires basic { (i < positions self.old) × (columns_of self.old.basis i ≡ column) }
+        requires basic { IsBasicAt self.old i column }
         requires factor { nat_abs factor < 2 ^ 62 }
         ensures put { (P : Program) → P.c column ≡ factor → StandsFor (truncated P column) self.old
             → OnOk result (StandsFor (truncated P (suc column)) self.new) }
@@ -160,8 +150,7 @@ impl<E: Entry> Dictionary<E> {
     /// wide; the rows are then open.
     fn put_on<L: Ledger>(&mut self, cost: &[i64], ledger: &mut L) -> Result<(), Wide>
         requires stands { (P : Program) × StandsFor P self.old }
-        requires size { length cost.now ≡ self.old.columns }
-        requires within { IsWithin (2 ^ 62 - 1) cost.now }
+        requires cost { IsCostOf (2 ^ 62 - 1) self.old.columns cost.now }
         ensures put { (P : Program) → StandsFor P self.old
             → OnOk result (StandsFor (with_cost P (at cost.now)) self.new) }
         ensures wide { (P : Program) → StandsFor P self.old
@@ -190,8 +179,7 @@ impl<E: Entry> Dictionary<E> {
         ledger: &mut L,
     ) -> Result<Option<usize>, Halt>
         requires stands { (P : Program) × StandsFor P self.old }
-        requires size { length cost.now ≡ self.old.columns }
-        requires within { IsWithin N.limit cost.now }
+        requires cost { IsCostOf N.limit self.old.columns cost.now }
         requires limit { N.limit ≤ self.old.limit }
         ensures told { (P : Program) → StandsFor P self.old
             → MatchResult result

@@ -11,9 +11,12 @@ use Rattle.rob_simplex.proofs.JudgingLemmas.{wide_below_from, within_above}
 use Rattle.rob_simplex.proofs.NewCosts.{cost_refused}
 use Rattle.rob_simplex.proofs.dictionary.Dictionary.go_on.Goals as goal
 
-pub put_on-requires-clause-within : goal.put_on-requires-clause-within
-put_on-requires-clause-within g c =
-    within_above g.N.Exact.limit (2 ^ 62 - 1) g.met.N.Exact.limit_high c.args.cost.now c.requires.within
+pub put_on-requires-clause-cost : goal.put_on-requires-clause-cost
+put_on-requires-clause-cost g c = record {
+  size = c.requires.cost.size;
+  within =
+      within_above g.N.Exact.limit (2 ^ 62 - 1) g.met.N.Exact.limit_high c.args.cost.now c.requires.cost.within;
+}
 
 pub improve_and_judge-requires : goal.improve_and_judge-requires
 improve_and_judge-requires g c = record {

@@ -19,7 +19,7 @@ lower_row-requires-clause-ready g c =
     let basis = c.self.inside.basis.items in
     let table = c.self.inside.rows in
     let em : c.len-m.result ≡ length c.self.inside.basis.items = c.len-m.ensures ∙ c.self.inside.basis.ok.0 in
-    let w = subst (λ (v : Table). HasWay v c.args.column) (sym c.self.view_is) c.requires.way in
+    let w = subst (λ (v : Table). HasWay v c.args.column) (sym c.self.view_is) c.requires.ready.way in
     let ex =
     read_at c.self.inside.places.items c.args.column c.index-place.result.now
     (column_in c.self.invariant c.args.column w.free) c.index-place.ensures in
@@ -31,7 +31,7 @@ lower_row-requires-clause-ready g c =
     let lent = ap length c.as_mut_slice.ensures.value in
     let some =
     subst (λ (v : Table). rows_of v (positions v) (suc (v.columns + positions v)) ≢ pos 0) (sym c.self.view_is)
-    c.requires.own in
+    c.requires.ready.own in
     record {
       few = omega (arith, c.self.invariant.few);
       bounded =
@@ -77,7 +77,7 @@ returns g c =
     let new = c.lower_row.new.rows in
     let x = c.index-place.result.now in
     let em : c.len-m.result ≡ length c.self.inside.basis.items = c.len-m.ensures ∙ c.self.inside.basis.ok.0 in
-    let w = subst (λ (v : Table). HasWay v c.args.column) (sym c.self.view_is) c.requires.way in
+    let w = subst (λ (v : Table). HasWay v c.args.column) (sym c.self.view_is) c.requires.ready.way in
     let ex =
     read_at c.self.inside.places.items c.args.column c.index-place.result.now
     (column_in c.self.invariant c.args.column w.free) c.index-place.ensures in

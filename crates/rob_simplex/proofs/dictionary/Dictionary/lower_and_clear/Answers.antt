@@ -10,18 +10,22 @@ use Rattle.rob_simplex.proofs.ClearedObjective.{free2, open2, positive2, objecti
 use Rattle.rob_simplex.proofs.Sizes.{sized_after}
 use Rattle.rob_simplex.proofs.dictionary.Dictionary.lower_and_clear.Goals as goal
 
-pub lower-requires-clause-own : goal.lower-requires-clause-own
-lower-requires-clause-own g c z =
+pub lower-requires-clause-ready : goal.lower-requires-clause-ready
+lower-requires-clause-ready g c =
     let t = c.args.self.now in
-    let a = c.requires.ready in
-    a.own.rows (positions t) (omega arith) (omega arith) (λ e. absurd (omega (arith, e, a.row_in)))
-    (ap (rows_of t (positions t)) (basic_high t.columns t.basis (positions t) (omega arith)) ∙ z)
+    let a = c.requires.ready.clears in
+    record {
+      way = c.requires.ready.way;
+      own = λ z.
+          a.own.rows (positions t) (omega arith) (omega arith) (λ e. absurd (omega (arith, e, a.row_in)))
+          (ap (rows_of t (positions t)) (basic_high t.columns t.basis (positions t) (omega arith)) ∙ z);
+    }
 
 pub clear_others-requires : goal.clear_others-requires
 clear_others-requires g c =
     let t = c.args.self.now in
     let t2 = c.lower.new.self in
-    let a = c.requires.ready in
+    let a = c.requires.ready.clears in
     let l = c.lower.ensures in
     let em : c.len-m.result ≡ positions c.lower.new.self =
     c.len-m.ensures ∙ c.self.inside.basis.ok.0 ∙ ap (λ (t : Table). positions t) c.self.view_is in
@@ -52,7 +56,7 @@ returns-in-Ok-clause-cleared g c =
     let lowered =
     subst (λ (z : ℤ). IsLowered (width_of t) c.args.column (amount_of t z) (rows_of t (positions t))
     (rows_of c.lower.new.self (positions t))) seen c.in_ok-lower.ensures.lowered in
-    objective_cleared c.requires.ready c.lower.new.self l.basis l.sized.columns l.rows c.args.factor lowered
+    objective_cleared c.requires.ready.clears c.lower.new.self l.basis l.sized.columns l.rows c.args.factor lowered
     (c.len-m.result + 1) (omega (arith, em, l.sized.positions))
     c.clear_others.new.self c.in-Ok.ensures.cleared
 
@@ -66,9 +70,9 @@ returns-in-Err-clause-wide g c =
     let lowered =
     subst (λ (z : ℤ). IsLowered (width_of t) c.args.column (amount_of t z) (rows_of t (positions t))
     (rows_of c.lower.new.self (positions t))) seen c.in_ok-lower.ensures.lowered in
-    objective_refused c.requires.ready c.lower.new.self l.basis l.sized.columns l.rows c.args.factor lowered
+    objective_refused c.requires.ready.clears c.lower.new.self l.basis l.sized.columns l.rows c.args.factor lowered
     (c.len-m.result + 1) (omega (arith, em, l.sized.positions))
-    c.clear_others.new.self t.limit c.in-Err.field-0 c.requires.alone c.requires.small
+    c.clear_others.new.self t.limit c.in-Err.field-0 c.requires.ready.alone c.requires.ready.small
     (subst (λ (l : ℕ). StopsTable l (c.len-m.result + 1) c.lower.new.self c.clear_others.new.self c.args.i c.args.column
     c.in-Err.field-0) l.sized.limit c.in-Err.ensures.stopped)
 

@@ -13,28 +13,28 @@ use Rattle.rob_simplex.proofs.NewCosts.{nothing_put}
 use Rattle.rob_simplex.proofs.CostStages.{half_wide, next_lowered}
 use Rattle.rob_simplex.proofs.dictionary.Dictionary.put_in.Goals as goal
 
-pub lower-requires-clause-way : goal.lower-requires-clause-way
-lower-requires-clause-way g c =
+pub lower-requires-clause-ready : goal.lower-requires-clause-ready
+lower-requires-clause-ready g c =
     let h = c.requires.stands.1 in
-    record {
-      free =
-          column_free h c.args.column c.requires.column_in
-          (position_not c.args.self.now.basis c.args.column c.in-None.ensures.position);
-      way = way_free h;
-      other = λ e. absurd (omega (arith, e, c.requires.column_in));
-      zero = way_zero h;
-    }
-
-pub lower-requires-clause-own : goal.lower-requires-clause-own
-lower-requires-clause-own g c z =
     let o : pos 0 <ℤ rows_of c.args.self.now (positions c.args.self.now)
     (suc (c.args.self.now.columns + positions c.args.self.now)) =
     (stands_own (truncated c.requires.stands.0 c.args.column) c.args.self.now c.requires.stands.1).objective in
-    absurd (omega (arith, ints))
+    record {
+      way = record {
+        free =
+            column_free h c.args.column c.requires.column_in
+            (position_not c.args.self.now.basis c.args.column c.in-None.ensures.position);
+        way = way_free h;
+        other = λ e. absurd (omega (arith, e, c.requires.column_in));
+        zero = way_zero h;
+      };
+      own = λ z. absurd (omega (arith, ints));
+    }
 
 pub put_in_basic-requires-clause-basic : goal.put_in_basic-requires-clause-basic
 put_in_basic-requires-clause-basic g c =
-    position_is c.args.self.now.basis c.args.column c.in-Some.i c.in-Some.ensures.position
+    let found = position_is c.args.self.now.basis c.args.column c.in-Some.i c.in-Some.ensures.position in
+    record { column_in = c.requires.column_in; row_in = found.0; column_is = found.1 }
 
 pub returns-then-factor-eq0-clause-put : goal.returns-then-factor-eq0-clause-put
 returns-then-factor-eq0-clause-put g c P ef h =

@@ -29,32 +29,34 @@ lower_and_clear-cleared-requires g c =
     let t = c.args.self.now in
     let t1 = c.replace.new.self in
     let r = c.replace.ensures in
-    let jl : c.args.column < P.n = omega (arith, c.requires.column_in, h.columns_are) in
+    let jl : c.args.column < P.n = omega (arith, c.requires.basic.column_in, h.columns_are) in
     let s = c.columns-n.result + c.positions-m.result + 3 in
     let es : c.columns-n.result + c.positions-m.result + 3 ≡ spare_column t.columns (positions t) =
     omega (arith, c.columns-n.ensures.columns, c.positions-m.ensures.positions) in
     let i = c.args.i in
-    let il = c.requires.basic.0 in
-    let oi = c.requires.basic.1 in
+    let il = c.requires.basic.row_in in
+    let oi = c.requires.basic.column_is in
     let alone = (λ (k : ℕ) (kl : k ≤ positions t) (d : k ≢ c.args.i). ap (rows_of t k) es ∙ h.closed.zero k kl) in
     let seen : to_z w64 (of_z w64 c.args.factor) ≡ c.args.factor = to_z-of_z w64 c.args.factor c.ranges.factor in
     record {
-      ready = clears1 P c.args.column jl h i il oi es t1 r.basis r.sized.columns r.rows
-          (keeps_set (positions t1 + 1) i s t t1 r.basis r.sized.columns (r.rows alone) (basics_inside h)
-          (λ z. r.kept (ap (kept_row_of t) es ∙ z))
-          (keeps_positive (positions t1 + 1) i t (omega (arith, r.sized.positions))
-          (own_positive t (stands_own (truncated P c.args.column) t h))));
-      way = has_way P c.args.column jl h i il oi es t1 r.basis r.sized.columns r.rows;
-      alone = alone1 P c.args.column jl h i il oi es t1 r.basis r.sized.columns r.rows;
-      small = r.small;
-      factor = subst (λ (z : ℤ). nat_abs z < 2 ^ 62) (sym seen) c.requires.factor;
+      ready = record {
+        clears = clears1 P c.args.column jl h i il oi es t1 r.basis r.sized.columns r.rows
+            (keeps_set (positions t1 + 1) i s t t1 r.basis r.sized.columns (r.rows alone) (basics_inside h)
+            (λ z. r.kept (ap (kept_row_of t) es ∙ z))
+            (keeps_positive (positions t1 + 1) i t (omega (arith, r.sized.positions))
+            (own_positive t (stands_own (truncated P c.args.column) t h))));
+        way = has_way P c.args.column jl h i il oi es t1 r.basis r.sized.columns r.rows;
+        alone = alone1 P c.args.column jl h i il oi es t1 r.basis r.sized.columns r.rows;
+        small = r.small;
+        low = subst (λ (z : ℤ). nat_abs z < 2 ^ 62) (sym seen) c.requires.factor;
+      };
     }
 
 pub replace-requires-2-clause-free : goal.replace-requires-2-clause-free
 replace-requires-2-clause-free g c =
     let h = c.requires.stands.1 in
     let t = c.args.self.now in
-    let jl : c.args.column < c.requires.stands.0.n = omega (arith, c.requires.column_in, h.columns_are) in
+    let jl : c.args.column < c.requires.stands.0.n = omega (arith, c.requires.basic.column_in, h.columns_are) in
     let es : c.columns-n.result + c.positions-m.result + 3 ≡ spare_column t.columns (positions t) =
     omega (arith, c.columns-n.ensures.columns, c.positions-m.ensures.positions) in
     let r = c.replace.ensures in
@@ -62,18 +64,18 @@ replace-requires-2-clause-free g c =
     (sym c.lower_and_clear-cleared.ensures.sized.columns)
     (subst (λ (b : List ℕ). IsFree c.replace.new.self.columns b c.args.column)
     (sym c.lower_and_clear-cleared.ensures.basis)
-    (free1 c.requires.stands.0 c.args.column jl h c.args.i c.requires.basic.0 c.requires.basic.1 es c.replace.new.self
-    r.basis r.sized.columns r.rows))
+    (free1 c.requires.stands.0 c.args.column jl h c.args.i c.requires.basic.row_in c.requires.basic.column_is es
+    c.replace.new.self r.basis r.sized.columns r.rows))
 
 pub returns-clause-put : goal.returns-clause-put
 returns-clause-put g c P ef h =
     let t = c.args.self.now in
-    let jl : c.args.column < P.n = omega (arith, c.requires.column_in, h.columns_are) in
+    let jl : c.args.column < P.n = omega (arith, c.requires.basic.column_in, h.columns_are) in
     let es : c.columns-n.result + c.positions-m.result + 3 ≡ spare_column t.columns (positions t) =
     omega (arith, c.columns-n.ensures.columns, c.positions-m.ensures.positions) in
     let i = c.args.i in
-    let il = c.requires.basic.0 in
-    let oi = c.requires.basic.1 in
+    let il = c.requires.basic.row_in in
+    let oi = c.requires.basic.column_is in
     let t1 = c.replace.new.self in
     let r = c.replace.ensures in
     let t3 = c.lower_and_clear-cleared.new.self in
@@ -92,12 +94,12 @@ returns-clause-put g c P ef h =
 pub returns-clause-wide : goal.returns-clause-wide
 returns-clause-wide g c P ef h =
     let t = c.args.self.now in
-    let jl : c.args.column < P.n = omega (arith, c.requires.column_in, h.columns_are) in
+    let jl : c.args.column < P.n = omega (arith, c.requires.basic.column_in, h.columns_are) in
     let es : c.columns-n.result + c.positions-m.result + 3 ≡ spare_column t.columns (positions t) =
     omega (arith, c.columns-n.ensures.columns, c.positions-m.ensures.positions) in
     let i = c.args.i in
-    let il = c.requires.basic.0 in
-    let oi = c.requires.basic.1 in
+    let il = c.requires.basic.row_in in
+    let oi = c.requires.basic.column_is in
     let t1 = c.replace.new.self in
     let r = c.replace.ensures in
     let seen : to_z w64 (of_z w64 c.args.factor) ≡ c.args.factor = to_z-of_z w64 c.args.factor c.ranges.factor in
@@ -112,11 +114,11 @@ pub returns-clause-basis : goal.returns-clause-basis
 returns-clause-basis g c =
     let h = c.requires.stands.1 in
     let t = c.args.self.now in
-    let jl : c.args.column < c.requires.stands.0.n = omega (arith, c.requires.column_in, h.columns_are) in
+    let jl : c.args.column < c.requires.stands.0.n = omega (arith, c.requires.basic.column_in, h.columns_are) in
     let es : c.columns-n.result + c.positions-m.result + 3 ≡ spare_column t.columns (positions t) =
     omega (arith, c.columns-n.ensures.columns, c.positions-m.ensures.positions) in
     let r = c.replace.ensures in
-    basis_back c.requires.stands.0 c.args.column jl h c.args.i c.requires.basic.0 c.requires.basic.1 es
+    basis_back c.requires.stands.0 c.args.column jl h c.args.i c.requires.basic.row_in c.requires.basic.column_is es
     c.replace.new.self r.basis r.sized.columns r.rows c.lower_and_clear-cleared.new.self
     c.replace-2.new.self c.lower_and_clear-cleared.ensures.basis c.replace-2.ensures.basis
 

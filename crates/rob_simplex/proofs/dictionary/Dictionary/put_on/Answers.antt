@@ -32,7 +32,7 @@ put_in-requires-clause-stands g c = (
 pub loop-k-preserved : goal.loop-k-preserved
 loop-k-preserved g c =
     let small : nat_abs (get_or c.args.cost.now c.loop-k.k (pos 0)) ≤ 2 ^ 62 - 1 =
-    c.requires.within c.loop-k.k (pos 0) c.loop-k-test.true in
+    c.requires.cost.within c.loop-k.k (pos 0) c.loop-k-test.true in
     let seen : to_z w64 (of_z w64 (get_or c.args.cost.now c.loop-k.k (pos 0))) ≡ get_or c.args.cost.now c.loop-k.k
     (pos 0) = seen_within (2 ^ 62 - 1) (get_or c.args.cost.now c.loop-k.k (pos 0)) (omega arith) small in
     record {
@@ -48,7 +48,7 @@ loop-k-preserved g c =
 pub returns-in-Err-clause-wide : goal.returns-in-Err-clause-wide
 returns-in-Err-clause-wide g c P h =
     let small : nat_abs (get_or c.args.cost.now c.loop-k.k (pos 0)) ≤ 2 ^ 62 - 1 =
-    c.requires.within c.loop-k.k (pos 0) c.loop-k-test.true in
+    c.requires.cost.within c.loop-k.k (pos 0) c.loop-k-test.true in
     let seen : to_z w64 (of_z w64 (get_or c.args.cost.now c.loop-k.k (pos 0))) ≡ get_or c.args.cost.now c.loop-k.k
     (pos 0) = seen_within (2 ^ 62 - 1) (get_or c.args.cost.now c.loop-k.k (pos 0)) (omega arith) small in
     subst (λ (b : List ℕ). IsOwnWideAt c.args.self.now.limit (with_cost P (at c.args.cost.now)) (columns_of b) P.m)
@@ -61,5 +61,5 @@ pub returns-clause-put : goal.returns-clause-put
 returns-clause-put g c P h =
     all_put (with_cost P (at c.args.cost.now)) c.loop-k.self
     (subst (λ (k : ℕ). StandsFor (truncated (with_cost P (at c.args.cost.now)) k) c.loop-k.self)
-    (omega (arith, c.loop-k-test.false, c.loop-k.auto.k-end, c.requires.size, h.columns_are))
+    (omega (arith, c.loop-k-test.false, c.loop-k.auto.k-end, c.requires.cost.size, h.columns_are))
     (c.loop-k.invariant.stands P h))

@@ -26,8 +26,10 @@ go_on-requires g c =
         resumed_stands c.requires.stands.0 v c.args.self.now c.self.view_is
             c.requires.stands.1,
       );
-      size = c.requires.size ∙ sym (ap (λ (u : Solver). u.columns) c.self.view_is);
-      within = c.requires.within;
+      cost = record {
+        size = c.requires.size ∙ sym (ap (λ (u : Solver). u.columns) c.self.view_is);
+        within = c.requires.within;
+      };
       limit =
           subst (λ l. g.N.Exact.limit ≤ l) (sym c.self.invariant.limit_is)
           (limit_below g.N.Exact.limit g.E.Entry.top g.met.N.Exact.limit_high g.met.E.Entry.top_low);
