@@ -1,7 +1,9 @@
 -- The dictionary that a program starts from: the slack columns and the objective's are basic.
-use Rattle.std.specs.Prelude.{◌≡◌, ℕ, suc, ◌<◌, ◌≤◌, ◌+◌, nat_lt, nat_eq, cond, ℤ, pos}
+use Rattle.std.specs.Prelude.{◌≡◌, ℕ, suc, ◌<◌, ◌≤◌, ◌+◌, ◌-◌, ◌^◌, nat_lt, nat_eq, cond, ℤ, pos, length}
 use Rattle.rob_linear.specs.Vectors.{Vector}
 use Rattle.rob_linear.specs.Programs.{Program, kept_row}
+use Rattle.rob_rows.specs.declared.program.Lp.{Lp}
+use Rattle.rob_rows.specs.LinearPrograms.{HasNumbersWithin}
 use Rattle.rob_simplex.specs.Dictionaries.{Table, positions, columns_of, rows_of, IsClosed}
 
 -- the place of each column: the structural columns, the auxiliary one, the spare one, the right side, and then the
@@ -21,6 +23,12 @@ abbrev pub start_entry : ℕ → Vector → ℤ → ℤ → Vector
 start_entry n low auxiliary right k =
     cond (nat_lt k n) (low k)
     (cond (nat_eq k n) auxiliary (cond (nat_eq k (n + 1)) (pos 0) (cond (nat_eq k (n + 2)) right (pos 1))))
+
+-- a program's rows can be told into so many numbers: one for each column, of 62 bits
+pub record CanBeTold (width : ℕ) (lp : Lp) : Type 0 where
+  pub few : width < 2 ^ 31
+  pub columns : width ≡ length lp.c
+  pub numbers : HasNumbersWithin (2 ^ 62 - 1) lp
 
 -- the dictionary has the program's starting rows
 pub record IsStartingTable (P : Program) (t : Table) : Type 0 where

@@ -5,7 +5,7 @@ ghost use Rattle.std.specs.Prelude.{◌≡◌, ◌≢◌, ◌⊎◌, ◌<◌, �
 ghost use Rattle.rob_linear.specs.Vectors.{at};
 ghost use Rattle.rob_rows.specs.LinearPrograms.{HasNumbersWithin, program_of};
 ghost use Rattle.rob_simplex.specs.Tables.{row_at, HasBounds, IsUnchangedBut};
-ghost use Rattle.rob_simplex.specs.Starts.{start_entry, IsStartingTable};
+ghost use Rattle.rob_simplex.specs.Starts.{start_entry, CanBeTold, IsStartingTable};
 
 use crate::dictionary::Dictionary;
 use crate::row_moves::write_number;
@@ -206,10 +206,8 @@ fn write_program<E: Entry, R: Rows>(
     m: usize,
 )
     requires ready { R.ready source.now }
-    requires few { length numbers.old < 2 ^ 31 }
-    requires columns { length numbers.old ≡ length (R.lp source.now).c }
+    requires program { CanBeTold (length numbers.old) (R.lp source.now) }
     requires constraints { m ≡ length (R.lp source.now).b }
-    requires numbers { HasNumbersWithin (2 ^ 62 - 1) (R.lp source.now) }
     requires bounded { HasBounds E.top (length numbers.old + 4) rows.old bounds.old }
     requires inside { m < length bounds.old }
     ensures constraints { (i k : ℕ) → i < m → k < length numbers.old + 4
@@ -235,10 +233,8 @@ fn write_rows<E: Entry, R: Rows>(
     m: usize,
 )
     requires ready { R.ready source.now }
-    requires few { length numbers.old < 2 ^ 31 }
-    requires columns { length numbers.old ≡ length (R.lp source.now).c }
+    requires program { CanBeTold (length numbers.old) (R.lp source.now) }
     requires constraints { m ≡ length (R.lp source.now).b }
-    requires numbers { HasNumbersWithin (2 ^ 62 - 1) (R.lp source.now) }
     requires bounded { HasBounds E.top (length numbers.old + 4) rows.old bounds.old }
     requires inside { m ≤ length bounds.old }
     ensures rows { (i k : ℕ) → i < m → k < length numbers.old + 4
@@ -261,10 +257,8 @@ fn write_told_row<E: Entry, R: Rows>(
     i: usize,
 )
     requires ready { R.ready source.now }
-    requires few { length numbers.old < 2 ^ 31 }
-    requires columns { length numbers.old ≡ length (R.lp source.now).c }
+    requires program { CanBeTold (length numbers.old) (R.lp source.now) }
     requires row_in { i < length (R.lp source.now).b }
-    requires numbers { HasNumbersWithin (2 ^ 62 - 1) (R.lp source.now) }
     requires bounded { HasBounds E.top (length numbers.old + 4) rows.old bounds.old }
     requires inside { i < length bounds.old }
     ensures row { (k : ℕ) → k < length numbers.old + 4

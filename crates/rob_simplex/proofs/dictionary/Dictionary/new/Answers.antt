@@ -8,6 +8,16 @@ use Rattle.rob_entries.proofs.WrittenRows.{written_back}
 use Rattle.rob_simplex.proofs.StartLemmas.{start_is_sound, sound_carry, starting, starting_carry, zero_bounds}
 use Rattle.rob_simplex.proofs.dictionary.Dictionary.new.Goals as goal
 
+pub write_program-requires-clause-program : goal.write_program-requires-clause-program
+write_program-requires-clause-program g c =
+    let e3 : length c.as_mut_slice-5.result.now ≡ c.columns-n.result =
+    ap length c.as_mut_slice-5.ensures.value ∙ sym c.in_ok-numbers.numbers.ok.0 ∙ c.in_ok-numbers.ensures.len in
+    record {
+      few = omega (arith, e3, c.columns-n.ensures.count, c.requires.few);
+      columns = e3 ∙ c.columns-n.ensures.count;
+      numbers = c.requires.numbers;
+    }
+
 pub write_program-requires-clause-bounded : goal.write_program-requires-clause-bounded
 write_program-requires-clause-bounded g c =
     let e3 : length c.as_mut_slice-5.result.now ≡ c.columns-n.result =
