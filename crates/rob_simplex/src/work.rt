@@ -6,10 +6,10 @@ ghost use Rattle.rob_rows.specs.LinearPrograms.{HasNumbersWithin, program_of};
 ghost use Rattle.rob_simplex.specs.Solvers.{positions, HasPoint, HasOptimum, HasRay, HasWeights, column_of, IsMadeFor, StandsAs, has_stopped};
 ghost use Rattle.rob_simplex.specs.Solutions.{point_of, ray_of, dual_of, value_of, weights_of};
 ghost use Rattle.rob_linear.specs.Vectors.{at};
-ghost use Rattle.rob_rows.specs.PrimitiveParts.{IsWithin};
 ghost use Rattle.rob_linear.specs.Programs.{Program, with_cost};
-ghost use Rattle.rob_number.specs.Counts.{CountsOnly};
-ghost use Rattle.rob_simplex.specs.Dictionaries.{width_of, columns_of, rows_of};
+ghost use Rattle.rob_simplex.specs.Counting.{CountsRows};
+ghost use Rattle.rob_simplex.specs.Dictionaries.{width_of, columns_of, rows_of, IsSized};
+ghost use Rattle.rob_simplex.specs.Lowering.{IsCostOf};
 ghost use Rattle.rob_algebra.specs.Width.{Fits};
 ghost use Rattle.rob_simplex.specs.Judging.{ratio_of, objective_column};
 ghost use Rattle.rob_simplex.specs.Endings.{IsFresh, HasAnswered, HasBegun, HasHalted, HasSolved, HasStopped, IsCaused, IsTold};
@@ -100,10 +100,8 @@ impl<N: Exact, E: Entry> Work<N, E> {
         ensures answered { IfOk result (λ kind. HasAnswered kind self.new) }
         ensures resumable { (P : Program) → IsMadeFor P self.old
             → IfOk result (λ kind. HasPoint self.new → CanResume P self.new) }
-        ensures columns { self.new.columns ≡ self.old.columns }
-        ensures positions { positions self.new ≡ positions self.old }
-        ensures limit { self.new.limit ≡ self.old.limit }
-        ensures counted { CountsOnly L.ops L.wides ledger.old ledger.new }
+        ensures sized { IsSized self.old.dictionary self.new.dictionary }
+        ensures counted { CountsRows L.ops L.wides ledger.old ledger.new }
     {
         let ended = self.dictionary.follow::<N, L>(ledger);
         self.tell(ended)
@@ -120,10 +118,8 @@ impl<N: Exact, E: Entry> Work<N, E> {
         ensures answered { IfOk result (λ kind. HasAnswered kind self.new) }
         ensures resumable { (P : Program) → HasBegun P self.old
             → IfOk result (λ kind. HasPoint self.new → CanResume P self.new) }
-        ensures columns { self.new.columns ≡ self.old.columns }
-        ensures positions { positions self.new ≡ positions self.old }
-        ensures limit { self.new.limit ≡ self.old.limit }
-        ensures counted { CountsOnly L.ops L.wides ledger.old ledger.new }
+        ensures sized { IsSized self.old.dictionary self.new.dictionary }
+        ensures counted { CountsRows L.ops L.wides ledger.old ledger.new }
     {
         let cause = self.cause();
         let ended = self.dictionary.follow_on::<N, L>(cause, ledger);
@@ -143,9 +139,7 @@ impl<N: Exact, E: Entry> Work<N, E> {
         ensures answered { IfOk result (λ kind. HasAnswered kind self.new) }
         ensures resumable { (P : Program) → IsTold N.limit P ended self.old
             → IfOk result (λ kind. HasPoint self.new → CanResume P self.new) }
-        ensures columns { self.new.columns ≡ self.old.columns }
-        ensures positions { positions self.new ≡ positions self.old }
-        ensures limit { self.new.limit ≡ self.old.limit }
+        ensures sized { IsSized self.old.dictionary self.new.dictionary }
     {
         let ending = match ended {
             Ok(ending) => ending,
@@ -183,8 +177,7 @@ impl<N: Exact, E: Entry> Work<N, E> {
     /// on.
     pub fn resume<L: Ledger>(&mut self, cost: &[i64], ledger: &mut L) -> Result<LpKind, LpStop>
         requires stands { (P : Program) × CanResume P self.old }
-        requires size { length cost.now ≡ self.old.columns }
-        requires within { IsWithin N.limit cost.now }
+        requires cost { IsCostOf N.limit self.old.columns cost.now }
         ensures resumed { (P : Program) → CanResume P self.old → MatchResult result
             (λ kind. HasResumed (with_cost P (at cost.now)) (columns_of self.old.basis) kind self.new)
             (λ stop. HasStoppedFrom N.limit (with_cost P (at cost.now)) (columns_of self.old.basis) stop self.new) }
@@ -193,10 +186,8 @@ impl<N: Exact, E: Entry> Work<N, E> {
         ensures answered { IfOk result (λ kind. HasAnswered kind self.new) }
         ensures resumable { (P : Program) → CanResume P self.old
             → IfOk result (λ kind. CanResume (with_cost P (at cost.now)) self.new) }
-        ensures columns { self.new.columns ≡ self.old.columns }
-        ensures positions { positions self.new ≡ positions self.old }
-        ensures limit { self.new.limit ≡ self.old.limit }
-        ensures counted { CountsOnly L.ops L.wides ledger.old ledger.new }
+        ensures sized { IsSized self.old.dictionary self.new.dictionary }
+        ensures counted { CountsRows L.ops L.wides ledger.old ledger.new }
     {
         match self.dictionary.go_on::<N, L>(cost, ledger) {
             Ok(None) => {

@@ -5,11 +5,11 @@ ghost use Rattle.std.specs.Bool.{OnTrue, OnFalse};
 ghost use Rattle.rob_linear.specs.Programs.{Program, with_cost};
 ghost use Rattle.rob_linear.specs.Vectors.{at};
 ghost use Rattle.rob_rows.specs.LinearPrograms.{HasNumbersWithin, program_of};
-ghost use Rattle.rob_rows.specs.PrimitiveParts.{IsWithin};
-ghost use Rattle.rob_number.specs.Counts.{CountsOnly};
-ghost use Rattle.rob_simplex.specs.Dictionaries.{columns_of};
+ghost use Rattle.rob_simplex.specs.Counting.{CountsRows};
+ghost use Rattle.rob_simplex.specs.Dictionaries.{columns_of, IsSized};
 ghost use Rattle.rob_simplex.specs.Endings.{IsFresh, HasAnswered, HasBegun, HasHalted, HasSolved, HasStopped, IsCaused};
 ghost use Rattle.rob_simplex.specs.declared.state.State.TheVariants.{Stopped as At};
+ghost use Rattle.rob_simplex.specs.Lowering.{IsCostOf};
 ghost use Rattle.rob_simplex.specs.Resuming.{CanResume, HasResumed, HasStoppedFrom, IsCausedFrom};
 ghost use Rattle.rob_simplex.specs.Solutions.{point_of, ray_of, dual_of, value_of, weights_of};
 ghost use Rattle.rob_simplex.specs.Solvers.{positions, HasPoint, HasOptimum, HasRay, HasWeights, column_of, IsMadeFor, StandsAs, has_stopped};
@@ -136,10 +136,8 @@ impl<N: Exact> Solver<N> {
         ensures answered { IfOk result (λ kind. HasAnswered kind self.new) }
         ensures resumable { (P : Program) → IsMadeFor P self.old
             → IfOk result (λ kind. HasPoint self.new → CanResume P self.new) }
-        ensures columns { self.new.columns ≡ self.old.columns }
-        ensures positions { positions self.new ≡ positions self.old }
-        ensures limit { self.new.limit ≡ self.old.limit }
-        ensures counted { CountsOnly L.ops L.wides ledger.old ledger.new }
+        ensures sized { IsSized self.old.dictionary self.new.dictionary }
+        ensures counted { CountsRows L.ops L.wides ledger.old ledger.new }
     {
         match &mut self.depth {
             Depth::Narrow(work) => work.solve(ledger),
@@ -158,10 +156,8 @@ impl<N: Exact> Solver<N> {
         ensures answered { IfOk result (λ kind. HasAnswered kind self.new) }
         ensures resumable { (P : Program) → HasBegun P self.old
             → IfOk result (λ kind. HasPoint self.new → CanResume P self.new) }
-        ensures columns { self.new.columns ≡ self.old.columns }
-        ensures positions { positions self.new ≡ positions self.old }
-        ensures limit { self.new.limit ≡ self.old.limit }
-        ensures counted { CountsOnly L.ops L.wides ledger.old ledger.new }
+        ensures sized { IsSized self.old.dictionary self.new.dictionary }
+        ensures counted { CountsRows L.ops L.wides ledger.old ledger.new }
     {
         match &mut self.depth {
             Depth::Narrow(work) => work.go_on(ledger),
@@ -173,8 +169,7 @@ impl<N: Exact> Solver<N> {
     /// it. It takes no memory. A stop is not counted.
     pub fn resume<L: Ledger>(&mut self, cost: &[i64], ledger: &mut L) -> Result<LpKind, LpStop>
         requires stands { (P : Program) × CanResume P self.old }
-        requires size { length cost.now ≡ self.old.columns }
-        requires within { IsWithin N.limit cost.now }
+        requires cost { IsCostOf N.limit self.old.columns cost.now }
         ensures resumed { (P : Program) → CanResume P self.old → MatchResult result
             (λ kind. HasResumed (with_cost P (at cost.now)) (columns_of self.old.basis) kind self.new)
             (λ stop. HasStoppedFrom N.limit (with_cost P (at cost.now)) (columns_of self.old.basis) stop self.new) }
@@ -183,10 +178,8 @@ impl<N: Exact> Solver<N> {
         ensures answered { IfOk result (λ kind. HasAnswered kind self.new) }
         ensures resumable { (P : Program) → CanResume P self.old
             → IfOk result (λ kind. CanResume (with_cost P (at cost.now)) self.new) }
-        ensures columns { self.new.columns ≡ self.old.columns }
-        ensures positions { positions self.new ≡ positions self.old }
-        ensures limit { self.new.limit ≡ self.old.limit }
-        ensures counted { CountsOnly L.ops L.wides ledger.old ledger.new }
+        ensures sized { IsSized self.old.dictionary self.new.dictionary }
+        ensures counted { CountsRows L.ops L.wides ledger.old ledger.new }
     {
         match &mut self.depth {
             Depth::Narrow(work) => work.resume(cost, ledger),

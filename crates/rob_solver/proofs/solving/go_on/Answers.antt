@@ -18,7 +18,7 @@ pub returns-in-Ok-clause-solved : goal.returns-in-Ok-clause-solved
 returns-in-Ok-clause-solved g c P h =
     let b = begun_as deep_limit c.args.narrow c.in_ok-deep.deep c.in_ok-deep.ensures.stands P h.begun in
     begun_solution c.args.narrow c.in_ok-deep.deep c.in_ok-deep.ensures.stands g.row.N.Denot P h c.go_on.new.self
-    c.in-Ok.kind c.go_on.ensures.columns c.go_on.ensures.positions
+    c.in-Ok.kind c.go_on.ensures.sized.columns c.go_on.ensures.sized.positions
     (c.in-Ok.ensures.solved P b) c.in-Ok.ensures.answered (c.in-Ok.ensures.resumable P b)
 
 pub returns-in-Err-clause-stopped : goal.returns-in-Err-clause-stopped
@@ -26,7 +26,7 @@ returns-in-Err-clause-stopped g c P h =
     let b = begun_as deep_limit c.args.narrow c.in_ok-deep.deep c.in_ok-deep.ensures.stands P h.begun in
     subst (IsStopped g.N.Exact.limit P) (sym c.refused.ensures.stop) (
       h.rows ∙ sym (positions_as c.args.narrow c.in_ok-deep.deep c.in_ok-deep.ensures.stands)
-          ∙ sym c.go_on.ensures.positions,
+          ∙ sym c.go_on.ensures.sized.positions,
       c.in-Err.ensures.solved P b,
     )
 
@@ -34,7 +34,8 @@ pub returns-in-Err-clause-caused : goal.returns-in-Err-clause-caused
 returns-in-Err-clause-caused g c P h =
     let b = begun_as deep_limit c.args.narrow c.in_ok-deep.deep c.in_ok-deep.ensures.stands P h.begun in
     subst (IsCausedDeep g.N.Exact.limit P) (sym c.refused.ensures.stop)
-    (caused_by g.N.Exact.limit P c.in-Err.stop c.go_on.new.self (c.go_on.ensures.limit ∙ c.in_ok-deep.ensures.limit)
+    (caused_by g.N.Exact.limit P c.in-Err.stop c.go_on.new.self
+    (c.go_on.ensures.sized.limit ∙ c.in_ok-deep.ensures.limit)
     (c.in-Err.ensures.caused P b))
 
 pub returns-in-Err-clause-counted : goal.returns-in-Err-clause-counted

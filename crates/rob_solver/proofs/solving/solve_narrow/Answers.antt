@@ -8,7 +8,7 @@ pub returns-in-Ok-clause-comes : goal.returns-in-Ok-clause-comes
 returns-in-Ok-clause-comes g c =
     let P = program_of (g.R.Rows.lp c.args.source.now) in
     solution g.row.N.Denot P c.in_ok-solver.solver c.solve.new.self c.in-Ok.kind c.in_ok-solver.ensures.made
-    c.solve.ensures.columns c.solve.ensures.positions
+    c.solve.ensures.sized.columns c.solve.ensures.sized.positions
     (c.in-Ok.ensures.solved P c.in_ok-solver.ensures.made) c.in-Ok.ensures.answered
     (c.in-Ok.ensures.resumable P c.in_ok-solver.ensures.made)
 
@@ -22,7 +22,7 @@ cause-requires g c = record {
 pub returns-in-Told-clause-comes : goal.returns-in-Told-clause-comes
 returns-in-Told-clause-comes g c =
     let P = program_of (g.R.Rows.lp c.args.source.now) in (
-      c.in_ok-solver.ensures.made.rows ∙ sym c.solve.ensures.positions,
+      c.in_ok-solver.ensures.made.rows ∙ sym c.solve.ensures.sized.positions,
       c.in-Err.ensures.solved P c.in_ok-solver.ensures.made,
       tells_wide g.N.Exact.limit P c.in-Err.stop c.solve.new.self
           (c.in-Err.ensures.halted P c.in_ok-solver.ensures.made) (c.cause.ensures.cause ∙ ap Stopped c.in-Told.is),
@@ -32,9 +32,9 @@ pub returns-in-Turn-clause-comes : goal.returns-in-Turn-clause-comes
 returns-in-Turn-clause-comes g c =
     let P = program_of (g.R.Rows.lp c.args.source.now) in
     record {
-      rows = c.in_ok-solver.ensures.made.rows ∙ sym c.solve.ensures.positions;
-      columns = c.in_ok-solver.ensures.made.columns ∙ sym c.solve.ensures.columns;
-      narrow = c.solve.ensures.limit ∙ c.in_ok-solver.ensures.limit;
+      rows = c.in_ok-solver.ensures.made.rows ∙ sym c.solve.ensures.sized.positions;
+      columns = c.in_ok-solver.ensures.made.columns ∙ sym c.solve.ensures.sized.columns;
+      narrow = c.solve.ensures.sized.limit ∙ c.in_ok-solver.ensures.limit;
       row = c.in-Turn.field-0;
       turn = c.cause.ensures.cause ∙ ap Stopped c.in-Turn.is;
       begun =
@@ -47,7 +47,7 @@ returns-in-First-clause-comes g c =
     let P = program_of (g.R.Rows.lp c.args.source.now) in
     stops_narrow g.N.Exact.limit P c.in-Err.stop c.solve.new.self
     (c.in-Err.ensures.halted P c.in_ok-solver.ensures.made) (c.cause.ensures.cause ∙ ap Stopped c.in-First.is)
-    (c.solve.ensures.limit ∙ c.in_ok-solver.ensures.limit)
+    (c.solve.ensures.sized.limit ∙ c.in_ok-solver.ensures.limit)
 
 pub unreachable-requires : goal.unreachable-requires
 unreachable-requires g c =

@@ -4,6 +4,7 @@ use Rattle.rob_simplex.proofs.JudgingLemmas.{limit_below}
 use Rattle.rob_simplex.proofs.Solving.{sound_untold, untold}
 use Rattle.rob_simplex.proofs.TellLemmas.{is_told}
 use Rattle.rob_simplex.proofs.BegunWork.{begun_here, begun_rows, begun_stopped}
+use Rattle.rob_simplex.proofs.Sizes.{sized_view, sized_after}
 use Rattle.rob_simplex.proofs.work.Work.go_on.Goals as goal
 
 pub cause-cause-requires : goal.cause-cause-requires
@@ -77,3 +78,8 @@ returns-clause-resumable g c P h =
     (is_told g.N.Exact.limit P v c.follow_on-ended.new.self c.follow_on-ended.result
     (begun_rows P v c.cause-cause.result b) c.follow_on-ended.ensures.sized.positions
     (c.follow_on-ended.ensures.told P b) (c.follow_on-ended.ensures.caused P b) c.follow_on-ended.ensures.position)
+
+pub returns-clause-sized : goal.returns-clause-sized
+returns-clause-sized g c =
+    sized_after (sized_view (ap (λ (u : Solver). u.dictionary) c.self.view_is))
+    (sized_after c.follow_on-ended.ensures.sized c.tell.ensures.sized)

@@ -14,6 +14,7 @@ use Rattle.rob_simplex.proofs.JudgingLemmas.{limit_below}
 use Rattle.rob_simplex.specs.Solvers.{Solver}
 use Rattle.rob_simplex.proofs.Solved.{optimum_from, ray_from}
 use Rattle.rob_simplex.proofs.Solving.{resumed_stands, sound_optimal, sound_unbounded, sound_stopped}
+use Rattle.rob_simplex.proofs.Sizes.{sized_view, sized_after}
 use Rattle.rob_simplex.proofs.work.Work.resume.Goals as goal
 
 pub go_on-requires : goal.go_on-requires
@@ -27,8 +28,8 @@ go_on-requires g c =
             c.requires.stands.1,
       );
       cost = record {
-        size = c.requires.size ∙ sym (ap (λ (u : Solver). u.columns) c.self.view_is);
-        within = c.requires.within;
+        size = c.requires.cost.size ∙ sym (ap (λ (u : Solver). u.columns) c.self.view_is);
+        within = c.requires.cost.within;
       };
       limit =
           subst (λ l. g.N.Exact.limit ≤ l) (sym c.self.invariant.limit_is)
@@ -136,3 +137,15 @@ returns-in-Err-clause-caused g c P h =
     subst (λ (u : Solver). PathStopsFrom g.N.Exact.limit (with_cost P (at c.args.cost.now)) (columns_of u.basis)
     c.go_on.new.self c.in-Err.halt.position) c.self.view_is
     (c.in-Err.ensures.caused P (resumed_stands P v c.args.self.now c.self.view_is h))
+
+pub returns-in-Ok-None-clause-sized : goal.returns-in-Ok-None-clause-sized
+returns-in-Ok-None-clause-sized g c =
+    sized_after (sized_view (ap (λ (u : Solver). u.dictionary) c.self.view_is)) c.go_on.ensures.sized
+
+pub returns-in-Ok-Some-clause-sized : goal.returns-in-Ok-Some-clause-sized
+returns-in-Ok-Some-clause-sized g c =
+    sized_after (sized_view (ap (λ (u : Solver). u.dictionary) c.self.view_is)) c.go_on.ensures.sized
+
+pub returns-in-Err-clause-sized : goal.returns-in-Err-clause-sized
+returns-in-Err-clause-sized g c =
+    sized_after (sized_view (ap (λ (u : Solver). u.dictionary) c.self.view_is)) c.go_on.ensures.sized

@@ -3,6 +3,7 @@ use Rattle.rob_simplex.specs.Solvers.{Solver}
 use Rattle.rob_simplex.proofs.JudgingLemmas.{limit_below}
 use Rattle.rob_simplex.proofs.Solving.{made_start, sound_untold, untold}
 use Rattle.rob_simplex.proofs.TellLemmas.{is_told}
+use Rattle.rob_simplex.proofs.Sizes.{sized_view, sized_after}
 use Rattle.rob_simplex.proofs.work.Work.solve.Goals as goal
 
 pub follow-ended-requires : goal.follow-ended-requires
@@ -78,3 +79,8 @@ returns-clause-resumable g c P h =
     (is_told g.N.Exact.limit P v c.follow-ended.new.self c.follow-ended.result (sym s.rows_are)
     c.follow-ended.ensures.sized.positions (c.follow-ended.ensures.told P s) (c.follow-ended.ensures.caused P s)
     c.follow-ended.ensures.position)
+
+pub returns-clause-sized : goal.returns-clause-sized
+returns-clause-sized g c =
+    sized_after (sized_view (ap (λ (u : Solver). u.dictionary) c.self.view_is))
+    (sized_after c.follow-ended.ensures.sized c.tell.ensures.sized)

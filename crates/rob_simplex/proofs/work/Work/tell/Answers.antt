@@ -1,4 +1,4 @@
-use Rattle.std.proofs.Common.{◌≡◌, ◌≤◌, ◌+◌, sym, refl, ◌∙◌, subst, inl, inr, arith, length, nat_abs, to_z, of_z, w64}
+use Rattle.std.proofs.Common.{◌≡◌, ◌≤◌, ◌+◌, sym, refl, ap, ◌∙◌, subst, inl, inr, arith, length, nat_abs, to_z, of_z, w64}
 use Rattle.rob_linear.specs.Vectors.{at}
 use Rattle.rob_simplex.specs.declared.state.State.TheVariants.{Optimal, Infeasible, Unbounded, Stopped}
 use Rattle.rob_simplex.specs.declared.state.Cause.TheVariants.{Told}
@@ -12,6 +12,7 @@ use Rattle.rob_simplex.proofs.Solved.{optimum, ray_found, weights_found}
 use Rattle.rob_simplex.proofs.JudgingLemmas.{one_wide, greatest_wide}
 use Rattle.rob_simplex.proofs.WeightLemmas.{within_from}
 use Rattle.rob_simplex.proofs.Solving.{sound_optimal, sound_unbounded, sound_infeasible, sound_stopped}
+use Rattle.rob_simplex.proofs.Sizes.{sized_view, sized_after}
 use Rattle.rob_simplex.proofs.work.Work.tell.Goals as goal
 
 pub invariant_of-self-in-Optimal : goal.invariant_of-self-in-Optimal
@@ -186,3 +187,21 @@ pub overflow_cast-result : goal.overflow_cast-result
 overflow_cast-result g c =
     let l = position_err g.N.Exact.limit c.requires.told.0 c.self.view_is c.in-Err.halt c.in-Err.is c.requires.told.1 in
     omega (arith, l, c.self.invariant.few)
+
+-- ---- its size
+pub returns-in-Err-clause-sized : goal.returns-in-Err-clause-sized
+returns-in-Err-clause-sized g c = sized_view (ap (λ (u : Solver). u.dictionary) c.self.view_is)
+
+pub returns-in-Optimal-clause-sized : goal.returns-in-Optimal-clause-sized
+returns-in-Optimal-clause-sized g c = sized_view (ap (λ (u : Solver). u.dictionary) c.self.view_is)
+
+pub returns-in-Unbounded-clause-sized : goal.returns-in-Unbounded-clause-sized
+returns-in-Unbounded-clause-sized g c = sized_view (ap (λ (u : Solver). u.dictionary) c.self.view_is)
+
+pub returns-then-largest-LIMIT-clause-sized : goal.returns-then-largest-LIMIT-clause-sized
+returns-then-largest-LIMIT-clause-sized g c =
+    sized_after (sized_view (ap (λ (u : Solver). u.dictionary) c.self.view_is)) c.show_weights.ensures.sized
+
+pub returns-else-largest-LIMIT-clause-sized : goal.returns-else-largest-LIMIT-clause-sized
+returns-else-largest-LIMIT-clause-sized g c =
+    sized_after (sized_view (ap (λ (u : Solver). u.dictionary) c.self.view_is)) c.show_weights.ensures.sized
