@@ -42,8 +42,8 @@ returns-then-not-is_negative g c =
           ((λ h. absurd (cc)), λ x. c.if-not-is_negative.ensures.decides.1 x.2);
     }
 
-pub returns-in-Some : goal.returns-in-Some
-returns-in-Some g c =
+pub returns-else-not-is_negative : goal.returns-else-not-is_negative
+returns-else-not-is_negative g c =
     let t = c.args.self.now in
     let S = shape t.columns (positions t) in
     let d : IsTrue c.comes_before.result ↔ ComesBefore S (rows_of t c.args.i) (neg_ℤ (rows_of t c.args.i c.args.column))
