@@ -198,7 +198,7 @@ module _ (limit : ℕ) (m : RobustModel) (names : List ℕ) (one : 1 ≤ limit) 
           let both = text_read limit m names s v text rest last best (first_node s) fits claim shown t bounded
           (root_read limit m names s best last (first_node s) h.node h.rest _ _ read v t
           (record { nothing = e; number = number }) refl) in
-          inl (t, both.0, both.1)
+          inl (t, both.text_is, both.fits)
 
     of_node : Node_of m limit names s 0 last (first_node s) → SomeTree limit m names text
     of_node (inl h) = of_end h h.rest refl (leaf_number s best (0 + branch_count h.node))
