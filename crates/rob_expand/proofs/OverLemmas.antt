@@ -37,30 +37,31 @@ module _ (limit : ℕ) (x : Code) (vs : List ℤ) where
   abbrev pub at_value : ℤ → ℕ → Option Counted
   at_value v = tree_left limit (placed_of x) (v ∷ vs)
 
-  module _ (all : List ℤ) (room : ℕ) {many : Many} (r : Result Counted Stop) where
+  module _ (all : List ℤ) (room : ℕ) where
     abbrev whole : Option Counted
     whole = over_left limit at_value all room
 
-    pub over_empty : many ≡ Empty → AreMany all many → Tells (of_shape Single (left_of 1 room)) r → Tells whole r
-    over_empty is told given =
-        moved r (of_shape Single (left_of 1 room)) whole
-        (sym (ap (λ (l : List ℤ). over_left limit at_value l room) (subst (AreMany all) is told))) given
+    module _ {many : Many} (r : Result Counted Stop) where
+      pub over_empty : many ≡ Empty → AreMany all many → Tells (of_shape Single (left_of 1 room)) r → Tells whole r
+      over_empty is told given =
+          moved r (of_shape Single (left_of 1 room)) whole
+          (sym (ap (λ (l : List ℤ). over_left limit at_value l room) (subst (AreMany all) is told))) given
 
-    pub over_one : {value : ℤ} {inside : List ℤ} → many ≡ One value → AreMany all many → inside ≡ value ∷ vs
-        → Tells (tree_left limit (placed_of x) inside room) r → Tells whole r
-    over_one {value = value} {inside = inside} is told here given =
-        let only : all ≡ value ∷ [] = subst (AreMany all) is told in
-        moved r (tree_left limit (placed_of x) inside room) whole
-        (ap (λ (us : List ℤ). tree_left limit (placed_of x) us room) here
-        ∙ sym (ap (λ (l : List ℤ). over_left limit at_value l room) only)) given
+      pub over_one : {value : ℤ} {inside : List ℤ} → many ≡ One value → AreMany all many → inside ≡ value ∷ vs
+          → Tells (tree_left limit (placed_of x) inside room) r → Tells whole r
+      over_one {value = value} {inside = inside} is told here given =
+          let only : all ≡ value ∷ [] = subst (AreMany all) is told in
+          moved r (tree_left limit (placed_of x) inside room) whole
+          (ap (λ (us : List ℤ). tree_left limit (placed_of x) us room) here
+          ∙ sym (ap (λ (l : List ℤ). over_left limit at_value l room) only)) given
 
-    pub over_several : many ≡ Several → AreMany all many
-        → Tells (of_shape Sum (each_left limit at_value true all room)) r → Tells whole r
-    over_several is told given =
-        let more : (v : ℤ) × (w : ℤ) × (ws : List ℤ) × (all ≡ v ∷ w ∷ ws) = subst (AreMany all) is told in
-        moved r (of_shape Sum (each_left limit at_value true all room)) whole
-        (ap (λ (l : List ℤ). of_shape Sum (each_left limit at_value true l room)) more.3
-        ∙ sym (ap (λ (l : List ℤ). over_left limit at_value l room) more.3)) given
+      pub over_several : many ≡ Several → AreMany all many
+          → Tells (of_shape Sum (each_left limit at_value true all room)) r → Tells whole r
+      over_several is told given =
+          let more : (v : ℤ) × (w : ℤ) × (ws : List ℤ) × (all ≡ v ∷ w ∷ ws) = subst (AreMany all) is told in
+          moved r (of_shape Sum (each_left limit at_value true all room)) whole
+          (ap (λ (l : List ℤ). of_shape Sum (each_left limit at_value true l room)) more.3
+          ∙ sym (ap (λ (l : List ℤ). over_left limit at_value l room) more.3)) given
 
 -- ---- what is left behind some values, and behind all; and there is a place for a value in front of the others
 pub record HasEachLeft (limit : ℕ) (x : Code) (vs : List ℤ) (first : Bool) (run : List ℤ) (left : ℕ) (all : List ℤ)

@@ -29,9 +29,9 @@ count_item-returns-in_err-counted t c = record {
 
 pub count_item-returns : goal.count_item-returns
 count_item-returns t c = record {
-  left = moved c.spend.result _ _ (item_behind c.args.limit c.args.front c.args.inner.now c.args.values.now c.args.room
+  left = moved c.spend-2.result _ _ (item_behind c.args.limit c.args.front c.args.inner.now c.args.values.now c.args.room
       c.in_ok-begun.ensures.left c.in_ok-counted.ensures.counted (c.parens.ensures.parens c.args.limit))
-      c.spend.ensures.left;
+      c.spend-2.ensures.left;
 }
 
 pub count_parts-loop-part-preserved : goal.count_parts-loop-part-preserved
@@ -70,11 +70,11 @@ count_over-returns-in-Empty t c = record {
       c.args.room c.single.result c.in-Empty.is c.in_ok-many.ensures.many c.single.ensures.counted;
 }
 
-pub count_over-returns-in-One : goal.count_over-returns-in-One
-count_over-returns-in-One t c = record {
+pub count_over-returns-in_ok-inside-in-One : goal.count_over-returns-in_ok-inside-in-One
+count_over-returns-in_ok-inside-in-One t c = record {
   counted = over_one c.args.limit c.args.inner.now c.args.values.now (values_of c.args.ends.now c.args.values.now)
       c.args.room c.count.result c.in-One.is c.in_ok-many.ensures.many
-      (c.items.ensures.list ∙ c.in_ok-inside.ensures.values) c.count.ensures.counted;
+      (c.items.ensures.list ∙ c.in_ok-inside-in-One.ensures.values) c.count.ensures.counted;
 }
 
 pub count_over-returns-in-Several : goal.count_over-returns-in-Several
