@@ -1,4 +1,4 @@
-use Rattle.std.proofs.Common.{◌∷◌, ◌++◌, ap, ap₂, map, ◌∙◌}
+use Rattle.std.proofs.Common.{◌++◌, ◌∷◌, ap, ap₂, map, ◌∙◌}
 use Rattle.rob_model.proofs.SmallLemmas.{one_item}
 use Rattle.rob_report.proofs.LabelLemmas.{front_of, map-front_of}
 use Rattle.rob_report.proofs.labels.form_fronts.Goals as goal
