@@ -3,8 +3,18 @@ use Rattle.std.proofs.lemmas.List.{map-append}
 use Rattle.std.proofs.lemmas.Result.{on_ok_weaker}
 use Rattle.rob_model.specs.View.{robust, row_of}
 use Rattle.rob_syntax.specs.Known.{texts}
-use Rattle.rob_parse.proofs.Building.AddedLemmas.{budget_added, row_added}
+use Rattle.rob_parse.proofs.Building.AddedLemmas.{budget_added, row_added, set_added}
 use Rattle.rob_parse.proofs.model.add.Goals as goal
+
+pub returns-in_ok-line-in-Set-clause-added : goal.returns-in_ok-line-in-Set-clause-added
+returns-in_ok-line-in-Set-clause-added g c =
+    on_ok_weaker c.add_line.result
+    (set_added (texts c.args.words.now.keys) c.args.scope.now (robust g.N.Exact.value c.args.model.now)
+    c.in-Set.relation c.args.statement.now c.in-Set.is
+    c.as_slice.result.now c.as_slice.ensures.value
+    c.place_of-place.result c.place_of-place.ensures.place
+    _ c.in_ok-line-in-Set.ensures.read _)
+    c.add_line.ensures.added
 
 pub returns-in_ok-line-in-Budget-clause-added : goal.returns-in_ok-line-in-Budget-clause-added
 returns-in_ok-line-in-Budget-clause-added g c =
