@@ -3,13 +3,13 @@
 use Rattle.std.proofs.Common.{◌≡◌, ℕ, List, [], ◌⊎◌, inl, inr, refl, sym, subst, append-nil, ◌≢◌, ◌+◌, ◌-◌, ◌^◌, ◌<◌, ◌≤◌, ◌∷◌, ◌++◌, T, ap, ◌∙◌, to_z, of_z, w64, arith}
 use Rattle.std.specs.Prelude.{map, None, Result, Ok, Err, IfErr, ℤ, pos, nat_abs}
 use Rattle.std.proofs.lemmas.List.{map-append}
-use Rattle.std.specs.Prelude.{ℤ, pos, nat_abs, map, None, Result, Ok, Err, IfErr}
 use Rattle.rob_cert.specs.declared.ending.Stop.{Stop}
 use Rattle.rob_cert.specs.declared.ending.Stop.TheVariants as route
 use Rattle.rob_dualize.specs.Models.{HasModelCause, IsWideIn}
 use Rattle.rob_meaning.specs.Certificates.{Certificate, Status, optimal, infeasible, unbounded}
 use Rattle.rob_meaning.specs.Proves.{Proves, ProvesAs}
 use Rattle.rob_meaning.specs.RobustModel.{RobustModel}
+use Rattle.rob_number.proofs.CountLemmas.{later, rise_later}
 use Rattle.rob_meaning.specs.WellFormed.{IsModel}
 use Rattle.rob_number.proofs.CastLemmas.{seen}
 use Rattle.rob_number.specs.Counts.{NeverFell}
@@ -25,10 +25,10 @@ use Rattle.rob_tree.specs.View.{branch_of}
 use Rattle.rob_tree.specs.declared.error.TreeStop.{TreeStop}
 use Rattle.rob_tree.specs.declared.tree.Branch.{Branch}
 use Rattle.rob_tree.specs.declared.error.TreeStop.TheVariants.{Rule, EmptySet, Wide, Memory}
-use Rattle.rob_branch.proofs.GrowthLemmas.{falls_behind, rose_wider}
 use Rattle.rob_dualize.specs.Solving.{HasScenario, IsSolution}
+use Rattle.rob_branch.specs.Growth.{CountsGrowth, HasCause, HasCauseBehind, IsWrittenUpTo, RoseIfWide, TellsStop, is_wide, CanGrow, IsBranchedAt, IsSolvedBy, MayGrow}
+use Rattle.rob_branch.proofs.GrowthLemmas.{falls_behind}
 use Rattle.rob_elab.specs.Written.{IsWritten}
-use Rattle.rob_branch.specs.Growth.{CanGrow, CountsGrowth, HasCause, HasCauseBehind, IsBranchedAt, IsSolvedBy, IsWrittenUpTo, MayGrow, RoseIfWide, TellsStop}
 
 -- the scenario of a certificate that proves is admitted
 pub scenario_of : (m : RobustModel) (c : Certificate) → Proves m c → HasScenario m

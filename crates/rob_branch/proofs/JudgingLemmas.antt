@@ -1,6 +1,6 @@
 -- What comes of the check of a leaf, from what its steps answer: its box is written in whole numbers, set rows before
 -- forms, and then its certificate is checked.
-use Rattle.std.proofs.Common.{◌≡◌, ℕ, ◌+◌, ◌-◌, ◌^◌, ◌≤◌, refl, sym, ◌∙◌, subst}
+use Rattle.std.proofs.Common.{◌≡◌, ℕ, ◌≤◌, refl, sym, ◌∙◌, subst}
 use Rattle.rob_algebra.specs.Fraction.{Fraction}
 use Rattle.rob_check.specs.Conditions.{verdict_of}
 use Rattle.rob_check.specs.declared.verdict.Verdict.{Verdict}

@@ -1,5 +1,5 @@
 -- What growing asks of a box, and what it answers: its node and how far the search is behind it, or why there is none.
-use Rattle.std.specs.Prelude.{◌≡◌, ◌≢◌, ◌+◌, ◌≤◌, ℕ, ℤ, pos, nat_abs, List, [], ◌∷◌, ◌++◌, map, Some, Result, IfErr, ◌⊎◌}
+use Rattle.std.specs.Prelude.{◌≡◌, ℕ, List, [], ◌∷◌, ◌++◌, map, Some, Result, IfErr, ◌⊎◌, Bool, true, false, ◌≢◌, ◌+◌, ◌≤◌, ℤ, pos, nat_abs}
 use Rattle.rob_algebra.specs.Fraction.{Fraction}
 use Rattle.rob_cert.specs.Shape.{HasShape}
 use Rattle.rob_cert.specs.declared.ending.Stop.{Stop}

@@ -1,14 +1,15 @@
 -- What is said of the leaves of a node, one behind another: those that are passed, and the first that isn't.
-use Rattle.std.specs.Prelude.{◌≡◌, ◌≢◌, ℕ, ◌+◌, ◌≤◌, ◌⊎◌, nat_abs, List, ◌∷◌, ◌++◌, length, map, Option, Some, None, IfSome, Result, IfErr}
+use Rattle.std.specs.Prelude.{◌≡◌, ◌≢◌, ℕ, ◌+◌, ◌⊎◌, List, ◌∷◌, ◌++◌, length, map, Option, Some, None, IfSome, Result, IfErr, Bool, true, false, ◌≤◌, nat_abs}
 use Rattle.rob_algebra.specs.Fraction.{Fraction}
 use Rattle.rob_check.specs.declared.verdict.Verdict.TheVariants as check
 use Rattle.rob_meaning.specs.Certificates.{Certificate, Status, infeasible}
 use Rattle.rob_meaning.specs.Places.{Each}
 use Rattle.rob_meaning.specs.RobustModel.{RobustModel, Sense}
 use Rattle.rob_model.specs.declared.place.Spot.{Spot}
-use Rattle.rob_number.specs.Counts.{NeverFell, Rose}
+use Rattle.rob_number.specs.Counts as counts
+use Rattle.rob_number.specs.Counts.{NeverFell}
 use Rattle.rob_reach.specs.Boxes.{Branch, behind}
-use Rattle.rob_reach.specs.Trees.{IsIn, Node, Leaf, leaves, leaf_count, BranchesOn}
+use Rattle.rob_reach.specs.Trees.{Node, Leaf, leaves, leaf_count, BranchesOn, IsIn}
 use Rattle.rob_reach.specs.Verdicts.{KeepsValue, MayBe, Shows, leaf_at}
 use Rattle.rob_reach.specs.WholeStatus.{IsWholeOn}
 use Rattle.rob_sets.specs.declared.error.ElabErr.{ElabErr}

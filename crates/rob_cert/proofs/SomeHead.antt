@@ -1,11 +1,11 @@
 -- A text has a status, a value and a scale in its first lines, or breaks a rule there; and a direction with its bound.
-use Rattle.std.proofs.Common.{◌≡◌, ◌≢◌, ℕ, ◌+◌, ◌^◌, ◌<◌, List, [], ◌∷◌, ◌++◌, length, arith, refl, ap, sym, ◌∙◌, subst, inl, inr, length-append}
+use Rattle.std.proofs.Common.{◌≡◌, ℕ, ◌+◌, List, [], ◌∷◌, ◌++◌, length, arith, refl, ap, sym, ◌∙◌, subst, inl, inr, length-append}
 use Rattle.std.specs.Prelude.{◌⊎◌}
 use Rattle.rob_algebra.specs.Fraction.{Fraction}
 use Rattle.rob_algebra.specs.Width.{Fits}
 use Rattle.rob_meaning.specs.Certificates.{Status, optimal, infeasible, unbounded}
 use Rattle.rob_meaning.specs.Names.{Name}
-use Rattle.rob_meaning.specs.Places.{0ℚ, 1ℚ, Each}
+use Rattle.rob_meaning.specs.Places.{0ℚ, Each}
 use Rattle.rob_cert.specs.declared.error.Offence.{Offence}
 use Rattle.rob_cert.specs.declared.error.Offence.TheVariants.{NoLine, NoNumber}
 use Rattle.rob_cert.specs.declared.kind.Bound.{Bound}

@@ -23,8 +23,8 @@ use Rattle.rob_cert.specs.declared.error.Offence.TheVariants.{NoLine, NoShape, N
 use Rattle.rob_cert.specs.declared.kind.Vector.TheVariants.{Inside, Plan, Move, At}
 use Rattle.rob_cert.specs.Lines.{Line, status_line, value_line, scale_line, entry_line, cover_line, item_line, end_line, lines_of}
 use Rattle.rob_cert.specs.Kinds as kinds
+use Rattle.rob_cert.specs.Reading.{BeginsWithLine, words_in, Stage, start, behind, MayStand, Follows, FitsLine, IsNotZero, IsNotZeroWord, IsPlaced, IsLineAt, IsCause, Leads, BreaksFrom, advanced}
 use Rattle.rob_cert.specs.Kinds.{kind_of, ends}
-use Rattle.rob_cert.specs.Reading.{BeginsWithLine, words_in, Stage, start, behind, MayStand, Follows, FitsLine, IsNotZero, IsNotZeroWord, IsPlaced, IsLineAt, IsShapedAt, IsCause, Leads, BreaksFrom, advanced}
 use Rattle.rob_cert.specs.Spelling.{Naming, naming_of, entry_names, number_text, words_of, spelled, line_text, lines_text}
 use Rattle.rob_cert.specs.Whole.{IsTextOf}
 use Rattle.rob_cert.proofs.ApartLemmas.{TellsApart, number_same, line_of, begins_with, line_has_words, lines_once, leads_same}

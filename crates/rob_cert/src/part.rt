@@ -1,6 +1,6 @@
 //! The parts of a certificate's text that a status uses, one behind another.
 
-ghost use Rattle.std.specs.Prelude.{◌≡◌, ◌≢◌, ◌+◌, ◌^◌, ◌<◌, ◌≤◌, ◌++◌, ◌∷◌, [], ℕ, suc, length, map, if◌then◌else◌, IfOk, IfErr, IsTrue, ◌↔◌, codes, OnOk, false, List as Items_of};
+ghost use Rattle.std.specs.Prelude.{◌≡◌, ◌≢◌, ◌+◌, ◌^◌, ◌<◌, ◌≤◌, ◌++◌, ◌∷◌, [], ℕ, suc, length, map, if◌then◌else◌, IfOk, IfErr, IsTrue, ◌↔◌, codes, OnOk, List as Items_of};
 ghost use Rattle.rob_number.specs.Counts.{NeverFell};
 ghost use Rattle.rob_algebra.specs.Fraction.{Fraction};
 ghost use Rattle.rob_meaning.specs.Named.{AreDistinct};

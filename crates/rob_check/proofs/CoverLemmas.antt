@@ -1,7 +1,7 @@
 -- One multiplier more, one column more, one form more.
-use Rattle.std.proofs.Common.{◌≡◌, ℕ, zero, suc, ◌+◌, ◌-◌, ◌^◌, ◌<◌, ◌≤◌, ℤ, List, [], ◌∷◌, ◌++◌, map, length, get_or, drop, arith, refl, sym, ◌∙◌, ap, ap₂, add-one, Bool}
+use Rattle.std.proofs.Common.{◌≡◌, ℕ, zero, suc, ◌+◌, ◌<◌, ◌≤◌, ℤ, List, [], ◌∷◌, ◌++◌, map, length, get_or, drop, arith, refl, sym, ◌∙◌, ap, ap₂, add-one, Bool}
 use Rattle.std.specs.Prelude.{Option, Some, None}
-use Rattle.rob_algebra.specs.Fraction.{Fraction, of_int, ◌+ℚ◌, ◌*ℚ◌}
+use Rattle.rob_algebra.specs.Fraction.{Fraction, of_int, ◌*ℚ◌}
 use Rattle.rob_algebra.specs.FractionOrder.{eq_ℚ}
 use Rattle.rob_algebra.specs.Width.{kept}
 use Rattle.rob_cert.specs.View.{cover_of}

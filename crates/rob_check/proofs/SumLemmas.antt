@@ -1,5 +1,5 @@
 -- One part of a sum more.
-use Rattle.std.proofs.Common.{◌≡◌, ℕ, zero, suc, ◌+◌, ◌-◌, ◌<◌, ◌≤◌, ℤ, pos, nat_abs, List, [], ◌∷◌, length, map, get_or, drop, arith, refl, sym, ◌∙◌, ap, subst, ◌^◌, to_z, of_z, w64, SFits, to_z-of_z}
+use Rattle.std.proofs.Common.{◌≡◌, ℕ, zero, suc, ◌-◌, ◌<◌, ◌≤◌, ℤ, pos, nat_abs, List, [], ◌∷◌, length, map, get_or, drop, arith, refl, sym, ◌∙◌, ap, subst, ◌^◌, to_z, of_z, w64, SFits, to_z-of_z}
 use Rattle.std.specs.Prelude.{Option, Some, None}
 use Rattle.rob_number.proofs.CastLemmas.{seen_within}
 use Rattle.rob_algebra.proofs.WidthLaws.{kept-fits, kept-of_int}

@@ -1,9 +1,8 @@
 -- Covers and items, one after another.
 use Rattle.std.proofs.Common.{◌≡◌, ℕ, zero, suc, ◌+◌, ◌<◌, List, [], ◌∷◌, ◌++◌, map, length, sym, ap, ap₂, ◌∙◌, arith, add-one, append_assoc, get_or}
-use Rattle.std.specs.Prelude.{if◌then◌else◌}
 use Rattle.rob_algebra.specs.Fraction.{Fraction, of_int}
 use Rattle.rob_meaning.specs.Certificates.{Cover, Item}
-use Rattle.rob_meaning.specs.Places.{0ℚ, tabulate}
+use Rattle.rob_meaning.specs.Places.{tabulate}
 use Rattle.rob_cert.specs.declared.trace.Round.{Round as Told}
 use Rattle.rob_counterpart.specs.MasterItems.{weighted_kept}
 use Rattle.rob_counterpart.specs.ReadNumbers.{covers_kept}

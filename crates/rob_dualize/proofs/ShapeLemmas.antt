@@ -1,5 +1,5 @@
 -- Covers and items that are read have the shape of a certificate's: they stand in order, and none is 0.
-use Rattle.std.proofs.Common.{◌≡◌, ◌≢◌, ℕ, suc, ◌<◌, ◌≤◌, List, [], ◌∷◌, ◌++◌, length, refl, arith, Bool, true, false, inl, inr}
+use Rattle.std.proofs.Common.{◌≡◌, ◌≢◌, ℕ, suc, ◌<◌, ◌≤◌, List, [], ◌∷◌, length, refl, arith, Bool, true, false, inl, inr}
 use Rattle.std.specs.Prelude.{if◌then◌else◌}
 use Rattle.rob_algebra.specs.Fraction.{Fraction, ◌-ℚ◌}
 use Rattle.rob_meaning.specs.Certificates.{Cover, Item, IsBefore}

@@ -11,9 +11,8 @@ use Rattle.rob_index.specs.Statements as stated
 use Rattle.rob_index.specs.Settings.{Setting, settings, with_value, index_value}
 use Rattle.rob_index.specs.Expansion.{index_text, ref_name, optional_name, summed, expand_each, expand_tree, expand_parts, expand_factors, member_of, ranges_of, statement_at, expand}
 use Rattle.rob_index.specs.Membership.{Among, here, there}
-use Rattle.rob_index.specs.Refs.{EachItem}
-use Rattle.rob_index.specs.Places.{ref_places, optional_places, range_places, under, tree_places, part_places, factor_places, each_places, sides_places, inner_places, places}
 use Rattle.rob_index.specs.Rules.{greatest_index, is_out_at, is_out}
+use Rattle.rob_index.specs.Places.{ref_places, optional_places, range_places, under, tree_places, part_places, factor_places, each_places, sides_places, inner_places, places}
 use Rattle.rob_index.specs.Forms.{Form, value_of, values_of, extensions}
 use Rattle.rob_index.specs.Fast.{setting_of, index_form, ends_of, nest_of, names_in}
 use Rattle.rob_index.proofs.FastLemmas.{index_is, values_are, settings_are}

@@ -6,11 +6,11 @@ use Rattle.std.specs.List.{flat_map, list_any}
 use Rattle.std.proofs.lemmas.Int.{ints}
 use Rattle.rob_index.specs.Statements.{Index, Ref, Range, Tree, TreeParts, TreeFactors, Ranged, Share, Indexed}
 use Rattle.rob_index.specs.Statements as stated
-use Rattle.rob_index.specs.Settings.{Setting, natural, count, settings, index_value}
 use Rattle.rob_index.specs.Expansion.{ranges_of}
-use Rattle.rob_index.specs.Places.{Inside, of_index, ref_places, optional_places, range_place, under, range_places, tree_places, part_places, factor_places, each_places, sides_places, inner_places, places}
 use Rattle.rob_index.specs.Rules.{is_long_at, is_out_at, is_long, is_out}
-use Rattle.rob_index.specs.Forms.{Form, Ends, value_of, minus, length_form, values_of, extensions}
+use Rattle.rob_index.specs.Forms.{Ends, value_of, minus, length_form, values_of, extensions}
+use Rattle.rob_index.specs.Settings.{Setting, natural, count, settings, index_value}
+use Rattle.rob_index.specs.Places.{Inside, of_index, ref_places, optional_places, range_place, under, range_places, tree_places, part_places, factor_places, each_places, sides_places, inner_places, places}
 use Rattle.rob_index.specs.Fast.{setting_of, index_form, ends_of, nest_of, names_in}
 use Rattle.rob_index.proofs.ListLemmas.{any_same, any_map}
 use Rattle.rob_index.proofs.FormLemmas.{minus_is}

@@ -1,11 +1,9 @@
 -- A sum over the values of a range: none, one, or more of them.
-use Rattle.std.proofs.Common.{◌≡◌, ℕ, ◌<◌, suc, Bool, true, false, List, Option, Some, None, refl, sym, ap, ◌∙◌, arith}
-use Rattle.std.specs.Prelude.{ℤ, pos, ◌+ℤ◌, int_lt}
+use Rattle.std.proofs.Common.{◌≡◌, ℕ, Bool, true, false, List, [], ◌∷◌, Option, Some, sym, ap, ◌∙◌, subst}
+use Rattle.std.specs.Prelude.{ℤ, set, Result, MatchResult, Err}
+use Rattle.rob_index.specs.Counting.{lead}
+use Rattle.rob_index.specs.Forms.{Ends, values_of}
 use Rattle.rob_index.specs.Settings.{count, upwards}
-use Rattle.rob_index.specs.Counting.{parens}
-use Rattle.rob_index.specs.Forms.{Ends, value_of, values_of}
-use Rattle.rob_index.proofs.NestLemmas.{lt_from, lt_not}
-use Rattle.rob_expand.specs.declared.count.Shape.TheVariants.{Single, Sum}
 use Rattle.rob_expand.specs.declared.count.Counted.{Counted}
 use Rattle.rob_expand.specs.declared.count.Inside.TheVariants as place
 use Rattle.rob_expand.specs.declared.count.Many.{Many}

@@ -1,7 +1,7 @@
 //! How many tokens an expression's canonical text has in a setting, counted without making it: the count stops as soon
 //! as there is no room for more.
 
-ghost use Rattle.std.specs.Prelude.{◌≡◌, ℕ, ◌∷◌, map, true, false, MatchResult, Some};
+ghost use Rattle.std.specs.Prelude.{◌≡◌, ℕ, ◌∷◌, map, true, IfOk, MatchResult, Some};
 ghost use Rattle.rob_index.specs.Settings.{count as span, upwards};
 ghost use Rattle.rob_index.specs.Forms.{values_of};
 ghost use Rattle.rob_index.specs.Counting as counting;

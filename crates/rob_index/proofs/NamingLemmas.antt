@@ -9,9 +9,9 @@ use Rattle.rob_index.specs.Statements as stated
 use Rattle.rob_index.specs.Settings.{Setting, settings, with_value, values}
 use Rattle.rob_index.specs.Expansion.{ref_name, optional_name, added, summed, expand_each, expand_tree, expand_parts, expand_factors, member_of, ranges_of, statement_at, expand}
 use Rattle.rob_index.specs.Membership.{Among, here, there}
-use Rattle.rob_index.specs.Refs.{EachItem, IfThere, EachName, EachPartName, EachFactorName, EachSideName, EachNameOf, EachRef, EachPartRef, EachFactorRef, EachSideRef, EachRefOf, IsNameOf}
-use Rattle.rob_index.specs.Places.{of_index, ref_places, optional_places, range_places, under, tree_places, part_places, factor_places, each_places, sides_places, inner_places, places}
+use Rattle.rob_index.specs.Refs.{IfThere, EachName, EachPartName, EachFactorName, EachSideName, EachNameOf, EachRef, EachPartRef, EachFactorRef, EachSideRef, EachRefOf, IsNameOf}
 use Rattle.rob_index.specs.Rules.{is_out_at, is_out, longest_name, is_long_name, plain_has_long, parts_have_long, factors_have_long, optional_has_long, has_no_member, is_no_statement}
+use Rattle.rob_index.specs.Places.{of_index, ref_places, optional_places, range_places, under, tree_places, part_places, factor_places, each_places, sides_places, inner_places, places}
 use Rattle.rob_index.proofs.ExpansionLemmas.{settings-append}
 use Rattle.rob_index.proofs.ListLemmas.{not_true, any_from, any_append, flat_among}
 

@@ -9,9 +9,9 @@ use Rattle.rob_index.specs.Statements as stated
 use Rattle.rob_index.specs.Counting.{line_tokens, lines_tokens}
 use Rattle.rob_index.specs.Expansion.{expand}
 use Rattle.rob_index.specs.PlainLines.{IsPlainLine, itself_line}
-use Rattle.rob_index.specs.Refs.{EachFactorName, EachItem, EachName, EachNameOf, EachPartName, EachSideName, HasMember, IfThere}
-use Rattle.rob_index.specs.Places.{Inside, places}
+use Rattle.rob_index.specs.Refs.{EachFactorName, EachName, EachNameOf, EachPartName, EachSideName, HasMember, IfThere}
 use Rattle.rob_index.specs.Rules.{index_unknown, range_too_long, index_out, too_much, no_statement, most_tokens, longest_name, is_long, is_out, is_unknown, has_great_digits, is_long_name, plain_has_long, parts_have_long, factors_have_long, optional_has_long, has_no_member, is_no_statement, has_fault}
+use Rattle.rob_index.specs.Places.{Inside, places}
 use Rattle.rob_index.specs.Search.{has_room, named}
 use Rattle.rob_index.proofs.ListLemmas.{or_false}
 use Rattle.rob_index.proofs.PlainLemmas.{line_itself, no_places}

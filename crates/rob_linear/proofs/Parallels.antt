@@ -4,7 +4,7 @@ use Rattle.std.proofs.Common.{◌≡◌, ℕ, zero, suc, ◌<◌, ◌≤◌, sym
 use Rattle.std.proofs.lemmas.Int.{ints, by_lt_z}
 use lib.IntN.{ℤ, pos, ◌-ℤ◌, ◌*ℤ◌}
 use lib.Signed.{◌<ℤ◌, ◌≤ℤ◌}
-use Rattle.rob_algebra.specs.Integer.{ring, *ℤ_comm, zero-mul, mul-zero, one-mul}
+use Rattle.rob_algebra.specs.Integer.{ring, mul-zero, one-mul}
 use Rattle.rob_algebra.specs.IntegerOrder.{mul_cancel, mul_cancel_zero, mul_cancel_lt, mul_cancel_nonneg, mul-pos_z, mul_nonneg}
 use Rattle.rob_linear.specs.Vectors.{sum_to}
 use Rattle.rob_linear.specs.Systems.{System, IsTagged, objective, right, IsPrimitive, LiesAlong, RowOf, IsBasis, IsNonnegative, Feasible, EndsOptimal, EndsUnbounded}

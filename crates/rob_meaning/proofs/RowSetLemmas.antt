@@ -1,23 +1,13 @@
 -- Each row stands with its set, and what holds of the numbers of a set holds of its rows.
 use Rattle.std.proofs.Common.{ap, refl, arith}
 use Rattle.std.proofs.lemmas.Nat.{div-mul-add}
-use Rattle.std.specs.Prelude.{◌≡◌, ◌≢◌, ℕ, zero, suc, ◌+◌, ◌-◌, ◌*◌, ◌/◌, ◌<◌, ◌*ℤ◌, ℤ, pos, Bool, true, false, List, [], ◌∷◌, ◌++◌, length, map, get_or, slice_index_or, Option, Some, None}
-use Rattle.rob_algebra.specs.Fraction.{Fraction, ◌+ℚ◌, ◌*ℚ◌, neg_ℚ}
-use Rattle.rob_algebra.specs.FractionLaws as Q
-use Rattle.rob_algebra.proofs.Parts.{of_int-parts}
-use Rattle.rob_algebra.specs.Integer.{zero-mul}
+use Rattle.std.specs.Prelude.{◌≡◌, ℕ, zero, suc, ◌+◌, ◌<◌, List, [], ◌∷◌, ◌++◌, length, map, get_or, slice_index_or, Option, Some, None}
+use Rattle.rob_algebra.specs.Fraction.{Fraction}
+use Rattle.rob_meaning.specs.Expressions.{Expression}
+use Rattle.rob_meaning.specs.Forms.{sides}
+use Rattle.rob_meaning.specs.Places.{Each, EachFrom}
+use Rattle.rob_meaning.specs.RobustModel.{Member, Parameter, RobustModel, SetLine, budget, joint_number, line, line_set, written_count}
 use Rattle.rob_algebra.specs.Polynomials.{lit, minus, ◌:+◌, ◌:*◌, v0}
-use Rattle.rob_meaning.proofs.AdmittedLemmas.{each_from_map, length-parameters}
-use Rattle.rob_meaning.proofs.ClearingLemmas.{length-tabulate}
-use Rattle.rob_meaning.proofs.JointScenarioLemmas.{at-right}
-use Rattle.rob_meaning.proofs.ListLemmas.{at-tabulate}
-use Rattle.rob_meaning.proofs.TauLemmas.{at-left}
-use Rattle.rob_meaning.specs.Clearing.{whole_at}
-use Rattle.rob_meaning.specs.Coefficients.{product_table, rule_table, sum_table, table, unit}
-use Rattle.rob_meaning.specs.Expressions.{Expression, Factors, Terms, adaptive, adaptive_in, factor, no_factors, no_terms, number, parameter, product, sum, term, variable}
-use Rattle.rob_meaning.specs.Forms.{difference, sides}
-use Rattle.rob_meaning.specs.Places.{0ℚ, Each, EachFrom, at, tabulate}
-use Rattle.rob_meaning.specs.RobustModel.{Member, Parameter, Relation, RobustModel, SetLine, at_least, at_most, budget, column_of, equal, joint_number, line, line_set, list_in_set, list_of, set_count, written_count}
 use Rattle.rob_meaning.specs.SetConditions.{if_declared}
 use Rattle.rob_meaning.specs.SetRows.{SetRow, bound_row_sets, bound_rows, budget_row, expression_row, lower_row, member_row_sets, member_rows, set_of_parameter, set_row_sets, set_rows, statement_row_sets, statement_rows, upper_row}
 use Rattle.rob_meaning.proofs.EachLemmas.{each_all}

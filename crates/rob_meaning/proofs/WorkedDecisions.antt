@@ -7,22 +7,7 @@ use Rattle.rob_algebra.specs.Fraction.{Fraction, ◌<ℚ◌, ◌≤ℚ◌}
 use Rattle.rob_algebra.specs.FractionLists.{AllNonneg}
 use Rattle.rob_algebra.specs.FractionOrder.{cmp_ℚ, cmp_ℚ-ranks}
 use Rattle.rob_algebra.specs.FractionOrderLaws as Q
-use Rattle.rob_meaning.proofs.AdmittedLemmas.{meets_admits}
-use Rattle.rob_meaning.proofs.ConeLemmas.{meets_taken}
-use Rattle.rob_meaning.proofs.ProvesLemmas.{certificate_true}
-use Rattle.rob_meaning.specs.Certificates.{Status, optimal, infeasible, unbounded, Cover, Item, Certificate}
-use Rattle.rob_meaning.specs.Degrees.{uncertain_degree, decision_degree, IsLinear, AreLinear, FactorsLinear}
-use Rattle.rob_meaning.specs.Expressions.{Expression, number, parameter, variable, adaptive, adaptive_in, sum, product, Terms, no_terms, term, Factors, no_factors, factor}
-use Rattle.rob_meaning.specs.Forms.{matrices, plan_vector, constant_part, parameter_part}
-use Rattle.rob_meaning.specs.Multipliers.{set_matrix, set_limits, Covers, ShowsEmpty}
-use Rattle.rob_meaning.specs.Places.{0ℚ, 1ℚ, at, Each, EachFrom}
-use Rattle.rob_meaning.specs.Proves.{amounts_of, EachCovered, IsItem, combination, target, Improves, ProvesOptimal, ProvesInfeasible, ProvesUnbounded, ProvesAs, HasStatus}
-use Rattle.rob_meaning.specs.RobustModel.{Relation, at_most, at_least, equal, Sense, minimise, maximise, Parameter, Member, AdaptiveVariable, SetLine, line, budget, Row, RobustModel, joint_parameters, set_count, written_count, written_parameters, joint_number, line_set, row_set, column_count}
-use Rattle.rob_meaning.specs.SetConditions.{SetCondition, lower_bound, upper_bound, stated, set_conditions, taken, total_taken, Holds, Meets}
-use Rattle.rob_meaning.specs.SetRows.{set_rows, set_column_count, lift_count}
-use Rattle.rob_meaning.specs.UncertaintySet.{Relates, Admits}
-use Rattle.rob_meaning.specs.Vectors.{dot, scale, zeros, vec_mat}
-use Rattle.rob_meaning.specs.WellFormed.{IsInside, TermsInside, FactorsInside, IsExpression, IsSetSide, IsMember, IsSetLine, IsParameterOf, IsOf, TermsOf, FactorsOf, IsLineOf, IsModel}
+use Rattle.rob_meaning.specs.Places.{0ℚ, Each, EachFrom}
 
 -- the test found the fact
 abbrev pub Found : {A : Type 0} → Option A → Type 0

@@ -7,9 +7,8 @@ ghost use Rattle.rob_meaning.specs.Named.{AreDistinct, IsNamed, IsPlain, declare
 ghost use Rattle.rob_meaning.specs.RobustModel.{RobustModel};
 ghost use Rattle.rob_model.specs.Limits.{IsWithinLimits};
 ghost use Rattle.rob_parse.specs.Modelled.{ReadsModel};
-ghost use Rattle.rob_index.specs.Settings.{Setting};
 ghost use Rattle.rob_index.specs.Expansion.{ref_name, word_at};
-ghost use Rattle.rob_index.specs.Refs.{EachItem};
+ghost use Rattle.rob_index.specs.Settings.{Setting};
 ghost use Rattle.rob_index.specs.Rules.{is_out_at};
 ghost use Rattle.rob_index.specs.Statements.{Index, Ref};
 ghost use Rattle.rob_syntax.specs.Names.{IsSpelled, IsWord};

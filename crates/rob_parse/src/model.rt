@@ -341,7 +341,8 @@ fn row_def<N: Exact, L: Ledger>(
     requires fits { FitsRelation N.limit row.now.relation }
     requires room { HasRoom sorts.now place }
     ensures read { IfOk result (λ r. row_of N.value r ∷ []
-        ≡ map (row_taken place.count place.set) (rows (texts words.now.keys) sorts.now (parsed.Row row.now))) }
+        ≡ map (row_taken place.count place.set)
+        (rows (texts words.now.keys) sorts.now (parsed.Row row.now))) }
     ensures counted { CountsOnly L.ops L.wides ledger.old ledger.new }
 {
     let name = word_of(alloc, words, row.name)?;

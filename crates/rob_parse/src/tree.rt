@@ -55,7 +55,8 @@ fn terms<N: Exact, L: Ledger>(
     requires fits { FitsSummands N.limit (summands_of (map part_of parts.now)) }
     requires room { HasRoom sorts.now place }
     ensures read { IfOk result (λ ts. terms_of (map (signed_of N.value) ts)
-        ≡ terms_taken place.count place.set (spec.terms sorts.now (summands_of (map part_of parts.now)))) }
+        ≡ terms_taken place.count place.set
+        (spec.terms sorts.now (summands_of (map part_of parts.now)))) }
     ensures counted { CountsOnly L.ops L.wides ledger.old ledger.new }
 {
     let mut list = List::new(alloc);
@@ -80,7 +81,8 @@ fn factors<N: Exact, L: Ledger>(
     requires fits { FitsOperands N.limit (operands_of (map tree_of trees.now)) }
     requires room { HasRoom sorts.now place }
     ensures read { IfOk result (λ fs. factors_of (map (expression_of N.value) fs)
-        ≡ factors_taken place.count place.set (spec.factors sorts.now (operands_of (map tree_of trees.now)))) }
+        ≡ factors_taken place.count place.set
+        (spec.factors sorts.now (operands_of (map tree_of trees.now)))) }
     ensures counted { CountsOnly L.ops L.wides ledger.old ledger.new }
 {
     let mut list = List::new(alloc);

@@ -5,6 +5,7 @@ use Rattle.std.specs.Prelude.{Result, IfOk, ℤ, pos, negsuc, ◌+ℤ◌, ◌-�
 use Rattle.std.proofs.lemmas.List.{take_more}
 use Rattle.std.proofs.Math.Seq.{take-length}
 use Rattle.std.proofs.lemmas.Int.{ints, by_lt_z}
+use Rattle.rob_algebra.specs.Integer.{add_assoc}
 use Rattle.rob_index.specs.Settings.{count, upwards}
 use Rattle.rob_index.specs.Forms.{Form, Ends, value_of, first_factor, outer, far_end, without, minus, greatest, all_run, is_dead, lack_form, length_form, only, at_one, fixed, onto}
 use Rattle.rob_index.proofs.FormLemmas.{without_is, outer_is, minus_is}

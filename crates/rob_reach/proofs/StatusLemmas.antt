@@ -1,12 +1,9 @@
 -- At most one status holds over plans with whole numbers, and an optimum is one number.
-use Rattle.std.specs.Prelude.{◌≡◌, pos, ℕ, List, [], ◌∷◌, refl}
-use Rattle.rob_algebra.specs.Fraction.{Fraction, ◌+ℚ◌, ◌-ℚ◌}
-use Rattle.rob_algebra.specs.FractionLaws as Q
+use Rattle.std.specs.Prelude.{◌≡◌, ℕ, List}
+use Rattle.rob_algebra.specs.Fraction.{Fraction}
+use Rattle.rob_meaning.specs.Places.{0ℚ}
+use Rattle.rob_meaning.specs.RobustModel.{RobustModel}
 use Rattle.rob_algebra.specs.Polynomials.{lit, ◌:+◌, ◌:-◌, v0}
-use Rattle.rob_meaning.proofs.LinearLemmas.{zero_lt_one}
-use Rattle.rob_meaning.specs.Guarantee.{IsNoWorse}
-use Rattle.rob_meaning.specs.Places.{0ℚ, 1ℚ}
-use Rattle.rob_meaning.specs.RobustModel.{RobustModel, Sense, maximise, minimise}
 use Rattle.rob_reach.specs.WholeStatus.{IsWholeOptimal, IsWholeInfeasible, IsWholeUnbounded}
 use Rattle.rob_meaning.proofs.StatusLemmas.{no_worse_both, better, not_better}
 

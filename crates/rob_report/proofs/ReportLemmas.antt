@@ -1,5 +1,5 @@
 -- The texts of a plan, line by line.
-use Rattle.std.proofs.Common.{◌≡◌, ℕ, suc, ◌+◌, ◌<◌, ◌≤◌, List, [], ◌∷◌, ◌++◌, map, length, get_or, drop, arith, ap, ap₂, sym, ◌∙◌, append_assoc, append-nil, add-one}
+use Rattle.std.proofs.Common.{◌≡◌, ℕ, suc, ◌+◌, ◌<◌, List, [], ◌∷◌, ◌++◌, map, length, get_or, drop, arith, ap, ap₂, sym, ◌∙◌, append_assoc, append-nil, add-one}
 use Rattle.std.specs.Prelude.{codes}
 use Rattle.rob_algebra.specs.Fraction.{Fraction}
 use Rattle.rob_cert.proofs.WriterLemmas.{behind}

@@ -1,5 +1,5 @@
 -- Terms that are left out, and sums of no term.
-use Rattle.std.proofs.Common.{◌≡◌, ℕ, zero, suc, ◌+◌, List, [], ◌∷◌, ◌++◌, refl, ap, ap₂, ◌∙◌, append_assoc}
+use Rattle.std.proofs.Common.{◌≡◌, ℕ, zero, suc, List, [], ◌∷◌, ◌++◌, refl, ap, ap₂, ◌∙◌, append_assoc}
 use Rattle.std.specs.Prelude.{ℤ, pos, negsuc, codes}
 use Rattle.rob_cert.proofs.WriterLemmas.{behind}
 use Rattle.rob_meaning.specs.Names.{Name}

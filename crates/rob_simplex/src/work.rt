@@ -7,7 +7,7 @@ ghost use Rattle.rob_simplex.specs.Solvers.{positions, HasPoint, HasOptimum, Has
 ghost use Rattle.rob_simplex.specs.Solutions.{point_of, ray_of, dual_of, value_of, weights_of};
 ghost use Rattle.rob_linear.specs.Vectors.{at};
 ghost use Rattle.rob_linear.specs.Programs.{Program, with_cost};
-ghost use Rattle.rob_simplex.specs.Counting.{CountsRows};
+ghost use Rattle.rob_number.specs.Counts.{CountsOnly};
 ghost use Rattle.rob_simplex.specs.Dictionaries.{width_of, columns_of, rows_of, IsSized};
 ghost use Rattle.rob_simplex.specs.Lowering.{IsCostOf};
 ghost use Rattle.rob_algebra.specs.Width.{Fits};
@@ -101,7 +101,7 @@ impl<N: Exact, E: Entry> Work<N, E> {
         ensures resumable { (P : Program) → IsMadeFor P self.old
             → IfOk result (λ kind. HasPoint self.new → CanResume P self.new) }
         ensures sized { IsSized self.old.dictionary self.new.dictionary }
-        ensures counted { CountsRows L.ops L.wides ledger.old ledger.new }
+        ensures counted { CountsOnly L.ops L.wides ledger.old ledger.new }
     {
         let ended = self.dictionary.follow::<N, L>(ledger);
         self.tell(ended)
@@ -119,7 +119,7 @@ impl<N: Exact, E: Entry> Work<N, E> {
         ensures resumable { (P : Program) → HasBegun P self.old
             → IfOk result (λ kind. HasPoint self.new → CanResume P self.new) }
         ensures sized { IsSized self.old.dictionary self.new.dictionary }
-        ensures counted { CountsRows L.ops L.wides ledger.old ledger.new }
+        ensures counted { CountsOnly L.ops L.wides ledger.old ledger.new }
     {
         let cause = self.cause();
         let ended = self.dictionary.follow_on::<N, L>(cause, ledger);
@@ -187,7 +187,7 @@ impl<N: Exact, E: Entry> Work<N, E> {
         ensures resumable { (P : Program) → CanResume P self.old
             → IfOk result (λ kind. CanResume (with_cost P (at cost.now)) self.new) }
         ensures sized { IsSized self.old.dictionary self.new.dictionary }
-        ensures counted { CountsRows L.ops L.wides ledger.old ledger.new }
+        ensures counted { CountsOnly L.ops L.wides ledger.old ledger.new }
     {
         match self.dictionary.go_on::<N, L>(cost, ledger) {
             Ok(None) => {

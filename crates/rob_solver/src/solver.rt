@@ -5,7 +5,7 @@ ghost use Rattle.std.specs.Bool.{OnTrue, OnFalse};
 ghost use Rattle.rob_linear.specs.Programs.{Program, with_cost};
 ghost use Rattle.rob_linear.specs.Vectors.{at};
 ghost use Rattle.rob_rows.specs.LinearPrograms.{HasNumbersWithin, program_of};
-ghost use Rattle.rob_simplex.specs.Counting.{CountsRows};
+ghost use Rattle.rob_number.specs.Counts.{CountsOnly};
 ghost use Rattle.rob_simplex.specs.Dictionaries.{columns_of, IsSized};
 ghost use Rattle.rob_simplex.specs.Endings.{IsFresh, HasAnswered, HasBegun, HasHalted, HasSolved, HasStopped, IsCaused};
 ghost use Rattle.rob_simplex.specs.declared.state.State.TheVariants.{Stopped as At};
@@ -137,7 +137,7 @@ impl<N: Exact> Solver<N> {
         ensures resumable { (P : Program) → IsMadeFor P self.old
             → IfOk result (λ kind. HasPoint self.new → CanResume P self.new) }
         ensures sized { IsSized self.old.dictionary self.new.dictionary }
-        ensures counted { CountsRows L.ops L.wides ledger.old ledger.new }
+        ensures counted { CountsOnly L.ops L.wides ledger.old ledger.new }
     {
         match &mut self.depth {
             Depth::Narrow(work) => work.solve(ledger),
@@ -157,7 +157,7 @@ impl<N: Exact> Solver<N> {
         ensures resumable { (P : Program) → HasBegun P self.old
             → IfOk result (λ kind. HasPoint self.new → CanResume P self.new) }
         ensures sized { IsSized self.old.dictionary self.new.dictionary }
-        ensures counted { CountsRows L.ops L.wides ledger.old ledger.new }
+        ensures counted { CountsOnly L.ops L.wides ledger.old ledger.new }
     {
         match &mut self.depth {
             Depth::Narrow(work) => work.go_on(ledger),
@@ -179,7 +179,7 @@ impl<N: Exact> Solver<N> {
         ensures resumable { (P : Program) → CanResume P self.old
             → IfOk result (λ kind. CanResume (with_cost P (at cost.now)) self.new) }
         ensures sized { IsSized self.old.dictionary self.new.dictionary }
-        ensures counted { CountsRows L.ops L.wides ledger.old ledger.new }
+        ensures counted { CountsOnly L.ops L.wides ledger.old ledger.new }
     {
         match &mut self.depth {
             Depth::Narrow(work) => work.resume(cost, ledger),

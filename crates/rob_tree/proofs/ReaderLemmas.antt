@@ -24,9 +24,9 @@ use Rattle.rob_tree.proofs.GoodNodes.{node_fits, tree_of_good}
 use Rattle.rob_tree.proofs.NodeSteps.{if_err}
 use Rattle.rob_tree.proofs.ReadingLemmas.{root_leads, stage}
 use Rattle.rob_tree.proofs.TreeLaws as laws
-use Rattle.rob_tree.specs.Parts.{HasBestCause, HasEndCause, HasNodeCause, HasRootCause, IsBestRead, IsClaimRead, IsEnded, IsGoodNode, IsLeafNumber, IsNodeRead, IsRootRead, KeepsNothing, tree_with}
-use Rattle.rob_tree.specs.ClaimLines.{HasBest, IsBestLineOf, IsClaimCause, greatest_leaf}
+use Rattle.rob_tree.specs.Parts.{HasBestCause, HasEndCause, HasNodeCause, HasRootCause, IsBestRead, IsClaimRead, IsEnded, IsGoodNode, IsLeafNumber, IsNodeRead, IsReadTree, IsRootRead, KeepsNothing, tree_with}
 use Rattle.rob_tree.specs.Reading.{Breaks, BreaksNodes, HasCause, Reads, TreeFits, at_root, in_best, in_claim, in_nodes, in_rest, no_leaf, rule_of}
+use Rattle.rob_tree.specs.ClaimLines.{HasBest, IsBestLineOf, IsClaimCause, greatest_leaf}
 use Rattle.rob_tree.specs.Shape.{KeepsParts}
 use Rattle.rob_tree.specs.TreeText.{IsTextOfTree, best_text, claim_text, pieces, pieces_text}
 use Rattle.rob_tree.specs.View.{tree_of}

@@ -14,9 +14,9 @@ use Rattle.rob_meaning.specs.Names.{Name, column_names}
 use Rattle.rob_meaning.specs.Places.{0ℚ, Each}
 use Rattle.rob_meaning.specs.RobustModel.{RobustModel}
 use Rattle.rob_reach.specs.Trees.{Node, leaf, split, left_open, Tree, IsIn, branch_count}
+use Rattle.rob_tree.specs.Reading.{IsCertificatePart, BreaksNodes, TreeFits, at_root, line_ends, rule_of}
+use Rattle.rob_tree.specs.TreeText.{IsTextOfTree, pieces, pieces_text}
 use Rattle.rob_tree.specs.ClaimLines.{HasBest, IsBestCause, IsBestLineOf, first_node}
-use Rattle.rob_tree.specs.Reading.{IsCertificatePart, BreaksNodes, at_root, line_ends, rule_of}
-use Rattle.rob_tree.specs.TreeText.{pieces, pieces_text}
 use Rattle.rob_tree.specs.declared.error.Offence.{Offence}
 use Rattle.rob_tree.specs.declared.error.Offence.TheVariants.{NoLine, NoName}
 use Rattle.rob_tree.specs.declared.error.TreeErr.{TreeErr}

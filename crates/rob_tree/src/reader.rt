@@ -10,9 +10,9 @@ ghost use Rattle.rob_model.specs.View.{robust};
 ghost use Rattle.rob_number.specs.Counts.{NeverFell};
 ghost use Rattle.rob_reach.specs.Ranges.{KeepsBothBounds, whole_rule};
 ghost use Rattle.rob_reach.specs.Trees as trees;
-ghost use Rattle.rob_tree.specs.Parts.{HasEndCause, HasRootCause, IsEnded, IsLeafNumber, IsRootRead, IsSceneOf, tree_with};
-ghost use Rattle.rob_tree.specs.ClaimLines.{greatest_leaf};
+ghost use Rattle.rob_tree.specs.Parts.{CanReadNodes, HasEndCause, HasRootCause, IsEnded, IsLeafNumber, IsReadTree, IsRootRead, tree_with};
 ghost use Rattle.rob_tree.specs.Reading.{HasCause, Reads, TreeFits};
+ghost use Rattle.rob_tree.specs.ClaimLines.{greatest_leaf};
 ghost use Rattle.rob_tree.specs.TreeText.{IsTextOfTree};
 ghost use Rattle.rob_tree.specs.View.{node_of, tree_of};
 

@@ -10,9 +10,9 @@ use Rattle.rob_index.specs.Lines.{IsStatement}
 use Rattle.rob_index.specs.Membership.{Among, here, there}
 use Rattle.rob_index.specs.Reading as lines
 use Rattle.rob_index.specs.Reading.{Version, one, two, IsOf, State}
-use Rattle.rob_index.specs.Refs.{EachItem, EachNameOf, IfName, IsNameOf}
-use Rattle.rob_index.specs.Places.{places}
+use Rattle.rob_index.specs.Refs.{EachNameOf, IfName, IsNameOf}
 use Rattle.rob_index.specs.Rules.{has_great_digits, index_out, is_no_statement, is_out, no_statement}
+use Rattle.rob_index.specs.Places.{places}
 use Rattle.rob_index.specs.Statements as stated
 use Rattle.rob_index.specs.Statements.{Indexed, Name, Ref, Statement, Tree}
 use Rattle.rob_index.specs.Symbols as is

@@ -9,9 +9,8 @@ use Rattle.std.proofs.lemmas.Bool.{eqb-false}
 use Rattle.std.proofs.lemmas.Bool.Decides.{nat_tests}
 use Rattle.std.proofs.lemmas.Fmt.{decimal_by_steps}
 use Rattle.std.proofs.lemmas.Slice.Eq.{bytes_eq-Decides}
-use Rattle.rob_index.specs.Settings.{Setting, index_value}
 use Rattle.rob_index.specs.Expansion.{index_text, ref_name, word_at}
-use Rattle.rob_index.specs.Refs.{EachItem}
+use Rattle.rob_index.specs.Settings.{Setting, index_value}
 use Rattle.rob_index.specs.Rules.{is_out_at}
 use Rattle.rob_index.specs.Statements.{Index, Ref}
 use Rattle.rob_lex.specs.Bytes.{goes_on_word}

@@ -1,8 +1,8 @@
-use Rattle.std.proofs.Common.{◌≡◌, ◌∷◌, true, false, drop}
+use Rattle.std.proofs.Common.{length}
+use Rattle.rob_index.specs.Forms.{values_of}
+use Rattle.rob_expand.proofs.OverLemmas.{HasEachLeft}
+use Rattle.rob_expand.proofs.StepLemmas.{HasFactorsLeft, HasPartsLeft}
 use Rattle.rob_index.specs.Settings.{count as span, upwards}
-use Rattle.rob_expand.specs.Placed.{placed_of}
-use Rattle.rob_expand.specs.Count.{tree_left, each_left}
-use Rattle.rob_expand.proofs.StepLemmas.{parts_from, factors_from}
 use Rattle.rob_expand.proofs.count.+count.Given as goal
 
 abbrev pub invariant-count_parts-loop-part : goal.invariant-count_parts-loop-part

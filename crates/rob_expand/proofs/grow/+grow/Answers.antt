@@ -9,7 +9,7 @@ use Rattle.rob_expand.specs.Growing.{add_name, each_names, printed_at}
 use Rattle.rob_expand.specs.Names.{tree_names}
 use Rattle.rob_expand.specs.Placed.{Placed, placed_of}
 use Rattle.rob_expand.proofs.StepLemmas.{over_seen}
-use Rattle.rob_expand.proofs.WalkLemmas.{left_is, left_none, next_some, next_none, words_more, words_all, words_are, long_more, long_all, long_are}
+use Rattle.rob_expand.proofs.WalkLemmas.{next_some, next_none, words_more, words_all, long_more, long_all, words_are, long_are}
 use Rattle.rob_expand.proofs.NameLemmas.{part_names_at, factor_names_at, value_names_at, parts_named, factors_named, over_named, words_inside, long_inside}
 use Rattle.rob_expand.proofs.MakeLemmas.{moved_on, moved_if}
 use Rattle.rob_expand.proofs.grow.+grow.Goals as goal
@@ -17,7 +17,7 @@ use Rattle.rob_expand.proofs.grow.+grow.Goals as goal
 pub grow_parts-loop-part-preserved : goal.grow_parts-loop-part-preserved
 grow_parts-loop-part-preserved t c =
     let f = part_names_at (texts c.args.own.now.keys) c.args.values.now in
-    let is = left_is c.args.parts.now c.loop-part.part-index c.part-item.result c.loop-part-test.true c.part-item.is in
+    let is = drop_at c.args.parts.now c.loop-part.part-index c.part-item.result c.loop-part-test.true c.part-item.is in
     record {
       words = words_more f (texts c.loop-part.words.keys) _ _ _ c.part-item.result is c.in_ok-here.ensures.words
           c.loop-part.invariant.words;
@@ -29,7 +29,7 @@ grow_parts-loop-part-preserved t c =
 pub grow_parts-returns : goal.grow_parts-returns
 grow_parts-returns t c =
     let f = part_names_at (texts c.args.own.now.keys) c.args.values.now in
-    let none = left_none c.args.parts.now c.loop-part.part-index c.loop-part-test.false in
+    let none = drop_past c.args.parts.now c.loop-part.part-index c.loop-part-test.false in
     let all = parts_named (texts c.args.own.now.keys) c.args.values.now c.args.parts.now in
     record {
       words = words_are f _ (texts c.args.words.now.keys) _ _ _ none all c.loop-part.invariant.words;
@@ -39,7 +39,7 @@ grow_parts-returns t c =
 pub grow_factors-loop-factor-preserved : goal.grow_factors-loop-factor-preserved
 grow_factors-loop-factor-preserved t c =
     let f = factor_names_at (texts c.args.own.now.keys) c.args.values.now in
-    let is = left_is c.args.factors.now c.loop-factor.factor-index c.factor-item.result c.loop-factor-test.true
+    let is = drop_at c.args.factors.now c.loop-factor.factor-index c.factor-item.result c.loop-factor-test.true
     c.factor-item.is in
     record {
       words = words_more f (texts c.loop-factor.words.keys) _ _ _ c.factor-item.result is c.in_ok-here.ensures.words
@@ -52,7 +52,7 @@ grow_factors-loop-factor-preserved t c =
 pub grow_factors-returns : goal.grow_factors-returns
 grow_factors-returns t c =
     let f = factor_names_at (texts c.args.own.now.keys) c.args.values.now in
-    let none = left_none c.args.factors.now c.loop-factor.factor-index c.loop-factor-test.false in
+    let none = drop_past c.args.factors.now c.loop-factor.factor-index c.loop-factor-test.false in
     let all = factors_named (texts c.args.own.now.keys) c.args.values.now c.args.factors.now in
     record {
       words = words_are f _ (texts c.args.words.now.keys) _ _ _ none all c.loop-factor.invariant.words;

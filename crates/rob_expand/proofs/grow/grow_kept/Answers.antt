@@ -1,4 +1,4 @@
-use Rattle.std.proofs.Common.{◌+◌, drop, get_or, refl, ◌∙◌}
+use Rattle.std.proofs.Common.{◌+◌, drop, get_or, refl}
 use Rattle.rob_syntax.specs.Known.{texts}
 use Rattle.rob_expand.specs.declared.line.Item.{Item}
 use Rattle.rob_expand.specs.Growing.{item_names}

@@ -11,7 +11,7 @@ use Rattle.rob_expand.specs.Growing.{printed_at}
 use Rattle.rob_expand.specs.Making.{summed_of, made_each}
 use Rattle.rob_expand.specs.Placed.{Placed, placed_of}
 use Rattle.rob_expand.proofs.StepLemmas.{over_seen}
-use Rattle.rob_expand.proofs.WalkLemmas.{left_is, left_none, next_some, next_none, made_more, made_all}
+use Rattle.rob_expand.proofs.WalkLemmas.{next_some, next_none, made_more, made_all}
 use Rattle.rob_expand.proofs.MakeLemmas.{moved_if, part_made, parts_made, factor_made, factors_made, value_made, each_made, summed_made}
 use Rattle.rob_expand.proofs.make.+make.Goals as goal
 

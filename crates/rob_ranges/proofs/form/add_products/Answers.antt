@@ -1,4 +1,4 @@
-use Rattle.std.proofs.Common.{◌≤◌, ◌<◌, ◌+◌, length, subst, sym, arith}
+use Rattle.std.proofs.Common.{◌<◌, length, subst, sym, arith}
 use Rattle.rob_ranges.proofs.JoinLemmas.{joined_longer, products_more, products_all}
 use Rattle.rob_ranges.proofs.form.add_products.Goals as goal
 

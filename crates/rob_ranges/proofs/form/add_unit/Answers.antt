@@ -1,4 +1,4 @@
-use Rattle.std.proofs.Common.{◌≤◌, ◌<◌, ◌+◌, length, subst, sym, arith}
+use Rattle.std.proofs.Common.{◌<◌, length, subst, sym, arith}
 use Rattle.std.specs.Prelude.{pos}
 use Rattle.rob_ranges.proofs.JoinLemmas.{joined_longer, units_more, units_all}
 use Rattle.rob_ranges.proofs.form.add_unit.Goals as goal

@@ -1,6 +1,6 @@
 use Rattle.std.proofs.Common.{arith, subst}
 use Rattle.std.proofs.lemmas.Result.{err_from_is_err_and}
-use Rattle.std.specs.Prelude.{◌≡◌, zero, [], length}
+use Rattle.std.specs.Prelude.{◌≡◌, zero, length}
 use Rattle.rob_meaning.specs.SetRows.{bound_rows}
 use Rattle.rob_model.specs.View.{robust}
 use Rattle.rob_sets.specs.Appending.{StopsAt}

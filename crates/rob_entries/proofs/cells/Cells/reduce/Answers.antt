@@ -4,7 +4,7 @@ use Rattle.rob_algebra.specs.FractionPairs.{pos_lt}
 use lib.IntN.{ℤ}
 use Rattle.rob_entries.specs.Maps.{IsMapped}
 use Rattle.rob_entries.proofs.MapLemmas.{mapped_back, part_zero}
-use Rattle.rob_entries.proofs.ClearingLemmas.{part_multiple, divisor_positive}
+use Rattle.rob_entries.proofs.ClearingLemmas.{part_multiple}
 use Rattle.rob_entries.proofs.WrittenRows.{part, row_within, row_length, row_at, stored_here, stored_other}
 use Rattle.rob_entries.proofs.cells.Cells.reduce.Goals as goal
 

@@ -1,4 +1,4 @@
-use Rattle.std.proofs.Common.{◌≡◌, ◌<◌, ◌∙◌, ap, sym, subst, List, length, map, set}
+use Rattle.std.proofs.Common.{◌<◌, ◌∙◌, ap, sym, subst, List, length, map, set}
 use Rattle.std.proofs.lemmas.List.{map-set}
 use lib.IntN.{ℤ}
 use Rattle.rob_entries.specs.Maps.{IsMapped}

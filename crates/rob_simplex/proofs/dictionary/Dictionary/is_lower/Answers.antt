@@ -3,9 +3,10 @@ use Rattle.std.specs.Option.{IfSome}
 use lib.IntN.{ℤ}
 use lib.Signed.{◌<ℤ◌}
 use Rattle.rob_linear.specs.Turns.{ComesBefore}
-use Rattle.rob_simplex.specs.Dictionaries.{positions, rows_of, shape, IsLower}
-use Rattle.rob_simplex.proofs.RatioLemmas.{first_decides, apart}
+use Rattle.rob_simplex.specs.Dictionaries.{positions, rows_of, shape}
+use Rattle.rob_simplex.specs.LeastRows.{IsLower}
 use Rattle.rob_simplex.proofs.LeastRows.{negative_of, positive_of}
+use Rattle.rob_simplex.proofs.RatioLemmas.{first_decides, apart}
 use Rattle.rob_simplex.proofs.dictionary.Dictionary.is_lower.Goals as goal
 
 pub returns-then-is_behind : goal.returns-then-is_behind

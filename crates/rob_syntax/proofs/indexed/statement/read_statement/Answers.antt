@@ -1,5 +1,4 @@
 use Rattle.std.proofs.Common.{sym, ◌∙◌}
-use Rattle.std.proofs.lemmas.Result.{err_from_is_err_and}
 use Rattle.rob_syntax.specs.SeenSymbols.{seen_line}
 use Rattle.rob_syntax.proofs.Fronts.PartLemmas.{refused_with}
 use Rattle.rob_syntax.proofs.Fronts.StatementLemmas.{statement_read, statement_cause, not_line, not_few}
