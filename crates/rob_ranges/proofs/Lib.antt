@@ -5,3 +5,4 @@ pub mod NestLists
 pub mod SeekingLemmas
 pub mod ShortLemmas
 pub mod SpanLemmas
+pub mod ProductLemmas

@@ -6,6 +6,7 @@ mod digits;
 pub mod form;
 pub mod index;
 pub mod nest;
+mod products;
 pub mod reach;
 pub mod run;
 pub mod search;

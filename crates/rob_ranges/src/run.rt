@@ -1,7 +1,7 @@
 //! The values of a range, upwards.
 
-ghost use Rattle.std.specs.Prelude.{◌≡◌, ◌∷◌, ◌+ℤ◌, [], pos, None, IfOk, MatchOption};
-ghost use Rattle.rob_index.specs.Forms.{values_of};
+ghost use Rattle.std.specs.Prelude.{◌≡◌, ◌∷◌, ◌+ℤ◌, [], pos, None, IfOk, IfSome, MatchOption};
+ghost use Rattle.rob_index.specs.Forms.{value_of, values_of};
 
 use crate::form::Ends;
 use crate::whole::Whole;
@@ -48,6 +48,61 @@ impl Run {
         } else {
             Ok(None)
         }
+    }
+}
+
+/// The value of a range at some values of those around it, where it is seen to have no other: both ends are this one.
+#[inline(always)]
+pub fn only_value(alloc: Global, range: &Ends, values: &[Whole]) -> Result<Option<Whole>, Memory>
+    ensures from { IfOk result (λ only. IfSome only (λ v. v ≡ value_of range.now.from values.now)) }
+    ensures upto { IfOk result (λ only. IfSome only (λ v. v ≡ value_of range.now.upto values.now)) }
+{
+    match short_ends(range, values) {
+        Some((from, upto)) if from == upto => Ok(Some(Whole::small(alloc, from))),
+        Some(_) => Ok(None),
+        None => only_long(alloc, range, values),
+    }
+}
+
+/// The ends of a range at some values, where all are kept in one digit.
+#[inline(always)]
+fn short_ends(range: &Ends, values: &[Whole]) -> Option<(i64, i64)>
+    ensures from { IfSome result (λ ends. ends.0 ≡ value_of range.now.from values.now) }
+    ensures upto { IfSome result (λ ends. ends.1 ≡ value_of range.now.upto values.now) }
+{
+    let from = range.from().short_value(values)?;
+    let upto = short_upto(range, from, values)?;
+    Some((from, upto))
+}
+
+/// The last of them, where the first is this.
+#[inline(always)]
+fn short_upto(range: &Ends, from: i64, values: &[Whole]) -> Option<i64>
+    requires from { from ≡ value_of range.now.from values.now }
+    ensures upto { IfSome result (λ upto. upto ≡ value_of range.now.upto values.now) }
+{
+    if range.is_single() {
+        Some(from)
+    } else {
+        range.upto().short_value(values)
+    }
+}
+
+/// The same, whatever they are kept in.
+#[inline(never)]
+fn only_long(alloc: Global, range: &Ends, values: &[Whole]) -> Result<Option<Whole>, Memory>
+    ensures from { IfOk result (λ only. IfSome only (λ v. v ≡ value_of range.now.from values.now)) }
+    ensures upto { IfOk result (λ only. IfSome only (λ v. v ≡ value_of range.now.upto values.now)) }
+{
+    let from = range.from().value(alloc, values)?;
+    if range.is_single() {
+        return Ok(Some(from));
+    }
+    let upto = range.upto().value(alloc, values)?;
+    if from.is_seen_same(&upto) {
+        Ok(Some(from))
+    } else {
+        Ok(None)
     }
 }
 
