@@ -52,16 +52,15 @@ over_named own vs r p =
     sym (summed_names (map (λ v. printed_at own p (v ∷ vs)) (values_of r vs))
     ∙ flat_mapped tree_names (λ v. printed_at own p (v ∷ vs)) (values_of r vs))
 
--- the names of an expression, in a setting that is told otherwise
-module _ (own : List Name) (p : Placed) (us vs : List ℤ) (same : us ≡ vs) where
-  pub words_inside : (words next : List Name) → next ≡ fold add_name words (tree_names (printed_at own p us))
-      → next ≡ fold add_name words (tree_names (printed_at own p vs))
-  words_inside words next is =
-      is ∙ ap (λ (ws : List ℤ). fold add_name words (tree_names (printed_at own p ws))) same
+-- the names of a plain expression that is told otherwise
+module _ {a b : Plain} (same : a ≡ b) where
+  pub words_inside : (words next : List Name) → next ≡ fold add_name words (tree_names a)
+      → next ≡ fold add_name words (tree_names b)
+  words_inside words next is = is ∙ ap (λ (p : Plain). fold add_name words (tree_names p)) same
 
-  pub long_inside : (here : Bool) → here ≡ list_any is_long_name (tree_names (printed_at own p us))
-      → here ≡ list_any is_long_name (tree_names (printed_at own p vs))
-  long_inside here is = is ∙ ap (λ (ws : List ℤ). list_any is_long_name (tree_names (printed_at own p ws))) same
+  pub long_inside : (here : Bool) → here ≡ list_any is_long_name (tree_names a)
+      → here ≡ list_any is_long_name (tree_names b)
+  long_inside here is = is ∙ ap (λ (p : Plain). list_any is_long_name (tree_names p)) same
 
 module _ (own : List Name) (vs : List ℤ) where
   -- of a part of a sum, and of a factor of a product

@@ -3,7 +3,6 @@ use Rattle.std.proofs.Common.{◌≡◌, ℕ, Bool, true, false, List, [], ◌�
 use Rattle.std.specs.Prelude.{ℤ, set, Result, MatchResult, Err}
 use Rattle.rob_index.specs.Counting.{lead}
 use Rattle.rob_index.specs.Forms.{Ends, values_of}
-use Rattle.rob_index.specs.Settings.{count, upwards}
 use Rattle.rob_expand.specs.declared.count.Counted.{Counted}
 use Rattle.rob_expand.specs.declared.count.Inside.TheVariants as place
 use Rattle.rob_expand.specs.declared.count.Many.{Many}

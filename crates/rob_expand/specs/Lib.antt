@@ -15,3 +15,4 @@ pub mod Instances
 pub mod Making
 pub mod Judging
 pub mod Spots
+pub mod Inmost

@@ -10,9 +10,10 @@ ghost use Rattle.rob_expand.specs.Room.{left_of, HasStop};
 ghost use Rattle.rob_expand.specs.Placed.{placed_of, part_of, parts_of, factors_of};
 ghost use Rattle.rob_expand.specs.Count.{AreMany, is_closed, is_compound, is_sum, of_shape, item_left, tree_left, parts_left, factors_left, over_left, each_left};
 
+use crate::inmost::{inmost, values_around};
 use crate::placed::{Part, Placed};
 use crate::room::{Stop, spend};
-use crate::setting::{begun_with, put_first, with_value};
+use crate::setting::{begun_with, put_first};
 use crate::tokens::number_tokens;
 use rob_number::Memory;
 use rob_ranges::run::Run;
@@ -258,8 +259,9 @@ fn count_over(
     match many {
         Many::Empty => single(1, room),
         Many::One(value) => {
-            let inside = with_value(alloc, &value, values)?;
-            count(alloc, limit, inner, inside.items(), room)
+            let mut inside = values_around(alloc, inner, &value, values)?;
+            let last = inmost(alloc, inner, &mut inside)?;
+            count(alloc, limit, last, inside.items(), room)
         }
         Many::Several => count_each(alloc, limit, ends, inner, values, room),
     }

@@ -1,7 +1,7 @@
 //! The names of a line in its settings, and the words that grow by them. Each call says whether some name is too long:
 //! none of these becomes a word.
 
-ghost use Rattle.std.specs.Prelude.{◌≡◌, ◌||◌, fold, map, option_to_list, false, IfOk, OnOk};
+ghost use Rattle.std.specs.Prelude.{◌≡◌, ◌∷◌, ◌||◌, fold, map, option_to_list, false, IfOk, OnOk};
 ghost use Rattle.std.specs.List.{flat_map, list_any};
 ghost use Rattle.rob_index.specs.Forms.{values_of};
 ghost use Rattle.rob_index.specs.Rules.{is_long_name};
@@ -14,10 +14,10 @@ ghost use Rattle.rob_expand.specs.Spots.{IsThin, IsThinAt, picks};
 ghost use Rattle.rob_expand.specs.declared.spot.Spot.{Spot as SpecSpot};
 ghost use Rattle.rob_ranges.specs.Spans.{Every};
 
+use crate::inmost::{inmost, values_around};
 use crate::line::{Item, Line};
 use crate::name::add_name;
 use crate::placed::{Named, Part, Placed};
-use crate::setting::with_value;
 use crate::settings::Setting;
 use crate::spot::{Spot, one_at};
 use rob_number::Memory;
@@ -277,9 +277,33 @@ fn grow_over(
     let mut long = false;
     let mut run = Run::new(alloc, ends, values)?;
     'values: while let Some(value) = run.next(alloc)? {
-        let inside = with_value(alloc, &value, values)?;
-        let here = grow_tree(alloc, own, words, inner, inside.items())?;
+        let here = grow_at(alloc, own, words, inner, &value, values)?;
         long = either(long, here);
     }
     Ok(long)
+}
+
+/// The names of an expression at a value of the range around it.
+#[cycle(grow)]
+fn grow_at(
+    alloc: Global,
+    own: &Words,
+    words: &mut Words,
+    inner: &Placed,
+    value: &Whole,
+    values: &[Whole],
+) -> Result<bool, Memory>
+    ensures words { OnOk result (texts words.new.keys ≡ fold spec.add_name (texts words.old.keys)
+        (tree_names (printed_at (texts own.now.keys) (placed_of inner.now) (value.now ∷ values.now)))) }
+    ensures long { IfOk result (λ long. long ≡ list_any is_long_name
+        (tree_names (printed_at (texts own.now.keys) (placed_of inner.now) (value.now ∷ values.now)))) }
+{
+    let mut inside = values_around(alloc, inner, value, values)?;
+    match inner {
+        Placed::Over(_, _) => {
+            let last = inmost(alloc, inner, &mut inside)?;
+            grow_tree(alloc, own, words, last, inside.items())
+        }
+        _ => grow_tree(alloc, own, words, inner, inside.items()),
+    }
 }

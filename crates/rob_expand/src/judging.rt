@@ -4,7 +4,7 @@
 //! looked at. By hand, with `for i = 0 to 90`: in `sum(j = i to i + i: x[j])` nothing is found, since `j` has at most
 //! 91 values; with `x[j + 900]` an index is out of bounds, and with `j = i to i + i + i` a range is too long.
 
-ghost use Rattle.std.specs.Prelude.{◌≡◌, [], map, false, true, IfOk};
+ghost use Rattle.std.specs.Prelude.{◌≡◌, [], ◌∷◌, map, false, true, IfOk};
 ghost use Rattle.std.specs.List.{list_any};
 ghost use Rattle.rob_index.specs.Forms.{length_form, value_of};
 ghost use Rattle.rob_index.specs.Places.{places};
@@ -16,6 +16,7 @@ ghost use Rattle.rob_expand.specs.Placed.{factors_of, part_of, parts_of, placed_
 ghost use Rattle.rob_expand.specs.Spots.{IsThinAt, picks};
 ghost use Rattle.rob_ranges.specs.Spans.{Every};
 
+use crate::inmost::{inmost, values_around};
 use crate::inner::Inner;
 use crate::line::{Item, Line};
 use crate::lines::line_of;
@@ -447,9 +448,29 @@ fn judge_over(
     }
     let mut run = Run::new(alloc, ends, values)?;
     'values: while let Some(value) = run.next(alloc)? {
-        let inside = with_value(alloc, &value, values)?;
-        let here = judge_tree(alloc, inner, inside.items())?;
+        let here = judge_at(alloc, inner, &value, values)?;
         found = worse(found, here);
     }
     Ok(found)
+}
+
+/// An expression at a value of the range around it.
+#[cycle(judge_tree)]
+fn judge_at(
+    alloc: Global,
+    inner: &Placed,
+    value: &Whole,
+    values: &[Whole],
+) -> Result<Finding, Memory>
+    ensures found { IfOk result (λ found.
+        found ≡ tree_found (placed_of inner.now) (value.now ∷ values.now)) }
+{
+    let mut inside = values_around(alloc, inner, value, values)?;
+    match inner {
+        Placed::Over(_, _) => {
+            let last = inmost(alloc, inner, &mut inside)?;
+            judge_tree(alloc, last, inside.items())
+        }
+        _ => judge_tree(alloc, inner, inside.items()),
+    }
 }

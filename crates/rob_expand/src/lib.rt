@@ -7,6 +7,7 @@ mod divide;
 mod expansion;
 mod fits;
 mod grow;
+mod inmost;
 mod inner;
 mod instance;
 mod judging;
@@ -23,6 +24,7 @@ mod rounding;
 mod setting;
 mod settings;
 mod spot;
+mod stack;
 mod tokens;
 
 pub use expansion::expand;

@@ -1,6 +1,6 @@
 //! The plain expression that a placed one stands for in a setting. A name is the number of its word.
 
-ghost use Rattle.std.specs.Prelude.{◌≡◌, IfOk};
+ghost use Rattle.std.specs.Prelude.{◌≡◌, ◌∷◌, IfOk};
 ghost use Rattle.rob_index.specs.Forms.{values_of};
 ghost use Rattle.rob_syntax.specs.Known.{texts};
 ghost use Rattle.rob_syntax.specs.Numbered.{numbered_tree};
@@ -9,9 +9,9 @@ ghost use Rattle.rob_expand.specs.Making as spec;
 ghost use Rattle.rob_expand.specs.Making.{made_each, made_factors, made_parts, summed_of};
 ghost use Rattle.rob_expand.specs.Placed.{placed_of};
 
+use crate::inmost::{inmost, values_around};
 use crate::name::name_number;
 use crate::placed::{Part, Placed};
-use crate::setting::with_value;
 use rob_number::{List, Memory};
 use rob_ranges::run::Run;
 use rob_ranges::{Ends, Whole};
@@ -116,14 +116,36 @@ fn make_over(
     let mut made = Vec::new(alloc);
     let mut run = Run::new(alloc, ends, values)?;
     'values: while let Some(value) = run.next(alloc)? {
-        let inside = with_value(alloc, &value, values)?;
-        let plain = make(alloc, own, words, inner, inside.items())?;
+        let plain = make_at(alloc, own, words, inner, &value, values)?;
         made.push(Summand {
             minus: false,
             inner: plain,
         })?;
     }
     Ok(summed(made))
+}
+
+/// An expression at a value of the range around it.
+#[cycle(make)]
+fn make_at(
+    alloc: Global,
+    own: &Words,
+    words: &Words,
+    inner: &Placed,
+    value: &Whole,
+    values: &[Whole],
+) -> Result<Syntax, Memory>
+    ensures made { IfOk result (λ made. made ≡ numbered_tree (texts words.now.keys)
+        (printed_at (texts own.now.keys) (placed_of inner.now) (value.now ∷ values.now))) }
+{
+    let mut inside = values_around(alloc, inner, value, values)?;
+    match inner {
+        Placed::Over(_, _) => {
+            let last = inmost(alloc, inner, &mut inside)?;
+            make(alloc, own, words, last, inside.items())
+        }
+        _ => make(alloc, own, words, inner, inside.items()),
+    }
 }
 
 /// The sum of these: the number 0 where there is none, and the only one where there is one.

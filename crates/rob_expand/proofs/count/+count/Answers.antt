@@ -1,6 +1,6 @@
-use Rattle.std.proofs.Common.{◌∙◌}
 use Rattle.std.proofs.lemmas.Result.{err_from_is_err_and}
 use Rattle.rob_index.specs.Forms.{values_of}
+use Rattle.rob_expand.proofs.InmostLemmas.{counted_inside}
 use Rattle.rob_expand.proofs.OverLemmas.{each_end, each_more, each_stop, over_empty, over_one, over_several, over_told}
 use Rattle.rob_expand.proofs.StepLemmas.{factors_end, factors_more, factors_stop, item_behind, item_stop_front, item_stop_inner, moved, parts_end, parts_more, parts_stop}
 use Rattle.rob_expand.proofs.WalkLemmas.{next_none, next_some}
@@ -70,11 +70,12 @@ count_over-returns-in-Empty t c = record {
       c.args.room c.single.result c.in-Empty.is c.in_ok-many.ensures.many c.single.ensures.counted;
 }
 
-pub count_over-returns-in_ok-inside-in-One : goal.count_over-returns-in_ok-inside-in-One
-count_over-returns-in_ok-inside-in-One t c = record {
+pub count_over-returns-in_ok-last-in-One : goal.count_over-returns-in_ok-last-in-One
+count_over-returns-in_ok-last-in-One t c = record {
   counted = over_one c.args.limit c.args.inner.now c.args.values.now (values_of c.args.ends.now c.args.values.now)
-      c.args.room c.count.result c.in-One.is c.in_ok-many.ensures.many
-      (c.items.ensures.list ∙ c.in_ok-inside-in-One.ensures.values) c.count.ensures.counted;
+      c.args.room c.count.result c.in-One.is c.in_ok-many.ensures.many c.in_ok-inside-in-One.ensures.values
+      (counted_inside c.in_ok-last-in-One.ensures.inmost c.items.ensures.list c.args.limit c.args.room c.count.result
+      c.count.ensures.counted);
 }
 
 pub count_over-returns-in-Several : goal.count_over-returns-in-Several

@@ -10,6 +10,7 @@ use Rattle.rob_expand.specs.Names.{tree_names}
 use Rattle.rob_expand.specs.Placed.{Placed, placed_of}
 use Rattle.rob_expand.proofs.StepLemmas.{over_seen}
 use Rattle.rob_expand.proofs.WalkLemmas.{next_some, next_none, words_more, words_all, long_more, long_all, words_are, long_are}
+use Rattle.rob_expand.proofs.InmostLemmas.{printed_inside}
 use Rattle.rob_expand.proofs.NameLemmas.{part_names_at, factor_names_at, value_names_at, parts_named, factors_named, over_named, words_inside, long_inside}
 use Rattle.rob_expand.proofs.MakeLemmas.{moved_on, moved_if}
 use Rattle.rob_expand.proofs.grow.+grow.Goals as goal
@@ -77,18 +78,13 @@ grow_tree-returns-in-Over t c =
 
 pub grow_over-values-preserved : goal.grow_over-values-preserved
 grow_over-values-preserved t c =
-    let own = texts c.args.own.now.keys in
-    let p = placed_of c.args.inner.now in
-    let f = value_names_at own p c.args.values.now in
+    let f = value_names_at (texts c.args.own.now.keys) (placed_of c.args.inner.now) c.args.values.now in
     let is = next_some c.in_ok-value.field-0 c.in-Some.value _ _ c.in-Some.is c.in_ok-value.ensures.next in
-    let inside = c.items.ensures.list ∙ c.in_ok-inside.ensures.values in
     record {
-      words = words_more f (texts c.values.words.keys) _ _ _ c.in-Some.value is
-          (words_inside own p _ _ inside (texts c.values.words.keys) _ c.in_ok-here.ensures.words)
+      words = words_more f (texts c.values.words.keys) _ _ _ c.in-Some.value is c.in_ok-here.ensures.words
           c.values.invariant.words;
-      long = long_more f c.values.long c.in_ok-here.here _ _ _ c.in-Some.value is
-          (long_inside own p _ _ inside _ c.in_ok-here.ensures.long) c.either-long.ensures.either
-          c.values.invariant.long;
+      long = long_more f c.values.long c.in_ok-here.here _ _ _ c.in-Some.value is c.in_ok-here.ensures.long
+          c.either-long.ensures.either c.values.invariant.long;
     }
 
 pub grow_over-returns : goal.grow_over-returns
@@ -98,4 +94,16 @@ grow_over-returns t c =
     record {
       words = words_all f _ _ none c.values.invariant.words;
       long = long_all f c.values.long _ none c.values.invariant.long;
+    }
+
+pub grow_at-returns-in-Over : goal.grow_at-returns-in-Over
+grow_at-returns-in-Over t c =
+    let inside =
+    printed_inside c.in_ok-last-in-Over.ensures.inmost c.in_ok-inside.ensures.values c.items.ensures.list
+    (texts c.args.own.now.keys) in
+    record {
+      words =
+          moved_on c.grow_tree.result c.grow_tree.ensures.words
+          (λ e. words_inside inside (texts c.args.words.now.keys) _ e);
+      long = moved_if c.grow_tree.result _ _ c.grow_tree.ensures.long (λ b e. long_inside inside b e);
     }

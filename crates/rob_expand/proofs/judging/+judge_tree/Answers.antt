@@ -4,6 +4,7 @@ use Rattle.rob_algebra.proofs.ListLemmas.{drop_at, drop_past}
 use Rattle.rob_index.specs.Forms.{values_of}
 use Rattle.rob_expand.specs.Placed.{Placed, over, placed_of}
 use Rattle.rob_expand.specs.Judging.{worst, length_found, range_found, tree_found}
+use Rattle.rob_expand.proofs.InmostLemmas.{found_inside}
 use Rattle.rob_expand.proofs.StepLemmas.{over_placed}
 use Rattle.rob_expand.proofs.WalkLemmas.{next_some, next_none}
 use Rattle.rob_expand.proofs.MakeLemmas.{moved_if}
@@ -71,11 +72,17 @@ judge_over-values-preserved t c =
     let f = λ (v : ℤ). tree_found p (v ∷ c.args.values.now) in
     let step = next_some c.in_ok-value.field-0 c.in-Some.value _ _ c.in-Some.is c.in_ok-value.ensures.next in
     worst_more f c.values.found c.in_ok-here.here _ _ _ c.in-Some.value step
-    (c.in_ok-here.ensures.found ∙ ap (tree_found p) (c.items.ensures.list ∙ c.in_ok-inside.ensures.values))
-    c.worse-found.ensures.worse c.values.invariant
+    c.in_ok-here.ensures.found c.worse-found.ensures.worse c.values.invariant
 
 pub judge_over-returns : goal.judge_over-returns
 judge_over-returns t c =
     let f = λ (v : ℤ). tree_found (placed_of c.args.inner.now) (v ∷ c.args.values.now) in
     let none = next_none c.in_ok-value.field-0 _ _ c.in_default.is c.in_ok-value.ensures.next in
     record { found = worst_all f c.values.found _ none c.values.invariant }
+
+pub judge_at-returns-in-Over : goal.judge_at-returns-in-Over
+judge_at-returns-in-Over t c = record {
+  found =
+      moved_if c.judge_tree.result _ _ c.judge_tree.ensures.found
+      (λ b e. e ∙ found_inside c.in_ok-last-in-Over.ensures.inmost c.in_ok-inside.ensures.values c.items.ensures.list);
+}

@@ -1,4 +1,4 @@
-use Rattle.std.proofs.Common.{◌≡◌, List, [], ◌∷◌, ◌++◌, map, false, ap, sym, ◌∙◌}
+use Rattle.std.proofs.Common.{◌≡◌, [], ◌∷◌, ◌++◌, map, false, ap, sym, ◌∙◌}
 use Rattle.std.specs.Prelude.{ℤ}
 use Rattle.rob_algebra.proofs.ListLemmas.{drop_at, drop_past}
 use Rattle.rob_index.specs.Forms.{values_of}
@@ -10,6 +10,7 @@ use Rattle.rob_expand.specs.declared.placed.Placed.{Placed as Code}
 use Rattle.rob_expand.specs.Growing.{printed_at}
 use Rattle.rob_expand.specs.Making.{summed_of, made_each}
 use Rattle.rob_expand.specs.Placed.{Placed, placed_of}
+use Rattle.rob_expand.proofs.InmostLemmas.{printed_inside}
 use Rattle.rob_expand.proofs.StepLemmas.{over_seen}
 use Rattle.rob_expand.proofs.WalkLemmas.{next_some, next_none, made_more, made_all}
 use Rattle.rob_expand.proofs.MakeLemmas.{moved_if, part_made, parts_made, factor_made, factors_made, value_made, each_made, summed_made}
@@ -76,14 +77,11 @@ pub make_over-values-preserved : goal.make_over-values-preserved
 make_over-values-preserved t c =
     let own = texts c.args.own.now.keys in
     let words = texts c.args.words.now.keys in
-    let inside = c.items.ensures.list ∙ c.in_ok-inside.ensures.values in
     made_more (λ (v : ℤ). value_made own words c.args.values.now (placed_of c.args.inner.now) v ∷ [])
     c.values.made.items _ _ _
     c.in-Some.value (next_some c.in_ok-value.field-0 c.in-Some.value _ _ c.in-Some.is c.in_ok-value.ensures.next)
     (c.in_ok-push.ensures.items
-    ∙ ap (λ (s : Syntax). c.values.made.items ++ record { minus = false; inner = s } ∷ [])
-    (c.in_ok-plain.ensures.made
-    ∙ ap (λ (us : List ℤ). numbered_tree words (printed_at own (placed_of c.args.inner.now) us)) inside))
+    ∙ ap (λ (s : Syntax). c.values.made.items ++ record { minus = false; inner = s } ∷ []) c.in_ok-plain.ensures.made)
     c.values.invariant
 
 pub make_over-returns : goal.make_over-returns
@@ -98,4 +96,14 @@ make_over-returns t c = record {
       ∙ sym (each_made own words c.args.values.now (placed_of c.args.inner.now)
       (values_of c.args.ends.now c.args.values.now)) in
       c.summed.ensures.sum ∙ ap summed_of all;
+}
+
+pub make_at-returns-in-Over : goal.make_at-returns-in-Over
+make_at-returns-in-Over t c = record {
+  made =
+      moved_if c.make.result _ _ c.make.ensures.made
+      (λ s e. e
+      ∙ ap (numbered_tree (texts c.args.words.now.keys))
+      (printed_inside c.in_ok-last-in-Over.ensures.inmost c.in_ok-inside.ensures.values c.items.ensures.list
+      (texts c.args.own.now.keys)));
 }

@@ -1,0 +1,102 @@
+-- A sum over a range of one value is the expression inside it, with that value in front.
+use Rattle.std.proofs.Common.{◌≡◌, ℕ, List, [], ◌∷◌, map, refl, sym, ap, ◌∙◌, subst, arith}
+use Rattle.std.specs.Prelude.{ℤ, pos, ◌+ℤ◌, Bool, false, Option, Some, IfSome, Result, MatchResult}
+use Rattle.std.proofs.lemmas.Int.{ints}
+use Rattle.rob_index.specs.Statements.{Name}
+use Rattle.rob_index.specs.Expansion.{summed}
+use Rattle.rob_index.specs.Forms.{Form, Ends, value_of, values_of, length_form}
+use Rattle.rob_index.specs.Settings.{count, upwards}
+use Rattle.rob_index.proofs.FormLemmas.{minus_is}
+use Rattle.rob_index.proofs.NestLemmas.{le_to}
+use Rattle.rob_ranges.proofs.DigitLemmas.{lt_no}
+use Rattle.rob_ranges.proofs.NestLemmas.{le_no, run_next, run_over}
+use Rattle.rob_expand.specs.declared.count.Counted.{Counted}
+use Rattle.rob_expand.specs.declared.judging.Finding.TheVariants.{Nothing}
+use Rattle.rob_expand.specs.declared.placed.Placed.{Placed as Code}
+use Rattle.rob_expand.specs.declared.placed.Placed.TheVariants as code
+use Rattle.rob_expand.specs.declared.room.Stop.{Stop}
+use Rattle.rob_expand.specs.Count.{tree_left, over_left}
+use Rattle.rob_expand.specs.Growing.{printed_at}
+use Rattle.rob_expand.specs.Inmost.{IsInmost}
+use Rattle.rob_expand.specs.Judging.{finding, length_found, tree_found, worse, worst}
+use Rattle.rob_expand.specs.Placed.{Placed, over, placed_of}
+use Rattle.rob_expand.proofs.FindingLemmas.{worse_nothing}
+use Rattle.rob_expand.specs.Room.{HasStop}
+use Rattle.rob_expand.proofs.StepLemmas.{moved, over_seen}
+
+-- a range whose ends are one number has that value alone
+one_upwards : (v : ℤ) → upwards v (count v v) ≡ v ∷ []
+one_upwards v =
+    run_next v v (v +ℤ pos 1) (le_to v v (omega (arith, ints))) refl
+    ∙ ap (λ (vs : List ℤ). v ∷ vs) (run_over (v +ℤ pos 1) v (le_no (v +ℤ pos 1) v (omega (arith, ints))))
+
+module _ (r : Ends) (vs : List ℤ) (v : ℤ) (from : v ≡ value_of r.from vs) (upto : v ≡ value_of r.upto vs) where
+  one_value : values_of r vs ≡ v ∷ []
+  one_value = (λ i. upwards (sym from i) (count (sym from i) (sym upto i))) ∙ one_upwards v
+
+  -- and is not too long
+  none_long : length_found r vs ≡ Nothing
+  none_long =
+      ap (λ (b : Bool). finding b false)
+      (lt_no (pos 99) (value_of (length_form r) vs) (omega (arith, ints, minus_is r.upto r.from vs, from, upto)))
+
+-- an end that a range is seen to have
+pub end_read : (f : Form) {o : Option ℤ} {v : ℤ} {ws vs : List ℤ} → o ≡ Some v → ws ≡ vs
+    → IfSome o (λ v. v ≡ value_of f ws) → v ≡ value_of f vs
+end_read f {ws = ws} is as_shown given =
+    subst (λ (o : Option ℤ). IfSome o (λ v. v ≡ value_of f ws)) is given ∙ ap (value_of f) as_shown
+
+-- an expression that is no sum over a range of one value
+pub inmost_here : (p : Code) (vs : List ℤ) → IsInmost p vs p vs
+inmost_here p vs = record {
+  counted = λ limit room. refl;
+  printed = λ own. refl;
+  found = refl;
+}
+
+-- one that is
+module _ (ends : Ends) (inner : _) (whole shown last : Code) (vs us : List ℤ) (v : ℤ) (is : whole ≡ code.Over ends inner)
+    (same : shown ≡ inner.value) (from : v ≡ value_of ends.from vs) (upto : v ≡ value_of ends.upto vs)
+    (inside : IsInmost shown (v ∷ vs) last us) where
+  seen : placed_of whole ≡ over ends (placed_of shown)
+  seen = sym (over_seen ends inner whole shown is same)
+
+  one : values_of ends vs ≡ v ∷ []
+  one = one_value ends vs v from upto
+
+  pub inmost_more : IsInmost whole vs last us
+  inmost_more = record {
+    counted = λ limit room.
+        ap (λ (p : Placed). tree_left limit p vs room) seen
+        ∙ ap (λ (ws : List ℤ). over_left limit (λ w. tree_left limit (placed_of shown) (w ∷ vs)) ws room) one
+        ∙ inside.counted limit room;
+    printed = λ own.
+        ap (λ (p : Placed). printed_at own p vs) seen
+        ∙ ap (λ (ws : List ℤ). summed (map (λ w. printed_at own (placed_of shown) (w ∷ vs)) ws)) one
+        ∙ inside.printed own;
+    found =
+        ap (λ (p : Placed). tree_found p vs) seen
+        ∙ (λ i. worse (none_long ends vs v from upto i)
+        (worst (λ w. tree_found (placed_of shown) (w ∷ vs)) (one i)))
+        ∙ worse_nothing (tree_found (placed_of shown) (v ∷ vs))
+        ∙ inside.found;
+  }
+
+-- ---- what is told of the last expression is told of the first
+module _ {first last : Code} {vs us shown : List ℤ} (h : IsInmost first vs last us) where
+  pub counted_inside : shown ≡ us → (limit room : ℕ) (r : Result Counted Stop)
+      → MatchResult r (λ c. tree_left limit (placed_of last) shown room ≡ Some c)
+      (λ e. HasStop (tree_left limit (placed_of last) shown room) e)
+      → MatchResult r (λ c. tree_left limit (placed_of first) vs room ≡ Some c)
+      (λ e. HasStop (tree_left limit (placed_of first) vs room) e)
+  counted_inside is limit room r given =
+      moved r (tree_left limit (placed_of last) shown room) (tree_left limit (placed_of first) vs room)
+      (ap (λ (ws : List ℤ). tree_left limit (placed_of last) ws room) is ∙ sym (h.counted limit room)) given
+
+  module _ {ws : List ℤ} (there : vs ≡ ws) (is : shown ≡ us) where
+    pub printed_inside : (own : List Name) → printed_at own (placed_of last) shown ≡ printed_at own (placed_of first) ws
+    printed_inside own =
+        ap (printed_at own (placed_of last)) is ∙ sym (h.printed own) ∙ ap (printed_at own (placed_of first)) there
+
+    pub found_inside : tree_found (placed_of last) shown ≡ tree_found (placed_of first) ws
+    found_inside = ap (tree_found (placed_of last)) is ∙ sym h.found ∙ ap (tree_found (placed_of first)) there
