@@ -1,5 +1,5 @@
 -- The settings of a span: what holds of each of some settings, and a form between the least and the greatest values.
-use Rattle.std.proofs.Common.{◌≡◌, ◌<◌, ℕ, zero, suc, Bool, true, false, List, [], ◌∷◌, ◌++◌, length, get_or, sym, subst, arith}
+use Rattle.std.proofs.Common.{◌≡◌, ◌<◌, ◌≤◌, ◌+◌, ℕ, zero, suc, Bool, true, false, List, [], ◌∷◌, ◌++◌, length, get_or, take, sym, subst, arith}
 use Rattle.std.specs.Prelude.{ℤ, pos, negsuc, ◌+ℤ◌, ◌*ℤ◌, ◌≤ℤ◌, int_lt, if◌then◌else◌}
 use Rattle.std.proofs.lemmas.Int.{ints}
 use Rattle.rob_algebra.specs.Integer.{neg-mul}
@@ -48,6 +48,24 @@ module _ {A : Type 0} (P : A → Type 0) where
   every_at [] i x h is e = absurd (omega (arith, h))
   every_at (y ∷ ys) zero x h is e = subst P (sym is) e.0
   every_at (y ∷ ys) (suc i) x h is e = every_at ys i x (omega (arith, h)) is e.1
+
+  -- the first of some, one after the other
+  one_taken : (xs : List A) (i : ℕ) (x : A) → i < length xs → x ≡ get_or xs i x → Every P (take i xs) → P x
+      → Every P (take (suc i) xs)
+  one_taken [] i x h is e p = absurd (omega (arith, h))
+  one_taken (y ∷ ys) zero x h is e p = (subst P is p, tt)
+  one_taken (y ∷ ys) (suc i) x h is e p = (e.0, one_taken ys i x (omega (arith, h)) is e.1 p)
+
+  pub every_taken : (xs : List A) (i : ℕ) (x : A) → i < length xs → x ≡ get_or xs i x → Every P (take i xs) → P x
+      → Every P (take (i + 1) xs)
+  every_taken xs i x h is e p =
+      let next : suc i ≡ i + 1 = omega arith in
+      subst (λ (n : ℕ). Every P (take n xs)) next (one_taken xs i x h is e p)
+
+  pub every_all : (xs : List A) (i : ℕ) → length xs ≤ i → Every P (take i xs) → Every P xs
+  every_all [] i h e = tt
+  every_all (y ∷ ys) zero h e = absurd (omega (arith, h))
+  every_all (y ∷ ys) (suc i) h e = (e.0, every_all ys i (omega (arith, h)) e.1)
 
 pub every_more : {A : Type 0} (P Q : A → Type 0) → ((x : A) → P x → Q x) → (xs : List A) → Every P xs → Every Q xs
 every_more P Q f [] h = tt

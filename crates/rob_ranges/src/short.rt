@@ -28,6 +28,7 @@ pub struct Short {
 }
 
 /// The two innermost values, where each has at most 79 bits.
+#[inline(always)]
 pub fn pair_of(values: &[Whole]) -> Option<Pair>
     ensures pair { IfSome result (λ pair.
         (wide_of pair.first ≡ first_of values.now) × (wide_of pair.second ≡ second_of values.now)) }
@@ -83,6 +84,7 @@ fn few_bits(number: &Whole) -> Option<i32>
 
 impl Short {
     /// The form's value.
+    #[inline(always)]
     pub fn value(self, values: Pair) -> i128
         ensures value { result ≡ (wide_of self.constant +ℤ (self.first *ℤ wide_of values.first))
             +ℤ (self.second *ℤ wide_of values.second) }
@@ -95,6 +97,7 @@ impl Short {
 }
 
 /// `a * b`. Where the second digit of `b` is 0, the first alone is multiplied.
+#[inline(always)]
 fn product(a: i32, b: Wide) -> i128
     ensures value { result ≡ a *ℤ wide_of b }
     ensures size { nat_abs result ≤ 2 ^ 111 }
@@ -107,6 +110,7 @@ fn product(a: i32, b: Wide) -> i128
 }
 
 /// `a * b`, where the second digit of `b` is 0.
+#[inline(always)]
 #[tactic(auto, using(crate::proofs::ShortLemmas::low_alone))]
 fn low_product(a: i32, b: Wide) -> i128
     requires low { b.high ≡ pos 0 }

@@ -23,23 +23,37 @@ pub fn span_of(settings: &[List<Whole>]) -> Option<Span>
 {
     match settings {
         [] => None,
-        [setting] => {
-            let pair = pair_of(setting.items())?;
-            Some(Span {
-                least: pair,
-                greatest: pair,
-            })
-        }
-        _ => {
-            let (front, behind) = settings.split_at(settings.len() / 2);
-            let first = span_of(front)?;
-            let second = span_of(behind)?;
-            Some(hull(first, second))
-        }
+        [first, ..] => widened(span_at(first.items())?, settings),
     }
 }
 
+/// A span that has what another one has, and these settings.
+fn widened(begun: Span, settings: &[List<Whole>]) -> Option<Span>
+    ensures begun { IfSome result (λ span. (vs : Items ℤ) → IsIn begun vs → IsIn span vs) }
+    ensures span { IfSome result (λ span. Every (IsIn span) settings.now) }
+{
+    let mut span = begun;
+    for setting in settings {
+        let here = span_at(setting.items())?;
+        span = hull(span, here);
+    }
+    Some(span)
+}
+
+/// The span of one setting.
+#[inline(always)]
+fn span_at(values: &[Whole]) -> Option<Span>
+    ensures span { IfSome result (λ span. IsIn span values.now) }
+{
+    let pair = pair_of(values)?;
+    Some(Span {
+        least: pair,
+        greatest: pair,
+    })
+}
+
 /// A span that has all settings of two.
+#[inline(always)]
 fn hull(a: Span, b: Span) -> Span
     ensures first { (vs : Items ℤ) → IsIn a vs → IsIn result vs }
     ensures second { (vs : Items ℤ) → IsIn b vs → IsIn result vs }
@@ -58,6 +72,7 @@ fn hull(a: Span, b: Span) -> Span
 }
 
 /// The lesser of two numbers.
+#[inline(always)]
 fn lesser(a: Wide, b: Wide) -> Wide
     ensures first { wide_of result ≤ℤ wide_of a }
     ensures second { wide_of result ≤ℤ wide_of b }
@@ -66,6 +81,7 @@ fn lesser(a: Wide, b: Wide) -> Wide
 }
 
 /// The greater of two numbers.
+#[inline(always)]
 fn greater(a: Wide, b: Wide) -> Wide
     ensures first { wide_of a ≤ℤ wide_of result }
     ensures second { wide_of b ≤ℤ wide_of result }
@@ -75,6 +91,7 @@ fn greater(a: Wide, b: Wide) -> Wide
 
 impl Span {
     /// No value of the form in these settings is greater.
+    #[inline(always)]
     pub fn most(self, form: Short) -> i128
         ensures most { (vs : Items ℤ) → IsIn self vs → short_value form vs ≤ℤ result }
     {
@@ -85,6 +102,7 @@ impl Span {
 }
 
 /// The end that makes the product with a number greatest, which is below 0 or isn't.
+#[inline(always)]
 fn far(below: bool, least: Wide, greatest: Wide) -> Wide
     ensures far { result ≡ (if below then least else greatest) }
 {
