@@ -11,6 +11,7 @@ pub mod reach;
 pub mod run;
 pub mod search;
 pub mod short;
+pub mod small;
 pub mod span;
 pub mod whole;
 

@@ -139,3 +139,19 @@ pub fn vec_in_front(alloc: Global, value: &Whole, values: &[Whole]) -> Result<Ve
     append_copies(&mut all, alloc, values)?;
     Ok(all)
 }
+
+/// Two values in front of others.
+pub fn two_in_front(
+    alloc: Global,
+    first: &Whole,
+    second: &Whole,
+    values: &[Whole],
+) -> Result<List<Whole>, Memory>
+    ensures all { IfOk result (λ all. all ≡ first.now ∷ second.now ∷ values.now) }
+{
+    let mut all = Vec::with_capacity(alloc, values.len() + 2)?;
+    all.push(first.copy(alloc)?)?;
+    all.push(second.copy(alloc)?)?;
+    append_copies(&mut all, alloc, values)?;
+    Ok(List::from(all))
+}
