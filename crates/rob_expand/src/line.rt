@@ -13,7 +13,7 @@ use crate::inner::Inner;
 use crate::placed::{Named, Placed};
 use crate::room::{Stop, spend};
 use crate::settings::Setting;
-use crate::spot::{one_at, thin_in};
+use crate::spot::{middle, one_at, thin_in};
 use rob_number::List;
 use rob_ranges::Whole;
 use std::alloc::Global;
@@ -41,7 +41,7 @@ pub struct Line {
 }
 
 /// What is left behind the lines of some settings, in which no items but those at these places have entries. The
-/// settings are halved, and in each half those places are left out that have no entry there: so a count that ends for
+/// settings are parted, and in each part those places are left out that have no entry there: so a count that ends for
 /// want of room has told the places of few settings.
 pub fn spend_lines(
     alloc: Global,
@@ -59,7 +59,7 @@ pub fn spend_lines(
         [] => Ok(room),
         [setting] => spend_line(alloc, line, kept, setting.items(), room),
         _ => {
-            let (front, behind) = settings.split_at(settings.len() / 2);
+            let (front, behind) = settings.split_at(middle(settings));
             let items = line.items.items();
             let first = thin_in(alloc, false, items, kept, front)?;
             let left = spend_lines(alloc, line, first.items(), front, room)?;

@@ -1,9 +1,9 @@
 //! Settings, each with the items of a list that aren't idle there. An item is left out for all settings of a span at
-//! once, where the greatest lengths of its ranges tell that it has none there; the settings are halved until one is
+//! once, where the greatest lengths of its ranges tell that it has none there; the settings are parted until one is
 //! left. So an item without a setting isn't asked for in each. An item that has to be short to be idle isn't left out
 //! where a range of it is too long, though it has no setting there.
 
-ghost use Rattle.std.specs.Prelude.{◌≡◌, ◌++◌, ℤ, [], ◌∷◌, List as Items, map, IfOk, IfSome, IsTrue, OnOk, false, if◌then◌else◌};
+ghost use Rattle.std.specs.Prelude.{◌≡◌, ◌<◌, ◌++◌, ℤ, length, [], ◌∷◌, List as Items, map, IfOk, IfSome, IsTrue, OnOk, false, if◌then◌else◌};
 ghost use Rattle.rob_expand.specs.declared.spot.Spot.{Spot as SpecSpot};
 ghost use Rattle.rob_ranges.specs.Spans.{Every, IsIn};
 ghost use Rattle.rob_expand.specs.Spots.{IsThin, IsThinAt, busy, pick, picks};
@@ -84,7 +84,7 @@ fn append_spots(
         [] => Ok(()),
         [setting] => append_spot(spots, alloc, kept, setting.items()),
         _ => {
-            let (front, behind) = settings.split_at(settings.len() / 2);
+            let (front, behind) = settings.split_at(middle(settings));
             let first = thin_in(alloc, false, items, kept, front)?;
             append_spots(spots, alloc, items, first.items(), front)?;
             let second = thin_in(alloc, false, items, kept, behind)?;
@@ -135,6 +135,31 @@ fn span_for(kept: &[usize], settings: &[Setting]) -> Option<Span>
     span_of(settings)
 }
 
+/// Where some settings are parted: where a row begins, near the middle; or in the middle of a row.
+pub fn middle(settings: &[Setting]) -> usize
+    requires some { 1 < length settings.now }
+    ensures front { 0 < result }
+    ensures behind { result < length settings.now }
+{
+    let half = settings.len() / 2;
+    if is_row(settings) {
+        return half;
+    }
+    let mut upwards = half;
+    let mut downwards = half;
+    'apart: while upwards < settings.len() && downwards > 0 {
+        if !is_row(&settings[half - 1..upwards + 1]) {
+            return upwards;
+        }
+        upwards += 1;
+        if !is_row(&settings[downwards - 1..half + 1]) {
+            return downwards;
+        }
+        downwards -= 1;
+    }
+    half
+}
+
 /// Whether the first of some settings and the last have the same value of the range around the innermost: then a form
 /// is greatest at one of them.
 fn is_row(settings: &[Setting]) -> bool {
@@ -169,6 +194,7 @@ fn busy_places(
 }
 
 /// The item at a place, if there is one.
+#[inline(always)]
 pub fn one_at(items: &[Item], k: usize) -> &[Item]
     ensures one { result.now ≡ pick items.now k }
 {
@@ -180,6 +206,7 @@ pub fn one_at(items: &[Item], k: usize) -> &[Item]
 }
 
 /// Whether the lengths tell that the only one of these items is idle in all settings of a span.
+#[inline(always)]
 fn are_idle(short: bool, items: &[Item], span: Span) -> bool
     ensures idle { IsTrue result → (vs : Items ℤ) → IsIn span vs → busy short items.now vs ≡ [] }
 {
@@ -190,6 +217,7 @@ fn are_idle(short: bool, items: &[Item], span: Span) -> bool
 }
 
 /// The same of an item.
+#[inline(always)]
 fn is_idle(short: bool, item: &Item, span: Span) -> bool
     ensures idle { IsTrue result → (vs : Items ℤ) → IsIn span vs
         → IsTrue (spec.is_idle short item.now vs) }
@@ -202,6 +230,7 @@ fn is_idle(short: bool, item: &Item, span: Span) -> bool
 }
 
 /// Appends a place, unless its item is idle.
+#[inline(always)]
 fn push_unless(places: &mut List<usize>, idle: bool, k: usize) -> Result<(), Memory>
     ensures pushed { OnOk result (places.new ≡ places.old ++ (if idle then [] else k ∷ [])) }
 {

@@ -38,14 +38,14 @@ thin_in-requires-in_default t c = record {
 
 pub spend_lines-requires : goal.spend_lines-requires
 spend_lines-requires t c = (
-  omega (arith, c.decreases, c.split_at.ensures.front_len, c.in_default.len_at_least),
+  omega (arith, c.decreases, c.split_at.ensures.front_len, c.middle.ensures.behind),
   thin_moved false _ _ _ _ _ _ (sym c.items-items.ensures.list) c.items-in_default.ensures.list refl
       c.in_ok-first-in_default.ensures.thin,
 )
 
 pub spend_lines-requires-in_default : goal.spend_lines-requires-in_default
 spend_lines-requires-in_default t c = (
-  omega (arith, c.decreases, c.split_at.ensures.back_len, c.in_default.len_at_least),
+  omega (arith, c.decreases, c.split_at.ensures.back_len, c.middle.ensures.front, c.middle.ensures.behind),
   thin_moved false _ _ _ _ _ _ (sym c.items-items.ensures.list) c.items-in_default-2.ensures.list refl
       c.in_ok-second-in_default.ensures.thin,
 )

@@ -22,13 +22,13 @@ thin_in-requires-in_default t c = record {
 
 pub append_spots-requires : goal.append_spots-requires
 append_spots-requires t c = (
-  omega (arith, c.decreases, c.split_at.ensures.front_len, c.in_default.len_at_least),
+  omega (arith, c.decreases, c.split_at.ensures.front_len, c.middle.ensures.behind),
   (c.requires.done, thin_items _ _ _ _ c.items-in_default.ensures.list c.in_ok-first-in_default.ensures.thin),
 )
 
 pub append_spots-requires-in_default : goal.append_spots-requires-in_default
 append_spots-requires-in_default t c = (
-  omega (arith, c.decreases, c.split_at.ensures.back_len, c.in_default.len_at_least),
+  omega (arith, c.decreases, c.split_at.ensures.back_len, c.middle.ensures.front, c.middle.ensures.behind),
   (
     c.in_ok-append_spots-in_default.ensures.thin,
     thin_items _ _ _ _ c.items-in_default-2.ensures.list c.in_ok-second-in_default.ensures.thin,
