@@ -19,9 +19,8 @@ pub fn with_name(alloc: Global, name: usize, names: &[usize]) -> Result<List<usi
 pub fn copied(alloc: Global, names: &[usize]) -> Result<List<usize>, Memory>
     ensures names { IfOk result (λ copied. copied ≡ names.now) }
 {
-    let mut copied = List::new(alloc);
-    append_names(&mut copied, names)?;
-    Ok(copied)
+    let copied = Vec::from_slice(alloc, names)?;
+    Ok(List::from(copied))
 }
 
 /// Appends names.

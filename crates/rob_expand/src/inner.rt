@@ -139,6 +139,7 @@ impl Inner {
 
     /// Whether the lengths tell that there is no setting, and no range that has more than 100 values, anywhere in a
     /// span.
+    #[inline(always)]
     pub fn is_quiet_in(&self, span: Span) -> bool
         ensures empty { IsTrue result → (vs : Items ℤ) → IsIn span vs → extensions self.now vs
             ≡ [] }
@@ -153,6 +154,7 @@ impl Inner {
     }
 
     /// Whether the lengths tell that there is no setting anywhere in a span.
+    #[inline(always)]
     pub fn is_empty_in(&self, span: Span) -> bool
         ensures empty { IsTrue result → (vs : Items ℤ) → IsIn span vs → extensions self.now vs
             ≡ [] }
@@ -164,6 +166,7 @@ impl Inner {
     }
 
     /// Whether the lengths tell that there is no setting.
+    #[inline(always)]
     fn is_empty_at(&self, values: &[Whole]) -> bool
         ensures empty { IsTrue result → extensions self.now values.now ≡ [] }
     {
@@ -174,6 +177,7 @@ impl Inner {
     }
 
     /// The lengths at some values, where they have few bits.
+    #[inline(always)]
     fn sizes_at(&self, values: &[Whole]) -> Option<Sizes>
         ensures first { IfSome result (λ sizes. value_of (spec.first_length self.now) values.now
             ≡ sizes.first) }
@@ -189,6 +193,7 @@ impl Inner {
 
     /// The length that the first range nowhere passes in a span, where the lengths have few bits, and a number that is
     /// below 0 only if one of both is at each place there.
+    #[inline(always)]
     fn sizes_in(&self, span: Span) -> Option<Sizes>
         ensures first { IfSome result (λ sizes. (vs : Items ℤ) → IsIn span vs
             → value_of (spec.first_length self.now) vs ≤ℤ sizes.first) }
@@ -196,7 +201,7 @@ impl Inner {
             → pos 0 ≤ℤ value_of (spec.first_length self.now) vs → pos 0 ≤ℤ value_of (spec.second_length self.now) vs
             → pos 0 ≤ℤ sizes.second) }
     {
-        let lengths = self.lengths?;
+        let lengths = self.lengths.as_ref()?;
         let first = span.most(lengths.first);
         if first < SHORTEST {
             return Some(Sizes {
@@ -222,9 +227,10 @@ fn are_short(sizes: Sizes) -> bool
 
 /// A number that is below 0 only if at each place in a span one of both lengths is. Their sum is asked for only where
 /// the second length doesn't tell it.
-fn apart_in(span: Span, lengths: Lengths) -> i128
-    ensures apart { (vs : Items ℤ) → IsIn span vs → pos 0 ≤ℤ short_value lengths.second vs
-        → pos 0 ≤ℤ short_value lengths.combined vs → pos 0 ≤ℤ result }
+#[inline(always)]
+fn apart_in(span: Span, lengths: &Lengths) -> i128
+    ensures apart { (vs : Items ℤ) → IsIn span vs → pos 0 ≤ℤ short_value lengths.now.second vs
+        → pos 0 ≤ℤ short_value lengths.now.combined vs → pos 0 ≤ℤ result }
 {
     let second = span.most(lengths.second);
     if second < SHORTEST {
