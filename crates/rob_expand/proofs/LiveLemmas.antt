@@ -1,7 +1,7 @@
 -- How far a range's start is behind its end changes by the same amount from each value of the range around it to the
 -- next.
-use Rattle.std.proofs.Common.{◌≡◌, ◌⊎◌, inl, inr, List, ◌∷◌, ap, subst, arith}
-use Rattle.std.specs.Prelude.{ℤ, pos, negsuc, ◌+ℤ◌, ◌-ℤ◌, ◌*ℤ◌, ◌≤ℤ◌, ◌<ℤ◌}
+use Rattle.std.proofs.Common.{◌≡◌, ◌⊎◌, inl, inr, List, ◌∷◌, Option, Some, None, sym, ap, subst, arith}
+use Rattle.std.specs.Prelude.{ℤ, pos, negsuc, ◌+ℤ◌, ◌-ℤ◌, ◌*ℤ◌, ◌≤ℤ◌, ◌<ℤ◌, IfSome, SomeIff}
 use Rattle.std.proofs.lemmas.Int.{ints}
 use Rattle.rob_algebra.specs.Integer.{products}
 use Rattle.rob_algebra.specs.IntegerOrder.{mul_nonneg, mul_mono, le_total}
@@ -123,3 +123,62 @@ alive_there r vs v here step steps live is fall enough made over =
     (fall_is (lack_at r vs v) (lack_at r vs (v +ℤ pos 1)) (slope r) step fall (slope_is r vs v))
     (subst (λ (z : ℤ). z ≤ℤ (steps *ℤ step)) is enough) (omega (arith, ints, made, f)) in
     omega (arith, ints, low, over)
+
+-- ---- the same in machine numbers
+-- the change by the factors
+fall_of : (r : Ends) (vs : List ℤ) (v step : ℤ) → step ≡ first_factor r.upto.factors -ℤ first_factor r.from.factors
+    → step ≡ lack_at r vs v +ℤ (negsuc 0 *ℤ lack_at r vs (v +ℤ pos 1))
+fall_of r vs v step is =
+    let s = slope_is r vs v in
+    let e = opposite (lack_at r vs (v +ℤ pos 1)) in
+    omega (arith, ints, is, s, e)
+
+module _ (r : Ends) (vs : List ℤ) (v here : ℤ) (is : here ≡ lack_at r vs v) where
+  -- the start isn't behind the end here
+  pub small_here : (live : ℤ) → live ≡ v → here ≤ℤ pos 0
+      → ((v ≤ℤ live) × ((w : ℤ) → v ≤ℤ w → w <ℤ live → pos 0 <ℤ lack_at r vs w)) × (pos 0 <ℤ lack_at r vs live → ⊥)
+  small_here live e low = (
+    (omega (arith, ints, e), λ w g h. absurd (omega (arith, ints, e, g, h))),
+    λ over. let same = ap (lack_at r vs) e in omega (arith, ints, is, low, same, over),
+  )
+
+  module _ (step : ℤ) (over : pos 0 <ℤ here)
+      (growth : step ≡ first_factor r.upto.factors -ℤ first_factor r.from.factors) where
+    -- it never comes up to it
+    pub small_none : step ≤ℤ pos 0 → (w : ℤ) → v ≤ℤ w → pos 0 <ℤ lack_at r vs w
+    small_none low w behind = none_live r vs v here step is over (fall_of r vs v step growth) low w behind
+
+    -- it comes up to it there, as it is told of equal numbers
+    pub small_some : (h b s l live : ℤ) → h ≡ here → b ≡ v → s ≡ step → l ≡ live → pos 0 <ℤ step
+        → h ≤ℤ ((l -ℤ b) *ℤ s) → (((l -ℤ b) -ℤ pos 1) *ℤ s) <ℤ h
+        → ((v ≤ℤ live) × ((w : ℤ) → v ≤ℤ w → w <ℤ live → pos 0 <ℤ lack_at r vs w))
+        × (pos 0 <ℤ lack_at r vs live → ⊥)
+    small_some h b s l live eh eb es el high enough least =
+        let steps = live -ℤ v in
+        let p : (l -ℤ b) *ℤ s ≡ steps *ℤ step = λ i. (el i -ℤ eb i) *ℤ es i in
+        let q : ((l -ℤ b) -ℤ pos 1) *ℤ s ≡ (steps -ℤ pos 1) *ℤ step = λ i. ((el i -ℤ eb i) -ℤ pos 1) *ℤ es i in
+        let made : pos 1 *ℤ steps ≡ steps = simp products (omega (arith, ints)) in
+        let often : here ≤ℤ (steps *ℤ step) = omega (arith, ints, enough, p, eh) in
+        let seldom : ((steps -ℤ pos 1) *ℤ step) <ℤ here = omega (arith, ints, least, q, eh) in
+        let fall = fall_of r vs v step growth in (
+          some_live r vs v here step steps live is over fall high often seldom (omega (arith, ints, made)),
+          alive_there r vs v here step steps live is fall often (omega (arith, ints, made)),
+        )
+
+-- a number of steps from a value on
+module _ (from steps : ℤ) (a : ℤ) (b : ℤ) (is_a : a ≡ from) (is_b : b ≡ steps) where
+  pub behind_enough : (o : Option ℤ) (P : Type 0) (lack step c d : ℤ) → SomeIff o P (a +ℤ b) → c ≡ lack → d ≡ step
+      → c ≤ℤ (steps *ℤ d) → IfSome o (λ live. lack ≤ℤ ((live -ℤ from) *ℤ step))
+  behind_enough None P lack step c d made is_c is_d enough = tt
+  behind_enough (Some live) P lack step c d made is_c is_d enough =
+      let e : live -ℤ from ≡ steps = omega (arith, ints, made.1, is_a, is_b) in
+      let p : steps *ℤ d ≡ (live -ℤ from) *ℤ step = λ i. sym e i *ℤ is_d i in
+      omega (arith, ints, enough, p, is_c)
+
+  pub behind_least : (o : Option ℤ) (P : Type 0) (lack step c d : ℤ) → SomeIff o P (a +ℤ b) → c ≡ lack → d ≡ step
+      → ((steps -ℤ pos 1) *ℤ d) <ℤ c → IfSome o (λ live. ((live -ℤ from -ℤ pos 1) *ℤ step) <ℤ lack)
+  behind_least None P lack step c d made is_c is_d least = tt
+  behind_least (Some live) P lack step c d made is_c is_d least =
+      let e : live -ℤ from ≡ steps = omega (arith, ints, made.1, is_a, is_b) in
+      let p : (steps -ℤ pos 1) *ℤ d ≡ ((live -ℤ from) -ℤ pos 1) *ℤ step = λ i. (sym e i -ℤ pos 1) *ℤ is_d i in
+      omega (arith, ints, least, p, is_c)

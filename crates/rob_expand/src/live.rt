@@ -1,17 +1,19 @@
 //! Where the ranges inside a range have values.
 
-ghost use Rattle.std.specs.Prelude.{ℤ, pos, negsuc, ◌≡◌, ◌+ℤ◌, ◌*ℤ◌, ◌≤ℤ◌, ◌<ℤ◌, int_lt, IfOk, IfSome, MatchOption};
+ghost use Rattle.std.specs.Prelude.{ℤ, pos, negsuc, ◌≡◌, ◌+ℤ◌, ◌-ℤ◌, ◌*ℤ◌, ◌≤ℤ◌, ◌<ℤ◌, int_lt, IfOk, IfSome, MatchOption};
 ghost use Rattle.rob_expand.specs.Live.{lack_at, IsDead};
 
-use crate::divide::steps_to;
+use crate::divide::{small_steps, steps_to};
 use crate::setting::next;
 use rob_number::Memory;
+use rob_ranges::small::{small_growth, small_inside};
 use rob_ranges::{Ends, Whole};
 use std::alloc::Global;
 
 /// The first value from `from` on at which the outermost of the ranges inside has one; or nothing, where it has none
 /// from there on. It is found by division: how far the range's start is behind its end changes by the same amount from
 /// value to value.
+#[inline(always)]
 pub fn first_live(
     alloc: Global,
     from: &Whole,
@@ -25,8 +27,55 @@ pub fn first_live(
 {
     match inner {
         [] => Ok(Some(from.copy(alloc)?)),
-        [range, ..] => first_of(alloc, from, range, values),
+        [range, ..] => match small_first(from, range, values) {
+            Some(Some(live)) => Ok(Some(Whole::small(alloc, live))),
+            Some(None) => Ok(None),
+            None => first_of(alloc, from, range, values),
+        },
     }
+}
+
+/// The same in machine numbers, where all numbers are kept in one digit.
+#[inline(always)]
+fn small_first(from: &Whole, range: &Ends, values: &[Whole]) -> Option<Option<i64>>
+    ensures live { IfSome result (λ live. MatchOption live
+        ((w : ℤ) → from.now ≤ℤ w → pos 0 <ℤ lack_at range.now values.now w)
+        (λ v. (from.now ≤ℤ v)
+        × ((w : ℤ) → from.now ≤ℤ w → w <ℤ v → pos 0 <ℤ lack_at range.now values.now w))) }
+    ensures alive { IfSome result (λ live. IfSome live
+        (λ v. pos 0 <ℤ lack_at range.now values.now v → ⊥)) }
+{
+    let begin = from.single()?;
+    let here = small_lack(range, from, values)?;
+    if here <= 0 {
+        return Some(Some(begin));
+    }
+    let step = small_growth(range)?;
+    if step <= 0 {
+        return Some(None);
+    }
+    let live = small_behind(begin, here, step)?;
+    Some(Some(live))
+}
+
+/// How far the start of a range is behind its end, where the range around it has this value.
+#[inline(always)]
+fn small_lack(range: &Ends, value: &Whole, values: &[Whole]) -> Option<i64>
+    ensures lack { IfSome result (λ lack. lack ≡ lack_at range.now values.now value.now) }
+{
+    let from = small_inside(range.from(), value, values)?;
+    let upto = small_inside(range.upto(), value, values)?;
+    from.checked_sub(upto)
+}
+
+/// The first value by which `step` is taken often enough from `from` on to be at least `lack`.
+#[inline(always)]
+fn small_behind(from: i64, lack: i64, step: i64) -> Option<i64>
+    ensures enough { IfSome result (λ live. lack ≤ℤ ((live -ℤ from) *ℤ step)) }
+    ensures least { IfSome result (λ live. (((live -ℤ from) -ℤ pos 1) *ℤ step) <ℤ lack) }
+{
+    let steps = small_steps(lack, step)?;
+    from.checked_add(steps)
 }
 
 /// The same, where this is the outermost of the ranges inside.

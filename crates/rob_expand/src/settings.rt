@@ -1,6 +1,6 @@
 //! The settings of ranges.
 
-ghost use Rattle.std.specs.Prelude.{◌≡◌, ◌++◌, ◌≤◌, length, MatchResult, OnOk, IfOk, Some};
+ghost use Rattle.std.specs.Prelude.{◌≡◌, ◌++◌, ◌∷◌, ◌≤◌, [], length, MatchResult, OnOk, IfOk, Some};
 ghost use Rattle.rob_index.specs.Forms.{extensions};
 ghost use Rattle.rob_expand.specs.Room.{left_of, HasStop};
 ghost use Rattle.rob_expand.specs.Settings.{between};
@@ -9,6 +9,8 @@ use crate::live::first_live;
 use crate::room::{Stop, spend};
 use crate::setting::{copied, next, with_value};
 use rob_number::{List, Memory};
+use rob_ranges::reach::two_in_front;
+use rob_ranges::small::{value_at, value_inside};
 use rob_ranges::{Ends, Whole};
 use std::alloc::Global;
 
@@ -69,8 +71,8 @@ fn append_settings(
             Ok(left)
         }
         [range, inner @ ..] => {
-            let from = range.from().value(alloc, values)?;
-            let upto = range.upto().value(alloc, values)?;
+            let from = value_at(alloc, range.from(), values)?;
+            let upto = value_at(alloc, range.upto(), values)?;
             append_values(settings, alloc, from, &upto, inner, values, room)
         }
     }
@@ -105,32 +107,69 @@ fn append_values(
         if upto.is_less(alloc, &live)? {
             return Ok(left);
         }
-        let inside = with_value(alloc, &live, values)?;
-        left = append_inside(settings, alloc, inner, inside, left)?;
+        left = append_at(settings, alloc, &live, inner, values, left)?;
         value = next(alloc, &live)?;
     }
 }
 
-/// The same inside a setting, which is the only one where no range is left.
+/// The same inside one value of a range. Where one range is left, no setting is made but those with a value of it.
 #[cycle(walk)]
-fn append_inside(
+fn append_at(
     settings: &mut List<Setting>,
     alloc: Global,
+    value: &Whole,
     inner: &[Ends],
-    inside: Setting,
+    values: &[Whole],
     room: u32,
 ) -> Result<u32, Stop>
-    ensures appended { OnOk result (settings.new ≡ settings.old ++ extensions inner.now inside) }
+    ensures appended { OnOk result (settings.new
+        ≡ settings.old ++ extensions inner.now (value.now ∷ values.now)) }
     ensures left { MatchResult result
-        (λ left. left_of (length (extensions inner.now inside)) room ≡ Some left)
-        (λ e. HasStop (left_of (length (extensions inner.now inside)) room) e) }
+        (λ left. left_of (length (extensions inner.now (value.now ∷ values.now))) room ≡ Some left)
+        (λ e. HasStop (left_of (length (extensions inner.now (value.now ∷ values.now))) room) e) }
 {
     match inner {
         [] => {
             let left = spend(1, room)?;
-            settings.push(inside)?;
+            settings.push(with_value(alloc, value, values)?)?;
             Ok(left)
         }
-        _ => append_settings(settings, alloc, inner, inside.items(), room),
+        [range] => {
+            let from = value_inside(alloc, range.from(), value, values)?;
+            let upto = value_inside(alloc, range.upto(), value, values)?;
+            append_run(settings, alloc, from, &upto, value, values, room)
+        }
+        _ => {
+            let inside = with_value(alloc, value, values)?;
+            append_settings(settings, alloc, inner, inside.items(), room)
+        }
+    }
+}
+
+/// The same of a range with these ends, in which no other one is, inside a value of the range around it.
+fn append_run(
+    settings: &mut List<Setting>,
+    alloc: Global,
+    from: Whole,
+    upto: &Whole,
+    around: &Whole,
+    values: &[Whole],
+    room: u32,
+) -> Result<u32, Stop>
+    ensures appended { OnOk result (settings.new
+        ≡ settings.old ++ between from upto.now [] (around.now ∷ values.now)) }
+    ensures left { MatchResult result
+        (λ left. left_of (length (between from upto.now [] (around.now ∷ values.now))) room ≡ Some left)
+        (λ e. HasStop (left_of (length (between from upto.now [] (around.now ∷ values.now))) room) e) }
+{
+    let mut left = room;
+    let mut value = from;
+    'values: loop {
+        if upto.is_less(alloc, &value)? {
+            return Ok(left);
+        }
+        left = spend(1, left)?;
+        settings.push(two_in_front(alloc, &value, around, values)?)?;
+        value = next(alloc, &value)?;
     }
 }

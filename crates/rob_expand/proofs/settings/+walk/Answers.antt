@@ -1,11 +1,13 @@
 use Rattle.std.proofs.Common.{◌≡◌, ◌∷◌, ◌++◌, length, List, ap, sym, ◌∙◌}
 use Rattle.std.specs.Prelude.{ℤ}
 use Rattle.std.proofs.lemmas.Result.{err_from_is_err_and}
+use Rattle.rob_number.proofs.AnswerLaws.{on_ok}
 use Rattle.rob_index.specs.Forms.{extensions}
 use Rattle.rob_index.proofs.NestLemmas.{lt_from, lt_not}
 use Rattle.rob_expand.specs.Room.{left_of}
 use Rattle.rob_expand.specs.Settings.{between}
 use Rattle.rob_expand.proofs.StepLemmas.{refused, moved, value_read}
+use Rattle.rob_expand.proofs.RunLemmas.{last_range}
 use Rattle.rob_expand.proofs.SettingsLemmas.{between_none, walk_none, walk_some, walk_fewer, walk_appended, walk_left, walk_stop, walk_over, walk_made, walk_ended, first_range}
 use Rattle.rob_expand.proofs.settings.+walk.Goals as goal
 
@@ -56,15 +58,13 @@ append_values-returns-in_err-left-clause-left t c =
     let some = walk_some c.args.upto.now c.args.inner.now c.args.values.now c.values.value c.in-Some.live
     c.in_ok-live.field-0 c.in-Some.is c.in_ok-live.ensures.live in
     let within = lt_not c.args.upto.now c.in-Some.live (sym c.in_ok-is_less-2.ensures.less ∙ c.if-branch-2.false) in
-    let inside : (c.in-Some.live ∷ c.args.values.now) ≡ c.in_ok-inside.inside = sym c.in_ok-inside.ensures.values in
     let p = err_from_is_err_and c.from_residual-in_err-left.result c.from_residual-in_err-left.ensures.1 in
     refused c.from_residual-in_err-left.result _
-    (left_of (length (extensions c.args.inner.now c.in_ok-inside.inside)) c.values.left)
+    (left_of (length (extensions c.args.inner.now (c.in-Some.live ∷ c.args.values.now))) c.values.left)
     (left_of (length (between c.args.from c.args.upto.now c.args.inner.now c.args.values.now)) c.args.room)
     c.in_err-left.field-0.0 p.0 p.1 p.2
     (λ none. walk_stop c.args.upto.now c.args.inner.now c.args.values.now c.values.value c.in-Some.live some.0 some.1
-    c.values.left within c.values.invariant.left
-    (ap (λ (vs : List ℤ). left_of (length (extensions c.args.inner.now vs)) c.values.left) inside ∙ none))
+    c.values.left within c.values.invariant.left none)
     c.in_err-left.ensures.left
 
 pub append_values-values-smaller : goal.append_values-values-smaller
@@ -81,18 +81,29 @@ append_values-values-preserved t c =
     let some = walk_some c.args.upto.now c.args.inner.now c.args.values.now c.values.value c.in-Some.live
     c.in_ok-live.field-0 c.in-Some.is c.in_ok-live.ensures.live in
     let within = lt_not c.args.upto.now c.in-Some.live (sym c.in_ok-is_less-2.ensures.less ∙ c.if-branch-2.false) in
-    let inside = c.in_ok-inside.ensures.values in
     record {
       appended =
           walk_appended c.args.upto.now c.args.inner.now c.args.values.now c.values.value c.in-Some.live some.0 some.1
-          c.values.settings c.append_inside.new.settings c.in_ok-value.value within c.in_ok-value.ensures.next
-          (c.in_ok-left.ensures.appended
-          ∙ ap (λ (vs : List ℤ). c.values.settings ++ extensions c.args.inner.now vs) inside)
-          c.values.invariant.appended;
+          c.values.settings c.append_at.new.settings c.in_ok-value.value within c.in_ok-value.ensures.next
+          c.in_ok-left.ensures.appended c.values.invariant.appended;
       left =
           walk_left c.args.upto.now c.args.inner.now c.args.values.now c.values.value c.in-Some.live some.0 some.1
           c.values.left c.in_ok-left.left c.in_ok-value.value within c.in_ok-value.ensures.next
-          (ap (λ (vs : List ℤ). left_of (length (extensions c.args.inner.now vs)) c.values.left) (sym inside)
-          ∙ c.in_ok-left.ensures.left)
-          c.values.invariant.left;
+          c.in_ok-left.ensures.left c.values.invariant.left;
+    }
+
+pub append_at-returns-in_ok-upto-in-len1 : goal.append_at-returns-in_ok-upto-in-len1
+append_at-returns-in_ok-upto-in-len1 t c =
+    let inside = c.args.value.now ∷ c.args.values.now in
+    let same = last_range c.args.inner.now inside c.range-item.result c.in_ok-from-in-len1.from c.in_ok-upto-in-len1.upto
+    c.in-len1.len_at_least c.in-len1.len_below c.range-item.is
+    (value_read inside c.in_ok-from-in-len1.ensures.value c.from.ensures.from)
+    (value_read inside c.in_ok-upto-in-len1.ensures.value c.upto.ensures.upto) in
+    record {
+      appended =
+          on_ok c.append_run.result
+          (λ made. made ∙ ap (λ (l : List (List ℤ)). c.args.settings.now ++ l) same) c.append_run.ensures.appended;
+      left =
+          moved c.append_run.result _ _ (ap (λ (l : List (List ℤ)). left_of (length l) c.args.room) same)
+          c.append_run.ensures.left;
     }

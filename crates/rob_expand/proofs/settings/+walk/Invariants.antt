@@ -23,5 +23,5 @@ decreases-append_settings l = 3 * length l.ranges.now
 abbrev pub decreases-append_values : goal.decreases-append_values
 decreases-append_values l = 3 * length l.inner.now + 2
 
-abbrev pub decreases-append_inside : goal.decreases-append_inside
-decreases-append_inside l = 3 * length l.inner.now + 1
+abbrev pub decreases-append_at : goal.decreases-append_at
+decreases-append_at l = 3 * length l.inner.now + 1
