@@ -25,7 +25,7 @@ use crate::name::GREATEST_INDEX;
 use crate::placed::{Named, Part, Placed};
 use crate::setting::{next, with_value};
 use crate::settings::{Setting, all_settings};
-use crate::spot::{one_at, thin_in, thin_places};
+use crate::spot::{middle, one_at, thin_in, thin_places};
 use rob_number::Memory;
 use rob_ranges::run::Run;
 use rob_ranges::{Ends, Form, Whole};
@@ -211,7 +211,7 @@ fn length_at(alloc: Global, range: &Ends, values: &[Whole]) -> Result<Whole, Mem
 }
 
 /// A line in each of some settings, where no items but those at these places have entries or a range that is too long.
-/// The settings are halved, and in each half those places are left out that have neither there: so nothing is told of
+/// The settings are parted, and in each part those places are left out that have neither there: so nothing is told of
 /// the settings behind the first one where a range is too long.
 fn judge_lines(
     alloc: Global,
@@ -226,7 +226,7 @@ fn judge_lines(
         [] => Ok(Finding::Nothing),
         [setting] => judge_line(alloc, line, kept, setting.items()),
         _ => {
-            let (front, behind) = settings.split_at(settings.len() / 2);
+            let (front, behind) = settings.split_at(middle(settings));
             let items = line.items.items();
             let first = thin_in(alloc, true, items, kept, front)?;
             let found = judge_lines(alloc, line, first.items(), front)?;

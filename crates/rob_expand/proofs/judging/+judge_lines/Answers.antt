@@ -35,14 +35,14 @@ thin_in-requires-in_default t c = record {
 
 pub judge_lines-requires : goal.judge_lines-requires
 judge_lines-requires t c = (
-  omega (arith, c.decreases, c.split_at.ensures.front_len, c.in_default.len_at_least),
+  omega (arith, c.decreases, c.split_at.ensures.front_len, c.middle.ensures.behind),
   thin_moved true _ _ _ _ _ _ (sym c.items-items.ensures.list) c.items-in_default.ensures.list refl
       c.in_ok-first-in_default.ensures.thin,
 )
 
 pub judge_lines-requires-in_default : goal.judge_lines-requires-in_default
 judge_lines-requires-in_default t c = (
-  omega (arith, c.decreases, c.split_at.ensures.back_len, c.in_default.len_at_least),
+  omega (arith, c.decreases, c.split_at.ensures.back_len, c.middle.ensures.front, c.middle.ensures.behind),
   thin_moved true _ _ _ _ _ _ (sym c.items-items.ensures.list) c.items-in_default-2.ensures.list refl
       c.in_ok-second-in_default.ensures.thin,
 )
