@@ -10,7 +10,7 @@ use crate::room::{Stop, spend};
 use crate::setting::{copied, next, with_value};
 use rob_number::{List, Memory};
 use rob_ranges::reach::two_in_front;
-use rob_ranges::small::{value_at, value_inside};
+use rob_ranges::small::value_inside;
 use rob_ranges::{Ends, Whole};
 use std::alloc::Global;
 
@@ -71,8 +71,8 @@ fn append_settings(
             Ok(left)
         }
         [range, inner @ ..] => {
-            let from = value_at(alloc, range.from(), values)?;
-            let upto = value_at(alloc, range.upto(), values)?;
+            let from = range.from().value(alloc, values)?;
+            let upto = range.upto().value(alloc, values)?;
             append_values(settings, alloc, from, &upto, inner, values, room)
         }
     }
