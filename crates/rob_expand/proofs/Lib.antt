@@ -26,4 +26,5 @@ pub mod InnerLemmas
 pub mod SpotLemmas
 pub mod AppendLemmas
 pub mod RoundingLemmas
+pub mod InmostLemmas
 pub mod RunLemmas
