@@ -31,7 +31,8 @@ pub(crate) fn append_times(alloc: Global, bytes: &mut Vec<u8>, rest: &str) -> Re
 
 /// Appends a piece so many times.
 fn repeat(bytes: &mut Vec<u8>, count: u32, piece: &[u8]) -> Result<(), Trouble>
-    ensures appended { Appends bytes.old.items (Some (repeated count piece.now)) bytes.new.items result }
+    ensures appended { Appends bytes.old.items
+        (Some (repeated count piece.now)) bytes.new.items result }
 {
     for _ in 0..count {
         bytes.extend_from_slice(piece)?;
@@ -59,7 +60,8 @@ fn number(
     front: &str,
     back: &str,
 ) -> Result<(), Trouble>
-    ensures appended { Appends bytes.old.items (Some (all_numbered count front.now back.now)) bytes.new.items result }
+    ensures appended { Appends bytes.old.items
+        (Some (all_numbered count front.now back.now)) bytes.new.items result }
 {
     for i in 0..count {
         let line = format!(in alloc; "{front}{i}{back}\n")?;

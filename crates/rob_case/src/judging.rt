@@ -18,7 +18,8 @@ pub struct Verdict {
 pub fn judge(alloc: Global, case: &Case, wanted: &str) -> Result<Verdict, Trouble>
     ensures same { IfOk result (λ verdict. IsTrue verdict.same ↔ (case.now.answer ≡ wanted.now)) }
     ensures text { MatchResult result
-        (λ verdict. string_bytes verdict.text ≡ verdict_text verdict.same case.now.name case.now.answer wanted.now)
+        (λ verdict. string_bytes verdict.text
+        ≡ verdict_text verdict.same case.now.name case.now.answer wanted.now)
         (λ trouble. trouble ≡ Trouble.Memory) }
 {
     let name = case.name();

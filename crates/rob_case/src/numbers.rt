@@ -25,8 +25,8 @@ pub fn wholes(alloc: Global, line: &str) -> Result<Vec<i64>, Trouble>
 
 /// Appends the whole number of a word, and nothing where there is no word.
 fn put_whole(numbers: &mut Vec<i64>, word: &str) -> Result<(), Trouble>
-    ensures appended { Appends numbers.old.items (of_all whole_of (filter is_filled (word.now ∷ [])))
-        numbers.new.items result }
+    ensures appended { Appends numbers.old.items
+        (of_all whole_of (filter is_filled (word.now ∷ []))) numbers.new.items result }
 {
     if !word.is_empty() {
         numbers.push(whole(word)?)?;
@@ -78,7 +78,8 @@ pub fn exacts<N: Exact>(alloc: Global, nums: &[i64]) -> Result<List<N>, Trouble>
 
 /// A number: its numerator, and its denominator where that isn't 1.
 pub fn shown<N: Exact>(alloc: Global, number: N) -> Result<String, Trouble>
-    ensures shown { Answers (Some (number_text (N.value number))) (λ text. string_bytes text) result }
+    ensures shown { Answers (Some (number_text (N.value number)))
+        (λ text. string_bytes text) result }
 {
     let num = number.num();
     let den = number.den();

@@ -76,7 +76,8 @@ pub fn shown(alloc: Global, bytes: &[u8]) -> Result<String, Trouble>
 
 /// Appends a byte as it is shown.
 fn show(text: &mut String, byte: u8) -> Result<(), Trouble>
-    ensures shown { Appends (string_bytes text.old) (Some (shown_byte byte)) (string_bytes text.new) result }
+    ensures shown { Appends (string_bytes text.old) (Some (shown_byte byte))
+        (string_bytes text.new) result }
 {
     if (b' '..=b'~').contains(&byte) && byte != b'\\' {
         text.push(char::from(byte))?;

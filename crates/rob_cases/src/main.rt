@@ -8,6 +8,8 @@ use case::{Case, Outcome};
 use line::{Line, read_line};
 use rob_case::Trouble;
 use rob_case::text::shown;
+use std::alloc::Global;
+use std::mem;
 use std::process::ExitCode;
 
 fn main(rt: HostRuntime) -> ExitCode {
@@ -18,32 +20,63 @@ fn main(rt: HostRuntime) -> ExitCode {
     }
 }
 
+/// What is kept from line to line.
+#[derive(Drop)]
+struct Running {
+    case: Case,
+    /// What the case before put.
+    printed: Vec<u8>,
+    cases: u64,
+    differ: u64,
+}
+
 /// Runs the cases of standard input, and gives how many of them differ.
 fn run_all(rt: &HostRuntime) -> Result<u64, Trouble> {
-    let mut cases = 0u64;
-    let mut differ = 0u64;
-    let mut case = Case::new(rt.alloc(), "")?;
-    let mut printed = Vec::new(rt.alloc());
+    let mut running = Running {
+        case: Case::new(rt.alloc(), "")?,
+        printed: Vec::new(rt.alloc()),
+        cases: 0,
+        differ: 0,
+    };
     for text in rt.lines(rt.alloc()) {
         let text = text?;
-        match read_line(text.as_str()) {
-            Line::Nothing => {}
-            Line::Case(name) => case = Case::new(rt.alloc(), name)?,
-            Line::Printed(name) => case.add_file(name, printed.as_slice())?,
-            Line::Status(status) => {
-                cases = cases.saturating_add(1);
-                let outcome = case.run(rt.alloc())?;
-                if !report(rt, &outcome, status)? {
-                    differ = differ.saturating_add(1);
-                }
-                printed = outcome.put;
-                case = Case::new(rt.alloc(), "")?;
-            }
-            part => case.add(rt.alloc(), &part)?,
-        }
+        running.read(rt, text.as_str())?;
     }
+    let cases = running.cases;
+    let differ = running.differ;
     println!(rt; "{cases} cases, {differ} differ")?;
     Ok(differ)
+}
+
+impl Running {
+    /// Does what a line says.
+    fn read(&mut self, rt: &HostRuntime, text: &str) -> Result<(), Trouble> {
+        match read_line(text) {
+            Line::Nothing => Ok(()),
+            Line::Case(name) => self.begin(rt.alloc(), name),
+            Line::Printed(name) => self.case.add_file(name, self.printed.as_slice()),
+            Line::Status(status) => self.end(rt, status),
+            part => self.case.add(rt.alloc(), &part),
+        }
+    }
+
+    /// Begins a case of that name.
+    fn begin(&mut self, alloc: Global, name: &str) -> Result<(), Trouble> {
+        self.case = Case::new(alloc, name)?;
+        Ok(())
+    }
+
+    /// Runs the case, of which that status is wanted, and begins one without a name.
+    fn end(&mut self, rt: &HostRuntime, status: u8) -> Result<(), Trouble> {
+        self.cases = self.cases.saturating_add(1);
+        let next = Case::new(rt.alloc(), "")?;
+        let outcome = mem::replace(&mut self.case, next).run(rt.alloc())?;
+        if !report(rt, &outcome, status)? {
+            self.differ = self.differ.saturating_add(1);
+        }
+        self.printed = outcome.put;
+        Ok(())
+    }
 }
 
 /// Prints the line of a case, and says whether it gave what is wanted.

@@ -14,7 +14,8 @@ use Rattle.rob_meaning.proofs.NameLemmas.{length-column_names, length-form_names
 use Rattle.rob_meaning.specs.Names.{column_names, form_names, set_row_names}
 use Rattle.rob_meaning.specs.RobustModel.{RobustModel}
 use Rattle.rob_meaning.specs.SetRows.{lift_count}
-use Rattle.rob_meaning.specs.Sizes.{adaptive_bounds, parameter_bounds, rows_of, variable_bounds}
+use Rattle.rob_meaning.specs.Sizes.{adaptive_bounds, variable_bounds}
+use Rattle.rob_meaning.proofs.SizeLemmas.{parameter_bounds, rows_of}
 use Rattle.rob_model.proofs.NameCountLemmas.{kind_few}
 use Rattle.rob_model.specs.GroupNames.{parameter_bound_names}
 use Rattle.rob_model.specs.Valid.{IsValid}

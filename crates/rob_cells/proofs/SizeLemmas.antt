@@ -7,8 +7,8 @@ use Rattle.rob_meaning.specs.Forms.{row_forms, sides}
 use Rattle.rob_meaning.specs.Places.{tabulate}
 use Rattle.rob_meaning.specs.RobustModel.{AdaptiveVariable, RobustModel, Row, Sense, Variable, at_least, at_most, maximise, minimise}
 use Rattle.rob_meaning.specs.SetConditions.{if_declared}
-use Rattle.rob_meaning.specs.Sizes.{adaptive_bounds, variable_bounds, inequalities}
-use Rattle.rob_meaning.proofs.SizeLemmas.{length-declared, length-sides}
+use Rattle.rob_meaning.specs.Sizes.{adaptive_bounds, variable_bounds}
+use Rattle.rob_meaning.proofs.SizeLemmas.{inequalities, length-declared, length-sides}
 use Rattle.rob_pieces.specs.SplitModel.{bound_row, bound_rows, cell_rows, copy_in, cost_relation, cost_row, row_over}
 
 -- ---- one block for each cell
@@ -38,7 +38,8 @@ row_forms-append (r ∷ rs) ys =
       row_forms-append rs ys,
     )
 
-row_forms-first : (r : Row) (rs : List Row) → length (row_forms (r ∷ rs)) ≡ inequalities r.relation + length (row_forms rs)
+row_forms-first : (r : Row) (rs : List Row)
+    → length (row_forms (r ∷ rs)) ≡ inequalities r.relation + length (row_forms rs)
 row_forms-first r rs =
     omega (
       arith,

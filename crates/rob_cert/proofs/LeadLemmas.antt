@@ -100,8 +100,8 @@ module _ (names : Naming) (limit : ℕ) where
       → Led s lines (rank (entries v)) → Led s (lines ++ entry_lines v 0 qs) (suc (rank (entries v)))
   led_entries s v qs lines ne u room fits so =
       let b = so.ready (entries v) (omega arith) u (λ e. ne (ap rank e)) in
-      let l = entries_lead names limit s so.form v 0 qs (behind s so.last so.form so.place) 0 (omega arith) fits (omega arith)
-      (record { last = so.last; last_place = so.place; is = refl; may = b.0; anew = rw b.1 refl }) in
+      let l = entries_lead names limit s so.form v 0 qs (behind s so.last so.form so.place) 0 (omega arith) fits
+      (omega arith) (record { last = so.last; last_place = so.place; is = refl; may = b.0; anew = rw b.1 refl }) in
       led_more s (entries v) lines (entry_lines v 0 qs) (rank (entries v)) so l.new (ready_entries s v) l.leads l.there
 
   led_covers : (s : Status) (which : Multipliers) (cs : List Cover) (lines : List (Line Fraction))

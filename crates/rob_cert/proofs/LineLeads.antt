@@ -24,7 +24,8 @@ use Rattle.rob_cert.proofs.SectionLemmas.{Leads-append, entry_follows, entry_adv
 module _ (names : Naming) (limit : ℕ) where
   -- ---- entries
   -- the lines lead on, behind the last of them as before it
-  pub record EntriesLed (s : Status) (form : ℕ) (v : Vector) (stage : Stage) (lines : List (Line Fraction)) : Type 0 where
+  pub record EntriesLed (s : Status) (form : ℕ) (v : Vector) (stage : Stage) (lines : List (Line Fraction))
+      : Type 0 where
     pub new : Stage
     pub leads : Leads names limit stage lines new
     pub least : ℕ

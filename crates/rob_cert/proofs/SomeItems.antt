@@ -164,7 +164,8 @@ module _ (names : Naming) (limit : ℕ) where
           inr (
             rule,
             at,
-            items_fault names limit text number list form rest line front back more (Rule rule at) so begins words fault,
+            items_fault names limit text number list form rest line front back more (Rule rule at) so begins words
+                fault,
           )
 
   pub some_items : (text : List ℕ) (number : ℕ) → ItemList text number

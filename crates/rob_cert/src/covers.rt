@@ -85,9 +85,10 @@ fn read_cover<N: Exact, L: Ledger>(
     requires distinct { AreDistinct names.now.forms }
     requires few { (length names.now.forms < 2 ^ 32) × (length names.now.set_rows < 2 ^ 32) }
     ensures cover { MatchResult result
-        (λ c. IsCoverLine (naming names.now) N.limit which least.0 least.1 (words_in line.now) c.form c.set_row
-        (N.value c.amount))
-        (λ o. HasCoverFault (naming names.now) N.limit which least.0 least.1 (words_in line.now) o) }
+        (λ c. IsCoverLine (naming names.now) N.limit which least.0 least.1
+        (words_in line.now) c.form c.set_row (N.value c.amount))
+        (λ o. HasCoverFault (naming names.now) N.limit which least.0 least.1
+        (words_in line.now) o) }
     ensures counted { NeverFell L.ops L.wides ledger.old ledger.new }
 {
     match four_words(line) {
@@ -122,9 +123,11 @@ pub fn read_covers<'a, N: Exact, L: Ledger>(
     requires distinct { AreDistinct names.now.forms }
     requires few { (length names.now.forms < 2 ^ 32) × (length names.now.set_rows < 2 ^ 32) }
     requires small { at.line + length at.rest.now < 2 ^ 32 }
-    ensures read { IfOk result (λ r. AreCovers (naming names.now) N.limit which at.entry.rest.now at.entry.line
+    ensures read { IfOk result (λ r. AreCovers
+        (naming names.now) N.limit which at.entry.rest.now at.entry.line
         (map (cover_of N.value) r.list) r.at.rest.now r.at.line) }
-    ensures small { IfOk result (λ r. r.at.line + length r.at.rest.now ≤ at.entry.line + length at.entry.rest.now) }
+    ensures small { IfOk result (λ r. r.at.line + length r.at.rest.now
+        ≤ at.entry.line + length at.entry.rest.now) }
     ensures fault { IfErr result (λ e. (s : StatusOf) (stage : Stage)
         → StandsBehind s (multipliers_kind which) 0 0 stage
         → HasCause (naming names.now) N.limit stage at.entry.rest.now at.entry.line e) }

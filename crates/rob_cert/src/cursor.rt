@@ -27,8 +27,8 @@ fn find_byte(text: &[u8], byte: u8) -> Option<usize>
 
 /// Cuts a text at the first such byte.
 pub fn split_byte(text: &[u8], byte: u8) -> Option<Split<'_>>
-    ensures cut { MatchOption result (Lacks byte text.now) (λ s. (text.now ≡ s.front.now ++ byte ∷ s.back.now)
-        × Lacks byte s.front.now) }
+    ensures cut { MatchOption result (Lacks byte text.now)
+        (λ s. (text.now ≡ s.front.now ++ byte ∷ s.back.now) × Lacks byte s.front.now) }
 {
     let i = find_byte(text, byte)?;
     Some(Split {
@@ -99,7 +99,8 @@ pub fn three_words(line: &[u8]) -> Option<Three<'_>>
 /// The words of a line that has four.
 pub fn four_words(line: &[u8]) -> Option<Four<'_>>
     ensures words { MatchOption result (length (words_in line.now) ≢ 4)
-        (λ w. words_in line.now ≡ w.first.now ∷ (w.second.now ∷ (w.third.now ∷ (w.fourth.now ∷ [])))) }
+        (λ w. words_in line.now
+        ≡ w.first.now ∷ (w.second.now ∷ (w.third.now ∷ (w.fourth.now ∷ [])))) }
 {
     match split_byte(line, b' ') {
         None => None,

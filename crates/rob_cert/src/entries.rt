@@ -57,9 +57,11 @@ pub fn read_entries<'a, N: Exact, L: Ledger>(
 ) -> Result<Entries<'a, N>, CertErr>
     requires count { count ≡ length (entry_names (naming names.now) vector) }
     requires small { at.line + length at.rest.now < 2 ^ 32 }
-    ensures read { IfOk result (λ r. AreEntries (naming names.now) N.limit vector count at.entry.rest.now at.entry.line
+    ensures read { IfOk result (λ r. AreEntries
+        (naming names.now) N.limit vector count at.entry.rest.now at.entry.line
         (map N.value r.numbers.items) r.at.rest.now r.at.line) }
-    ensures small { IfOk result (λ r. r.at.line + length r.at.rest.now ≤ at.entry.line + length at.entry.rest.now) }
+    ensures small { IfOk result (λ r. r.at.line + length r.at.rest.now
+        ≤ at.entry.line + length at.entry.rest.now) }
     ensures fault { IfErr result (λ e. (s : StatusOf) (form : ℕ) (stage : Stage)
         → StandsAt s (entries_kind vector) form 0 stage
         → HasCause (naming names.now) N.limit stage at.entry.rest.now at.entry.line e) }

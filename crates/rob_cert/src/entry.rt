@@ -57,7 +57,8 @@ pub fn read_entry<N: Exact, L: Ledger>(
 ) -> Result<Entry<N>, Offence>
     requires first { HasFirst (vector_word vector) line.now }
     ensures entry { MatchResult result
-        (λ e. IsEntry (naming names.now) N.limit vector least (words_in line.now) e.place (N.value e.number))
+        (λ e. IsEntry (naming names.now) N.limit vector least (words_in line.now) e.place
+        (N.value e.number))
         (λ o. HasEntryFault (naming names.now) N.limit vector least (words_in line.now) o) }
     ensures counted { NeverFell L.ops L.wides ledger.old ledger.new }
 {

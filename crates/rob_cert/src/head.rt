@@ -73,7 +73,8 @@ fn status_of_line(line: &[u8]) -> Option<Status>
 
 /// The status line at the front of a text.
 fn read_status(text: &[u8]) -> Option<Claim<'_>>
-    ensures status { MatchOption result ((s : StatusOf) (rest : List ℕ) → text.now ≡ status_bytes s ++ 10 ∷ rest → ⊥)
+    ensures status { MatchOption result
+        ((s : StatusOf) (rest : List ℕ) → text.now ≡ status_bytes s ++ 10 ∷ rest → ⊥)
         (λ c. text.now ≡ status_bytes (status_of c.status) ++ 10 ∷ c.rest.now) }
 {
     match split_byte(text, b'\n') {
@@ -95,9 +96,11 @@ fn read_single<'a, N: Exact, L: Ledger>(
     ledger: &mut L,
 ) -> Result<Single<'a, N>, Offence>
     requires small { at.line + length at.rest.now < 2 ^ 32 }
-    ensures read { (names : Naming) → IfOk result (λ r. IsSection names at.entry.rest.now at.entry.line
+    ensures read { (names : Naming)
+        → IfOk result (λ r. IsSection names at.entry.rest.now at.entry.line
         (bound_line which (N.value r.number) ∷ []) r.at.rest.now r.at.line) }
-    ensures small { IfOk result (λ r. r.at.line + length r.at.rest.now ≤ at.entry.line + length at.entry.rest.now) }
+    ensures small { IfOk result (λ r. r.at.line + length r.at.rest.now
+        ≤ at.entry.line + length at.entry.rest.now) }
     ensures fault { IfErr result (λ o. HasBoundFault N.limit which at.entry.rest.now o) }
     ensures counted { NeverFell L.ops L.wides ledger.old ledger.new }
 {
@@ -125,9 +128,12 @@ fn read_both<'a, N: Exact, L: Ledger>(
     ledger: &mut L,
 ) -> Result<Bounds<'a, N>, CertErr>
     requires small { at.line + length at.rest.now < 2 ^ 32 }
-    ensures read { (names : Naming) → IfOk result (λ r. IsSection names at.entry.rest.now at.entry.line
-        (value_line (N.value r.value) ∷ (scale_line (N.value r.scale) ∷ [])) r.at.rest.now r.at.line) }
-    ensures small { IfOk result (λ r. r.at.line + length r.at.rest.now ≤ at.entry.line + length at.entry.rest.now) }
+    ensures read { (names : Naming)
+        → IfOk result (λ r. IsSection names at.entry.rest.now at.entry.line
+        (value_line (N.value r.value) ∷ (scale_line (N.value r.scale) ∷ [])) r.at.rest.now
+        r.at.line) }
+    ensures small { IfOk result (λ r. r.at.line + length r.at.rest.now
+        ≤ at.entry.line + length at.entry.rest.now) }
     ensures fault { IfErr result (λ e. (names : Naming) (s : StatusOf) → s ≢ infeasible
         → HasCause names N.limit (behind s claims 0 0) at.entry.rest.now at.entry.line e) }
     ensures counted { NeverFell L.ops L.wides ledger.old ledger.new }
@@ -152,13 +158,17 @@ fn read_bounds<'a, N: Exact, L: Ledger>(
     ledger: &mut L,
 ) -> Result<Bounds<'a, N>, CertErr>
     requires small { at.line + length at.rest.now < 2 ^ 32 }
-    ensures read { (names : Naming) → IfOk result (λ r. IsSection names at.entry.rest.now at.entry.line
-        (bound_lines (status_of status) (N.value r.value) (N.value r.scale)) r.at.rest.now r.at.line) }
+    ensures read { (names : Naming)
+        → IfOk result (λ r. IsSection names at.entry.rest.now at.entry.line
+        (bound_lines (status_of status) (N.value r.value) (N.value r.scale)) r.at.rest.now
+        r.at.line) }
     ensures unused { IfOk result (λ r. status_of status ≡ infeasible
         → (N.value r.value ≡ 0ℚ) × (N.value r.scale ≡ 1ℚ)) }
-    ensures small { IfOk result (λ r. r.at.line + length r.at.rest.now ≤ at.entry.line + length at.entry.rest.now) }
+    ensures small { IfOk result (λ r. r.at.line + length r.at.rest.now
+        ≤ at.entry.line + length at.entry.rest.now) }
     ensures fault { IfErr result (λ e. (names : Naming)
-        → HasCause names N.limit (behind (status_of status) claims 0 0) at.entry.rest.now at.entry.line e) }
+        → HasCause names N.limit
+        (behind (status_of status) claims 0 0) at.entry.rest.now at.entry.line e) }
     ensures counted { NeverFell L.ops L.wides ledger.old ledger.new }
 {
     match status {
@@ -178,13 +188,16 @@ pub fn read_front<'a, N: Exact, L: Ledger>(
     ledger: &mut L,
 ) -> Result<Front<'a, N>, CertErr>
     requires small { length text.now ≤ 2 ^ 30 }
-    ensures read { (names : Naming) → IfOk result (λ r. SoFar names N.limit (status_of r.status) text.now
-        (status_line (status_of r.status) ∷ bound_lines (status_of r.status) (N.value r.value) (N.value r.scale))
+    ensures read { (names : Naming)
+        → IfOk result (λ r. SoFar names N.limit (status_of r.status) text.now
+        (status_line (status_of r.status) ∷ bound_lines (status_of r.status) (N.value r.value)
+        (N.value r.scale))
         r.at.rest.now r.at.line 3) }
     ensures unused { IfOk result (λ r. status_of r.status ≡ infeasible
         → (N.value r.value ≡ 0ℚ) × (N.value r.scale ≡ 1ℚ)) }
     ensures small { IfOk result (λ r. r.at.line + length r.at.rest.now ≤ 2 + length text.now) }
-    ensures fault { IfErr result (λ e. (names : Naming) → HasCause names N.limit start text.now 1 e) }
+    ensures fault { IfErr result (λ e. (names : Naming)
+        → HasCause names N.limit start text.now 1 e) }
     ensures counted { NeverFell L.ops L.wides ledger.old ledger.new }
 {
     match read_status(text) {

@@ -54,8 +54,8 @@ fn read_head<N: Exact, L: Ledger>(
     requires first { HasFirst (codes "item") line.now }
     requires few { length names.now.forms < 2 ^ 32 }
     ensures head { MatchResult result
-        (λ h. IsItemLine (naming names.now) N.limit least (words_in line.now) h.form (N.value h.weight)
-        (N.value h.base))
+        (λ h. IsItemLine (naming names.now) N.limit least (words_in line.now) h.form
+        (N.value h.weight) (N.value h.base))
         (λ o. HasItemFault (naming names.now) N.limit least (words_in line.now) o) }
     ensures counted { NeverFell L.ops L.wides ledger.old ledger.new }
 {
@@ -93,7 +93,8 @@ fn read_item<'a, N: Exact, L: Ledger>(
     ensures read { IfOk result (λ r. IsItemRead (naming names.now) N.limit least
         (words_in split.entry.front.now) split.entry.back.now
         (line + 1) (item_of N.value r.item) r.at.rest.now r.at.line) }
-    ensures small { IfOk result (λ r. r.at.line + length r.at.rest.now ≤ line + 1 + length split.entry.back.now) }
+    ensures small { IfOk result (λ r. r.at.line + length r.at.rest.now
+        ≤ line + 1 + length split.entry.back.now) }
     ensures fault { IfErr result (λ e. HasItemReadFault (naming names.now) N.limit least
         (words_in split.entry.front.now)
         split.entry.back.now (line + 1) line e) }
@@ -132,9 +133,11 @@ pub fn read_items<'a, N: Exact, L: Ledger>(
 ) -> Result<Items<'a, N>, CertErr>
     requires few { length names.now.forms < 2 ^ 32 }
     requires small { at.line + length at.rest.now < 2 ^ 32 }
-    ensures read { IfOk result (λ r. AreItems (naming names.now) N.limit at.entry.rest.now at.entry.line
+    ensures read { IfOk result (λ r. AreItems
+        (naming names.now) N.limit at.entry.rest.now at.entry.line
         (map (item_of N.value) r.list) r.at.rest.now r.at.line) }
-    ensures small { IfOk result (λ r. r.at.line + length r.at.rest.now ≤ at.entry.line + length at.entry.rest.now) }
+    ensures small { IfOk result (λ r. r.at.line + length r.at.rest.now
+        ≤ at.entry.line + length at.entry.rest.now) }
     ensures fault { IfErr result (λ e. (s : StatusOf) (stage : Stage) → StandsItem s 0 stage
         → HasCause (naming names.now) N.limit stage at.entry.rest.now at.entry.line e) }
     ensures counted { NeverFell L.ops L.wides ledger.old ledger.new }

@@ -21,18 +21,23 @@ pub fn spelling_laws()
         → ((c : Certificate) × IsTextOf m c text × FitsLines limit m c)
         ⊎ ((rule : ℕ) × (line : ℕ) × HasCause (naming_of m) limit start text 1 (Rule rule line)) }
     // A certificate has one spelling.
-    ensures spelled_once { (m : RobustModel) (c : Certificate) (s t : List ℕ) → IsTextOf m c s → IsTextOf m c t
-        → s ≡ t }
+    ensures spelled_once { (m : RobustModel) (c : Certificate) (s t : List ℕ) → IsTextOf m c s
+        → IsTextOf m c t → s ≡ t }
     // Where no name has a space or a line's end, the text of a certificate whose numbers fit breaks no rule.
-    ensures breaks_none { (m : RobustModel) (limit : ℕ) (c : Certificate) (text : List ℕ) → IsModel m → IsNamed m
+    ensures breaks_none { (m : RobustModel) (limit : ℕ) (c : Certificate) (text : List ℕ)
+        → IsModel m → IsNamed m
         → IsNamedInWords m → limit ≤ 2 ^ 62 - 1 → IsTextOf m c text → FitsLines limit m c
         → (rule line : ℕ) → HasCause (naming_of m) limit start text 1 (Rule rule line) → ⊥ }
     // Such a text is that of one certificate alone.
-    ensures read_once { (m : RobustModel) (limit : ℕ) (c d : Certificate) (text : List ℕ) → IsModel m → IsNamed m
+    ensures read_once { (m : RobustModel) (limit : ℕ) (c d : Certificate) (text : List ℕ)
+        → IsModel m → IsNamed m
         → IsNamedInWords m → limit ≤ 2 ^ 62 - 1 → IsTextOf m c text → IsTextOf m d text
         → FitsLines limit m c → FitsLines limit m d → c ≡ d }
     // A text breaks one rule, at one line.
-    ensures one_cause { (m : RobustModel) (limit : ℕ) (text : List ℕ) → IsModel m → IsNamed m → IsNamedInWords m
-        → limit ≤ 2 ^ 62 - 1 → (rule line other number : ℕ) → HasCause (naming_of m) limit start text 1 (Rule rule line)
-        → HasCause (naming_of m) limit start text 1 (Rule other number) → (rule ≡ other) × (line ≡ number) }
+    ensures one_cause { (m : RobustModel) (limit : ℕ) (text : List ℕ) → IsModel m → IsNamed m
+        → IsNamedInWords m
+        → limit ≤ 2 ^ 62 - 1 → (rule line other number : ℕ)
+        → HasCause (naming_of m) limit start text 1 (Rule rule line)
+        → HasCause (naming_of m) limit start text 1 (Rule other number) → (rule ≡ other)
+        × (line ≡ number) }
 {}

@@ -17,12 +17,24 @@ use rob_number::{Exact, List, Memory, Text};
 use std::alloc::Global;
 
 /// The names of a model's parameters, decision columns, forms and set rows, by their numbers.
-#[derive(Debug, Drop)]
+#[derive(Debug)]
 pub struct Names {
     pub parameters: List<Text>,
     pub columns: List<Text>,
     pub forms: List<Text>,
     pub set_rows: List<Text>,
+}
+
+impl Drop for Names {
+    /// Lets go of it in one call. A derived drop would stand in each function that does.
+    fn drop(self) {
+        let Names {
+            parameters: _parameters,
+            columns: _columns,
+            forms: _forms,
+            set_rows: _set_rows,
+        } = self;
+    }
 }
 
 impl Names {

@@ -20,7 +20,8 @@ struct Parts {
 
 /// The number that a word spells in lowest terms, where it fits.
 pub fn read_number<N: Exact, L: Ledger>(word: &[u8], ledger: &mut L) -> Option<N>
-    ensures number { MatchOption result ((q : Fraction) → Fits N.limit q → word.now ≡ number_text q → ⊥)
+    ensures number { MatchOption result
+        ((q : Fraction) → Fits N.limit q → word.now ≡ number_text q → ⊥)
         (λ x. word.now ≡ number_text (N.value x)) }
     ensures counted { NeverFell L.ops L.wides ledger.old ledger.new }
 {
@@ -41,8 +42,8 @@ pub fn read_number<N: Exact, L: Ledger>(word: &[u8], ledger: &mut L) -> Option<N
 
 /// The parts of a word that spells a fraction; any parts, or none, of another word.
 fn read_parts(word: &[u8]) -> Option<Parts>
-    ensures parts { (q : Fraction) → nat_abs q.num < 2 ^ 62 → q.den < 2 ^ 62 → word.now ≡ number_text q
-        → result ≡ Some (record { num = q.num; den = pos q.den }) }
+    ensures parts { (q : Fraction) → nat_abs q.num < 2 ^ 62 → q.den < 2 ^ 62
+        → word.now ≡ number_text q → result ≡ Some (record { num = q.num; den = pos q.den }) }
     ensures positive { IfSome result (λ p. pos 0 <ℤ p.den) }
 {
     match split_byte(word, b'/') {
@@ -57,7 +58,8 @@ fn read_parts(word: &[u8]) -> Option<Parts>
 /// The parts of two words.
 fn read_quotient(front: &[u8], back: &[u8]) -> Option<Parts>
     ensures parts { (z : ℤ) (n : ℕ) → nat_abs z < 2 ^ 62 → 0 < n → n < 2 ^ 62
-        → front.now ≡ signed_decimal z → back.now ≡ decimal n → result ≡ Some (record { num = z; den = pos n }) }
+        → front.now ≡ signed_decimal z → back.now ≡ decimal n
+        → result ≡ Some (record { num = z; den = pos n }) }
     ensures positive { IfSome result (λ p. pos 0 <ℤ p.den) }
 {
     match read_whole(front) {
@@ -100,7 +102,8 @@ fn spells<N: Exact>(number: N, word: &[u8]) -> bool
 
 /// What stands behind a whole number at the front of a text.
 fn strip_whole(text: &[u8], whole: i64) -> Option<&[u8]>
-    ensures found { MatchOption result ((rest : List ℕ) → text.now ≡ signed_decimal whole ++ rest → ⊥)
+    ensures found { MatchOption result
+        ((rest : List ℕ) → text.now ≡ signed_decimal whole ++ rest → ⊥)
         (λ rest. text.now ≡ signed_decimal whole ++ rest.now) }
 {
     let mut buffer = Buffer::new();

@@ -36,15 +36,17 @@ pub fn entries_part<'a, N: Exact, L: Ledger>(
     requires apart { rank (entries_kind vector) ≢ 8 }
     requires few { length names.now.columns < 2 ^ 32 }
     requires small { at.line + length at.rest.now < 2 ^ 32 }
-    ensures read { IfOk result (λ r. Extends (naming names.now) N.limit (status_of status) (rank (entries_kind vector))
+    ensures read { IfOk result (λ r. Extends (naming names.now) N.limit (status_of status)
+        (rank (entries_kind vector))
         (suc (rank (entries_kind vector))) at.entry.rest.now at.entry.line
         (entry_lines vector 0 (map N.value r.numbers.items)) r.at.rest.now r.at.line) }
     ensures size { IfOk result (λ r. length (map N.value r.numbers.items)
         ≡ (if is_used (status_of status) (entries_kind vector)
         then length (entry_names (naming names.now) vector) else 0)) }
-    ensures small { IfOk result (λ r. r.at.line + length r.at.rest.now ≤ at.entry.line + length at.entry.rest.now) }
-    ensures fault { IfErr result (λ e. Fails (naming names.now) N.limit (status_of status) (rank (entries_kind vector))
-        at.entry.rest.now at.entry.line e) }
+    ensures small { IfOk result (λ r. r.at.line + length r.at.rest.now
+        ≤ at.entry.line + length at.entry.rest.now) }
+    ensures fault { IfErr result (λ e. Fails (naming names.now) N.limit (status_of status)
+        (rank (entries_kind vector)) at.entry.rest.now at.entry.line e) }
     ensures counted { NeverFell L.ops L.wides ledger.old ledger.new }
 {
     if vector.is_used(status) {
@@ -77,7 +79,8 @@ pub fn covers_part<'a, N: Exact, L: Ledger>(
     ensures good { IfOk result (λ r. AreGoodCovers (naming names.now)
         (is_used (status_of status) (multipliers_kind which))
         (map (cover_of N.value) r.list)) }
-    ensures small { IfOk result (λ r. r.at.line + length r.at.rest.now ≤ at.entry.line + length at.entry.rest.now) }
+    ensures small { IfOk result (λ r. r.at.line + length r.at.rest.now
+        ≤ at.entry.line + length at.entry.rest.now) }
     ensures fault { IfErr result (λ e. Fails (naming names.now) N.limit (status_of status)
         (rank (multipliers_kind which))
         at.entry.rest.now at.entry.line e) }
@@ -106,9 +109,10 @@ pub fn items_part<'a, N: Exact, L: Ledger>(
     ensures read { IfOk result (λ r. Extends (naming names.now) N.limit
         (status_of status) 8 9 at.entry.rest.now at.entry.line
         (item_lines (map (item_of N.value) r.list)) r.at.rest.now r.at.line) }
-    ensures good { IfOk result (λ r. AreGoodItems (naming names.now) (is_used (status_of status) items_kind)
-        (map (item_of N.value) r.list)) }
-    ensures small { IfOk result (λ r. r.at.line + length r.at.rest.now ≤ at.entry.line + length at.entry.rest.now) }
+    ensures good { IfOk result (λ r. AreGoodItems (naming names.now)
+        (is_used (status_of status) items_kind) (map (item_of N.value) r.list)) }
+    ensures small { IfOk result (λ r. r.at.line + length r.at.rest.now
+        ≤ at.entry.line + length at.entry.rest.now) }
     ensures fault { IfErr result (λ e. Fails (naming names.now) N.limit
         (status_of status) 8 at.entry.rest.now at.entry.line e) }
     ensures counted { NeverFell L.ops L.wides ledger.old ledger.new }
@@ -127,10 +131,11 @@ pub fn items_part<'a, N: Exact, L: Ledger>(
 pub fn end_part(names: &Names, status: Status, at: Cursor<'_>) -> Result<(), CertErr>
     requires small { at.line + length at.rest.now < 2 ^ 32 }
     ensures read { OnOk result ((limit : ℕ) (text : Items_of ℕ) (lines : Items_of (Line Fraction))
-        → SoFar (naming names.now) limit (status_of status) text lines at.entry.rest.now at.entry.line 9
+        → SoFar (naming names.now) limit
+        (status_of status) text lines at.entry.rest.now at.entry.line 9
         → text ≡ lines_text (naming names.now) (lines ++ end_line ∷ [])) }
-    ensures fault { IfErr result (λ e. (limit : ℕ) → Fails (naming names.now) limit (status_of status) 9
-        at.entry.rest.now at.entry.line e) }
+    ensures fault { IfErr result (λ e. (limit : ℕ)
+        → Fails (naming names.now) limit (status_of status) 9 at.entry.rest.now at.entry.line e) }
 {
     match split_byte(at.rest, b'\n') {
         None => Err(CertErr::Rule(Offence::NoLine.rule(), at.line)),

@@ -69,7 +69,8 @@ fn read_vectors<'a, N: Exact, L: Ledger>(
         (map N.value r.moved.items)) r.at.rest.now r.at.line) }
     ensures sizes { IfOk result (λ r. HasSizes (naming names.now) (status_of status)
         (map N.value r.inside.items) (map N.value r.plan.items) (map N.value r.moved.items)) }
-    ensures small { IfOk result (λ r. r.at.line + length r.at.rest.now ≤ at.entry.line + length at.entry.rest.now) }
+    ensures small { IfOk result (λ r. r.at.line + length r.at.rest.now
+        ≤ at.entry.line + length at.entry.rest.now) }
     ensures fault { IfErr result (λ e. Fails (naming names.now) N.limit
         (status_of status) 3 at.entry.rest.now at.entry.line e) }
     ensures counted { NeverFell L.ops L.wides ledger.old ledger.new }
@@ -98,9 +99,11 @@ fn read_lists<N: Exact, L: Ledger>(
     requires small { at.line + length at.rest.now < 2 ^ 32 }
     ensures read { IfOk result (λ r. EndsWith (naming names.now) N.limit
         (status_of status) at.entry.rest.now at.entry.line
-        (map (cover_of N.value) r.covers) (map (cover_of N.value) r.holds) (map (item_of N.value) r.items)) }
+        (map (cover_of N.value) r.covers) (map (cover_of N.value) r.holds)
+        (map (item_of N.value) r.items)) }
     ensures good { IfOk result (λ r. AreGoodLists (naming names.now) (status_of status)
-        (map (cover_of N.value) r.covers) (map (cover_of N.value) r.holds) (map (item_of N.value) r.items)) }
+        (map (cover_of N.value) r.covers) (map (cover_of N.value) r.holds)
+        (map (item_of N.value) r.items)) }
     ensures fault { IfErr result (λ e. Fails (naming names.now) N.limit
         (status_of status) 6 at.entry.rest.now at.entry.line e) }
     ensures counted { NeverFell L.ops L.wides ledger.old ledger.new }
@@ -118,7 +121,8 @@ fn read_lists<N: Exact, L: Ledger>(
 
 /// A direction's numbers without the last, which is its bound; where there are none the bound is 0.
 fn split_bound<N: Exact, L: Ledger>(mut moved: Vec<N>, ledger: &mut L) -> Direction<N>
-    ensures moved { IsMoved (map N.value moved.items) (map N.value result.step.items) (N.value result.bound) }
+    ensures moved { IsMoved (map N.value moved.items) (map N.value result.step.items)
+        (N.value result.bound) }
     ensures counted { NeverFell L.ops L.wides ledger.old ledger.new }
 {
     match moved.pop() {
@@ -180,7 +184,8 @@ fn read_text<N: Exact, L: Ledger>(
     requires small { length text.now ≤ 2 ^ 30 }
     ensures read { IfOk result (λ cert. text.now
         ≡ lines_text (naming names.now) (lines_of (certificate_of N.value cert))) }
-    ensures shape { IfOk result (λ cert. IsWellRead (naming names.now) (certificate_of N.value cert)) }
+    ensures shape { IfOk result (λ cert. IsWellRead (naming names.now)
+        (certificate_of N.value cert)) }
     ensures fault { IfErr result (λ e. HasCause (naming names.now) N.limit start text.now 1 e) }
     ensures counted { NeverFell L.ops L.wides ledger.old ledger.new }
 {
@@ -202,9 +207,12 @@ pub fn read_cert<N: Exact, L: Ledger>(
     requires valid { IsValid N.value model.now }
     requires named { IsNamed (robust N.value model.now) }
     requires small { length text.now ≤ 2 ^ 30 }
-    ensures read { IfOk result (λ cert. IsTextOf (robust N.value model.now) (certificate_of N.value cert) text.now) }
-    ensures fits { IfOk result (λ cert. FitsLines N.limit (robust N.value model.now) (certificate_of N.value cert)) }
-    ensures fault { IfErr result (λ e. HasCause (naming_of (robust N.value model.now)) N.limit start text.now 1 e) }
+    ensures read { IfOk result (λ cert. IsTextOf (robust N.value model.now)
+        (certificate_of N.value cert) text.now) }
+    ensures fits { IfOk result (λ cert. FitsLines N.limit (robust N.value model.now)
+        (certificate_of N.value cert)) }
+    ensures fault { IfErr result (λ e. HasCause
+        (naming_of (robust N.value model.now)) N.limit start text.now 1 e) }
     // Where no name has a space or a line's end, each text of a certificate with numbers that fit is read as that
     // certificate.
     ensures exact { (c : Certificate) → IsNamedInWords (robust N.value model.now)

@@ -38,7 +38,8 @@ pub fn put_count(out: &mut Text, count: u64) -> Result<(), Memory>
 /// Appends a slash and a denominator.
 fn put_denominator(out: &mut Text, denominator: i64) -> Result<(), Memory>
     requires positive { pos 0 <ℤ denominator }
-    ensures appended { OnOk result (out.new ≡ out.old ++ (codes "/" ++ decimal (nat_abs denominator))) }
+    ensures appended { OnOk result (out.new
+        ≡ out.old ++ (codes "/" ++ decimal (nat_abs denominator))) }
 {
     let mut buffer = Buffer::new();
     out.push(b"/")?;
@@ -72,7 +73,8 @@ pub fn put_words(out: &mut Text, first: &[u8], second: &[u8]) -> Result<(), Memo
 
 /// Appends a line of a word and a number.
 pub fn put_single<N: Exact>(out: &mut Text, word: &[u8], number: N) -> Result<(), Memory>
-    ensures appended { OnOk result (out.new ≡ out.old ++ spaced (word.now ∷ (number_text (N.value number) ∷ []))) }
+    ensures appended { OnOk result (out.new
+        ≡ out.old ++ spaced (word.now ∷ (number_text (N.value number) ∷ []))) }
 {
     out.push(word)?;
     put_number_word(out, number)?;
@@ -104,7 +106,8 @@ pub fn put_pair<N: Exact>(
     number: N,
 ) -> Result<(), Memory>
     ensures appended { OnOk result (out.new
-        ≡ out.old ++ spaced (word.now ∷ (first.now ∷ (second.now ∷ (number_text (N.value number) ∷ []))))) }
+        ≡ out.old ++ spaced
+        (word.now ∷ (first.now ∷ (second.now ∷ (number_text (N.value number) ∷ []))))) }
 {
     out.push(word)?;
     put_word(out, first)?;

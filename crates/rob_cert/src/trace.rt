@@ -3,7 +3,7 @@
 use rob_number::{List, LpKind};
 
 /// A round: how its master problem ended, and the cut that followed.
-#[derive(Debug, Drop)]
+#[derive(Debug)]
 pub struct Round {
     pub kind: LpKind,
     /// Whether the cut is one of the improving direction, and not of the plan.
@@ -18,6 +18,21 @@ pub struct Round {
     pub base: i64,
     /// `base` times the scenario, or the ray, in whole numbers: one for each parameter.
     pub vector: List<i64>,
+}
+
+impl Drop for Round {
+    /// Lets go of it in one call. A derived drop would stand in each function that does.
+    fn drop(self) {
+        let Round {
+            kind: _kind,
+            by_step: _by_step,
+            basis: _basis,
+            column: _column,
+            form: _form,
+            base: _base,
+            vector: _vector,
+        } = self;
+    }
 }
 
 /// The rounds in order.

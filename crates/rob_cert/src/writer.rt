@@ -24,7 +24,8 @@ use std::alloc::Global;
 pub fn write_cert<N: Exact>(alloc: Global, model: &Model<N>, cert: &Cert<N>) -> Result<Text, Memory>
     requires valid { IsValid N.value model.now }
     requires shape { HasShape (robust N.value model.now) (certificate_of N.value cert.now) }
-    ensures text { IfOk result (λ text. text ≡ cert_text (robust N.value model.now) (certificate_of N.value cert.now)) }
+    ensures text { IfOk result (λ text. text
+        ≡ cert_text (robust N.value model.now) (certificate_of N.value cert.now)) }
 {
     let names = Names::of(alloc, model)?;
     let mut text = Text::new(alloc);
@@ -42,7 +43,8 @@ fn put_status<N: Exact>(out: &mut Text, cert: &Cert<N>) -> Result<(), Memory>
 
 /// Appends the last line.
 fn put_end(out: &mut Text) -> Result<(), Memory>
-    ensures appended { (names : Naming) → OnOk result (out.new ≡ out.old ++ lines_text names (end_line ∷ [])) }
+    ensures appended { (names : Naming)
+        → OnOk result (out.new ≡ out.old ++ lines_text names (end_line ∷ [])) }
 {
     out.push(b"end\n")
 }
@@ -50,7 +52,8 @@ fn put_end(out: &mut Text) -> Result<(), Memory>
 /// Appends the lines of the value and the scale, where there is a plan.
 fn put_bounds<N: Exact>(out: &mut Text, cert: &Cert<N>) -> Result<(), Memory>
     ensures appended { (names : Naming) → OnOk result (out.new ≡ out.old ++ lines_text names
-        (bound_lines (status_of cert.now.status) (N.value cert.now.value) (N.value cert.now.scale))) }
+        (bound_lines (status_of cert.now.status) (N.value cert.now.value)
+        (N.value cert.now.scale))) }
 {
     match cert.status {
         Status::Optimal => put_both(out, cert.value, cert.scale),
@@ -78,7 +81,8 @@ fn put_entry<N: Exact>(
 ) -> Result<(), Memory>
     requires inside { place < length (entry_names (naming names.now) vector) }
     ensures appended { OnOk result (out.new
-        ≡ out.old ++ lines_text (naming names.now) (entry_lines vector place (N.value number ∷ []))) }
+        ≡ out.old ++ lines_text (naming names.now)
+        (entry_lines vector place (N.value number ∷ []))) }
 {
     if number.sign() == 0 {
         return Ok(());
@@ -97,7 +101,8 @@ fn put_entries<N: Exact>(
     requires inside { first + length numbers.now ≤ length (entry_names (naming names.now) vector) }
     requires few { first + length numbers.now < 2 ^ 64 }
     ensures appended { OnOk result (out.new
-        ≡ out.old ++ lines_text (naming names.now) (entry_lines vector first (map N.value numbers.now))) }
+        ≡ out.old ++ lines_text (naming names.now)
+        (entry_lines vector first (map N.value numbers.now))) }
 {
     let mut place = first;
     for number in numbers {
@@ -116,7 +121,8 @@ fn put_covers<N: Exact>(
 ) -> Result<(), Memory>
     requires named { Each (IsCoverNamed (naming names.now)) (map (cover_of N.value) list.now) }
     ensures appended { OnOk result (out.new
-        ≡ out.old ++ lines_text (naming names.now) (cover_lines which (map (cover_of N.value) list.now))) }
+        ≡ out.old ++ lines_text (naming names.now)
+        (cover_lines which (map (cover_of N.value) list.now))) }
 {
     for cover in list {
         put_cover(out, which, names, cover)?;
@@ -133,7 +139,8 @@ fn put_cover<N: Exact>(
 ) -> Result<(), Memory>
     requires named { IsCoverNamed (naming names.now) (cover_of N.value cover.now) }
     ensures appended { OnOk result (out.new
-        ≡ out.old ++ lines_text (naming names.now) (cover_lines which (cover_of N.value cover.now ∷ []))) }
+        ≡ out.old ++ lines_text (naming names.now)
+        (cover_lines which (cover_of N.value cover.now ∷ []))) }
 {
     let form = name_in(names.forms.items(), cover.form as usize);
     let set_row = name_in(names.set_rows.items(), cover.set_row as usize);
@@ -187,7 +194,8 @@ fn put_move<N: Exact>(out: &mut Text, names: &Names, step: &[N], bound: N) -> Re
     requires inside { length step.now ≤ length names.now.columns }
     requires few { length names.now.columns < 2 ^ 32 }
     ensures appended { OnOk result (out.new ≡ out.old
-        ++ lines_text (naming names.now) (entry_lines Move 0 (map N.value step.now ++ N.value bound ∷ []))) }
+        ++ lines_text (naming names.now)
+        (entry_lines Move 0 (map N.value step.now ++ N.value bound ∷ []))) }
 {
     put_entries(out, Vector::Move, names, 0, step)?;
     put_entry(out, Vector::Move, names, step.len(), bound)

@@ -7,7 +7,6 @@ use Rattle.rob_algebra.specs.Fraction.{Fraction, of_int}
 use Rattle.rob_algebra.specs.FractionLaws.{ℚ_ring}
 use Rattle.rob_algebra.specs.Lists.{Rows}
 use Rattle.rob_algebra.specs.Integer.{zero-mul}
-use Rattle.rob_linear.specs.Vectors.{sum_to, at}
 use Rattle.rob_linear.specs.Vectors as V
 use Rattle.rob_linear.proofs.Sums.{sum_ext, sum_zero}
 use Rattle.rob_meaning.specs.Places.{tabulate}

@@ -8,7 +8,6 @@ use Rattle.rob_linear.specs.Vectors.{Matrix, Columns, sum_to, dot}
 use Rattle.rob_linear.specs.Systems.{IsSolution}
 use Rattle.rob_linear.specs.Programs.{Program, Keeps, system_of, IsDual}
 use Rattle.rob_algebra.specs.Integer.{zero-mul, mul-neg}
-use Rattle.rob_algebra.specs.IntegerOrder.{mul_cancel_le, mul_le_mul}
 use Rattle.rob_linear.proofs.Endings.{move_is_ray}
 use Rattle.rob_linear.proofs.Programs.{value_of, keeps_from_solution}
 use Rattle.rob_linear.proofs.Truths.{optimal_duals}

@@ -8,7 +8,7 @@ use Rattle.rob_linear.specs.Systems.{IsBasis, IsSolution, Feasible, Point}
 use Rattle.rob_linear.specs.Programs.{Program, Admits, Keeps, system_of, ShowsEmpty}
 use Rattle.rob_algebra.specs.Integer.{ring, zero-mul, *ℤ_comm, mul-neg}
 use Rattle.rob_linear.proofs.Sums.{sum_ext, sum_neg, sum_mono}
-use Rattle.rob_algebra.specs.IntegerOrder.{mul_le_mul, mul-pos_z}
+use Rattle.rob_algebra.specs.IntegerOrder.{mul_le_mul}
 use Rattle.rob_linear.proofs.Endings.{point_is_solution}
 use Rattle.rob_linear.proofs.Programs.{admits_from_solution}
 use Rattle.rob_linear.proofs.Truths.{infeasible}

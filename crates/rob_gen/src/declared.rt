@@ -21,7 +21,8 @@ fn demand<N: Exact, L: Ledger>(
 ) -> Result<Param<N>, Memory>
     requires limit { 14 ≤ N.limit }
     requires place { place < 5 }
-    ensures made { IfOk result (λ p. parameter_of N.value p ≡ defined.demand (defined.centre n) place) }
+    ensures made { IfOk result (λ p. parameter_of N.value p
+        ≡ defined.demand (defined.centre n) place) }
     ensures counted { CountsOnly L.ops L.wides ledger.old ledger.new }
 {
     let middle = centre(n, place + 1);
@@ -165,7 +166,8 @@ pub fn later_orders<N: Exact, L: Ledger>(
 ) -> Result<List<Adaptive<N>>, Memory>
     requires limit { 14 ≤ N.limit }
     requires count { count ≤ 4 }
-    ensures made { IfOk result (λ ys. map (adaptive_of N.value) ys ≡ tabulate count defined.later_order) }
+    ensures made { IfOk result (λ ys. map (adaptive_of N.value) ys
+        ≡ tabulate count defined.later_order) }
     ensures counted { CountsOnly L.ops L.wides ledger.old ledger.new }
 {
     let mut list = List::new(alloc);

@@ -25,7 +25,8 @@ fn order<N: Exact>(place: u32) -> Expr<N>
 /// Appends the orders of the first places.
 fn add_orders<N: Exact>(terms: &mut List<Term<N>>, count: u32) -> Result<(), Memory>
     ensures made { OnOk result (map (signed_of N.value) terms.new
-        ≡ map (signed_of N.value) terms.old ++ tabulate count (λ place. added (defined.order place))) }
+        ≡ map (signed_of N.value) terms.old ++ tabulate count
+        (λ place. added (defined.order place))) }
 {
     for place in 0..count {
         terms.push(Term {
@@ -89,7 +90,8 @@ fn stock<N: Exact>(alloc: Global, count: u32) -> Result<Expr<N>, Memory>
 /// Appends the stock behind each of the first periods.
 fn add_stocks<N: Exact>(alloc: Global, terms: &mut List<Term<N>>, count: u32) -> Result<(), Memory>
     ensures made { OnOk result (map (signed_of N.value) terms.new
-        ≡ map (signed_of N.value) terms.old ++ tabulate count (λ place. added (defined.stock (suc place)))) }
+        ≡ map (signed_of N.value) terms.old ++ tabulate count
+        (λ place. added (defined.stock (suc place)))) }
 {
     for place in 0..count {
         let inner = stock(alloc, place + 1)?;

@@ -8,7 +8,7 @@ use Rattle.std.specs.Int.RustNames.{unsigned_abs}
 use lib.IntN.{ℤ, pos, negsuc, ◌-ℤ◌, ◌*ℤ◌}
 use lib.Signed.{◌<ℤ◌}
 use Rattle.rob_algebra.specs.Integer.{ring, *ℤ_comm, zero-mul, mul-zero, one-mul}
-use Rattle.rob_algebra.specs.IntegerOrder.{mul_cancel, mul_cancel_zero, mul_cancel_lt, mul_cancel_nonneg, mul-pos_z, mul_nonneg}
+use Rattle.rob_algebra.specs.IntegerOrder.{mul_cancel, mul_cancel_zero, mul_cancel_lt, mul-pos_z}
 use Rattle.rob_linear.specs.Vectors.{sum_to}
 use Rattle.rob_linear.specs.Systems.{System, IsTagged, objective, right, IsSpanned, IsPrimitive, IsCombined, LiesAlong, IsBasis}
 use Rattle.rob_linear.specs.Turns.{IsExchange, Enters, Leaves, Rises, own_of, StandsWith, TurnsTo}

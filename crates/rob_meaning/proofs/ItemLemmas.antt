@@ -7,7 +7,7 @@ use Rattle.rob_algebra.specs.FractionOrderLaws.{le_refl_ℚ, le_total_ℚ, le_an
 use Rattle.rob_algebra.specs.FractionLaws.{ℚ_ring}
 use Rattle.rob_algebra.specs.Lists.{dot, scale, plus_all, zeros, mat_vec, Rows, dot-zeros, dot-vec_mat, length-scale, length-zeros, length-vec_mat}
 use Rattle.rob_algebra.specs.RingSolver as Solver
-use Rattle.rob_algebra.specs.Polynomials.{lit, minus, ◌:+◌, ◌:-◌, ◌:*◌, v0, v1, v2, v3, v4, v5}
+use Rattle.rob_algebra.specs.Polynomials.{lit, ◌:+◌, ◌:-◌, ◌:*◌, v0, v1, v2}
 use Rattle.rob_meaning.proofs.AtLemmas.{sum_at-plus, sum_at-scale}
 use Rattle.rob_meaning.proofs.ClearingLemmas.{dot-append}
 use Rattle.rob_meaning.proofs.ConeLemmas.{along_ray}

@@ -7,7 +7,6 @@ use Rattle.rob_meaning.specs.Expressions.{Expression}
 use Rattle.rob_meaning.specs.Forms.{sides}
 use Rattle.rob_meaning.specs.Places.{Each, EachFrom}
 use Rattle.rob_meaning.specs.RobustModel.{Member, Parameter, RobustModel, SetLine, budget, joint_number, line, line_set, written_count}
-use Rattle.rob_algebra.specs.Polynomials.{lit, minus, ◌:+◌, ◌:*◌, v0}
 use Rattle.rob_meaning.specs.SetConditions.{if_declared}
 use Rattle.rob_meaning.specs.SetRows.{SetRow, bound_row_sets, bound_rows, budget_row, expression_row, lower_row, member_row_sets, member_rows, set_of_parameter, set_row_sets, set_rows, statement_row_sets, statement_rows, upper_row}
 use Rattle.rob_meaning.proofs.EachLemmas.{each_all}

@@ -9,7 +9,34 @@ use Rattle.rob_meaning.specs.Forms.{adaptive_forms, bound_forms, forms, row_form
 use Rattle.rob_meaning.specs.RobustModel.{AdaptiveVariable, Parameter, Relation, RobustModel, Row, SetLine, Variable, at_least, at_most, budget, equal, in_set, joint_parameters, line}
 use Rattle.rob_meaning.specs.SetConditions.{if_declared}
 use Rattle.rob_meaning.specs.SetRows.{bound_rows, budget_row, expression_row, lower_row, member_rows, set_rows, statement_rows, upper_row}
-use Rattle.rob_meaning.specs.Sizes.{adaptive_bounds, declared_count, inequalities, parameter_bounds, row_inequalities, rows_of, variable_bounds}
+use Rattle.rob_meaning.specs.Sizes.{adaptive_bounds, declared_count, variable_bounds}
+
+-- ---- words for the counts of set rows and of forms
+-- the declared bounds of parameters
+abbrev pub parameter_bounds : List Parameter → ℕ
+parameter_bounds [] = 0
+parameter_bounds (p ∷ ps) = declared_count p.lower p.upper + parameter_bounds ps
+
+-- how many inequalities a relation is
+abbrev pub inequalities : Relation → ℕ
+inequalities at_most = 1
+inequalities at_least = 1
+inequalities equal = 2
+
+-- the inequalities of rows
+abbrev pub row_inequalities : List Row → ℕ
+row_inequalities [] = 0
+row_inequalities (r ∷ rs) = inequalities r.relation + row_inequalities rs
+
+-- the set rows of a statement: one or two for a line, and for a budget one and two for each member
+abbrev pub line_rows : SetLine → ℕ
+line_rows (line left relation right) = inequalities relation
+line_rows (budget limit members) = 1 + 2 * length members
+
+-- the set rows of statements
+abbrev pub rows_of : List SetLine → ℕ
+rows_of [] = 0
+rows_of (c ∷ cs) = line_rows c + rows_of cs
 
 -- ---- what stands for declared bounds
 pub length-declared : {A : Type 0} (f : Fraction → A) (o : Option Fraction)

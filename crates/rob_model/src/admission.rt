@@ -51,7 +51,8 @@ pub fn first_broken<N: Exact, L: Ledger>(
     // Condition by condition up to the first that fails; refused exactly where a number on the way is wide.
     ensures exact { result_ok result ≡ first_broken_within N.limit (robust N.value model.now)
         (N.value base) (map N.value vector.now) }
-    ensures first { IfOk result (IsFirstBroken (robust N.value model.now) (N.value base) (map N.value vector.now)) }
+    ensures first { IfOk result (IsFirstBroken (robust N.value model.now) (N.value base)
+        (map N.value vector.now)) }
     ensures counted { CountsTold L.ops L.wides ledger.old ledger.new result }
 {
     search(model, base, vector, ledger)

@@ -44,7 +44,8 @@ pub fn broken_bound<N: Exact, L: Ledger>(
 /// The number of declared bounds of parameters.
 pub fn bound_count<N: Exact>(params: &[Param<N>]) -> u32
     requires few { length params.now ≤ most_parameters }
-    ensures count { result ≡ length (parameter_bound_names (map (parameter_of N.value) params.now)) }
+    ensures count { result ≡ length
+        (parameter_bound_names (map (parameter_of N.value) params.now)) }
     ensures small { result ≤ 2 * length params.now }
 {
     let mut count = 0u32;

@@ -120,7 +120,8 @@ fn row_count<N: Exact>(line: &SetLine<N>) -> u32
 /// The number of set columns of a statement.
 fn lift_count<N: Exact>(line: &SetLine<N>) -> u32
     requires few { member_count (set_line_of N.value line.now) ≤ 5000 }
-    ensures count { (ps : List Parameter) (n : ℕ) → result ≡ length (lift_names ps n (set_line_of N.value line.now)) }
+    ensures count { (ps : List Parameter) (n : ℕ)
+        → result ≡ length (lift_names ps n (set_line_of N.value line.now)) }
 {
     match line {
         SetLine::Line { .. } => 0,
@@ -204,7 +205,8 @@ fn side_name(name: &[u8], rel: Rel, index: u32) -> Spelling<'_>
 /// The half of an equality; none of another comparison.
 fn half_of(rel: Rel, index: u32) -> Option<&'static [u8]>
     ensures half { (name : List ℕ) → index < length (side_names (relation_of rel) name)
-        → slice_get (side_names (relation_of rel) name) index ≡ Some (name ++ tail_of (option_copied result)) }
+        → slice_get (side_names (relation_of rel) name) index
+        ≡ Some (name ++ tail_of (option_copied result)) }
 {
     match rel {
         Rel::AtMost => None,
@@ -222,7 +224,8 @@ fn bound_name<'a, N: Exact>(
 ) -> Spelling<'a>
     requires inside { index < length (bound_names name.now (option_map N.value lower.now)
         (option_map N.value upper.now)) }
-    ensures name { slice_get (bound_names name.now (option_map N.value lower.now) (option_map N.value upper.now)) index
+    ensures name { slice_get (bound_names name.now (option_map N.value lower.now)
+        (option_map N.value upper.now)) index
         ≡ Some (name_of result) }
 {
     match lower {
@@ -239,7 +242,8 @@ fn rule_name<'a, N: Exact>(
 ) -> Spelling<'a>
     requires inside { index < length (rule_names (map (parameter_of N.value) params.now)
         (adaptive_of N.value rule.now)) }
-    ensures name { slice_get (rule_names (map (parameter_of N.value) params.now) (adaptive_of N.value rule.now)) index
+    ensures name { slice_get (rule_names (map (parameter_of N.value) params.now)
+        (adaptive_of N.value rule.now)) index
         ≡ Some (name_of result) }
 {
     if index == 0 {
@@ -257,7 +261,8 @@ fn row_name<'a, N: Exact>(
     index: u32,
 ) -> Spelling<'a>
     requires few { member_count (set_line_of N.value line.now) ≤ 5000 }
-    requires inside { index < length (statement_row_names (map (parameter_of N.value) params.now) number
+    requires inside { index < length
+        (statement_row_names (map (parameter_of N.value) params.now) number
         (set_line_of N.value line.now)) }
     ensures name { slice_get (statement_row_names (map (parameter_of N.value) params.now) number
         (set_line_of N.value line.now)) index
@@ -271,9 +276,10 @@ fn row_name<'a, N: Exact>(
 
 /// The name of a set row of a linear condition.
 fn line_row_name(rel: Rel, number: u32, index: u32) -> Spelling<'static>
-    requires inside { index < length (side_names (relation_of rel) (numbered_name (codes "set") number)) }
-    ensures name { slice_get (side_names (relation_of rel) (numbered_name (codes "set") number)) index
-        ≡ Some (name_of result) }
+    requires inside { index < length
+        (side_names (relation_of rel) (numbered_name (codes "set") number)) }
+    ensures name { slice_get (side_names (relation_of rel) (numbered_name (codes "set") number))
+        index ≡ Some (name_of result) }
 {
     Spelling {
         first: b"set",
@@ -292,7 +298,8 @@ fn budget_row_name<'a, N: Exact>(
 ) -> Spelling<'a>
     requires few { length members.now ≤ 5000 }
     requires inside { index < 2 * length members.now + 1 }
-    ensures name { (limit : Fraction) → slice_get (statement_row_names (map (parameter_of N.value) params.now) number
+    ensures name { (limit : Fraction)
+        → slice_get (statement_row_names (map (parameter_of N.value) params.now) number
         (budget limit (map (member_of N.value) members.now))) index ≡ Some (name_of result) }
 {
     let place = index as usize / 2;

@@ -32,7 +32,8 @@ pub fn group_count<N: Exact>(model: &Model<N>, kind: Kind) -> usize
 pub fn group_at<'a, N: Exact>(model: &'a Model<N>, kind: Kind, i: usize) -> Group<'a, N>
     requires valid { IsValid N.value model.now }
     requires inside { i < length (groups kind (robust N.value model.now)) }
-    ensures group { slice_get (groups kind (robust N.value model.now)) i ≡ Some (names_in N.value result) }
+    ensures group { slice_get (groups kind (robust N.value model.now)) i
+        ≡ Some (names_in N.value result) }
 {
     match kind {
         Kind::Form => form_group(model, i),
@@ -46,7 +47,8 @@ pub fn group_at<'a, N: Exact>(model: &'a Model<N>, kind: Kind, i: usize) -> Grou
 /// The forms: the objective, the rows, and the bounds.
 fn form_group<'a, N: Exact>(model: &'a Model<N>, i: usize) -> Group<'a, N>
     requires inside { i < length (groups Form (robust N.value model.now)) }
-    ensures group { slice_get (groups Form (robust N.value model.now)) i ≡ Some (names_in N.value result) }
+    ensures group { slice_get (groups Form (robust N.value model.now)) i
+        ≡ Some (names_in N.value result) }
 {
     if i == 0 {
         Group::Single(b"objective")
@@ -93,7 +95,8 @@ fn bound_group<'a, N: Exact>(model: &'a Model<N>, i: usize) -> Group<'a, N>
 /// The decision columns: the variables, and the columns of the adaptive variables.
 fn column_group<'a, N: Exact>(model: &'a Model<N>, i: usize) -> Group<'a, N>
     requires inside { i < length (groups Column (robust N.value model.now)) }
-    ensures group { slice_get (groups Column (robust N.value model.now)) i ≡ Some (names_in N.value result) }
+    ensures group { slice_get (groups Column (robust N.value model.now)) i
+        ≡ Some (names_in N.value result) }
 {
     let vars = model.vars.items();
     if i < vars.len() {
@@ -110,7 +113,8 @@ fn column_group<'a, N: Exact>(model: &'a Model<N>, i: usize) -> Group<'a, N>
 fn set_row_group<'a, N: Exact>(model: &'a Model<N>, i: usize) -> Group<'a, N>
     requires valid { IsValid N.value model.now }
     requires inside { i < length (groups SetRow (robust N.value model.now)) }
-    ensures group { slice_get (groups SetRow (robust N.value model.now)) i ≡ Some (names_in N.value result) }
+    ensures group { slice_get (groups SetRow (robust N.value model.now)) i
+        ≡ Some (names_in N.value result) }
 {
     let params = model.params.items();
     if i < params.len() {
@@ -126,7 +130,8 @@ fn set_row_group<'a, N: Exact>(model: &'a Model<N>, i: usize) -> Group<'a, N>
 fn set_place_group<'a, N: Exact>(model: &'a Model<N>, i: usize) -> Group<'a, N>
     requires valid { IsValid N.value model.now }
     requires inside { i < length (groups SetPlace (robust N.value model.now)) }
-    ensures group { slice_get (groups SetPlace (robust N.value model.now)) i ≡ Some (names_in N.value result) }
+    ensures group { slice_get (groups SetPlace (robust N.value model.now)) i
+        ≡ Some (names_in N.value result) }
 {
     let params = model.params.items();
     if i < params.len() {
@@ -141,10 +146,11 @@ fn set_place_group<'a, N: Exact>(model: &'a Model<N>, i: usize) -> Group<'a, N>
 fn condition_group<'a, N: Exact>(model: &'a Model<N>, i: usize) -> Group<'a, N>
     requires valid { IsValid N.value model.now }
     requires inside { i < length (condition_groups (robust N.value model.now)
-        ++ (parameter_groups (robust N.value model.now) ++ lift_groups (robust N.value model.now))) }
+        ++ (parameter_groups (robust N.value model.now) ++ lift_groups
+        (robust N.value model.now))) }
     ensures group { slice_get (condition_groups (robust N.value model.now)
-        ++ (parameter_groups (robust N.value model.now) ++ lift_groups (robust N.value model.now))) i
-        ≡ Some (names_in N.value result) }
+        ++ (parameter_groups (robust N.value model.now) ++ lift_groups (robust N.value model.now)))
+        i ≡ Some (names_in N.value result) }
 {
     let lines = model.set_lines.items();
     if i < lines.len() {
@@ -159,7 +165,8 @@ fn set_column_group<'a, N: Exact>(model: &'a Model<N>, i: usize) -> Group<'a, N>
     requires valid { IsValid N.value model.now }
     requires inside { i < length (parameter_groups (robust N.value model.now)
         ++ lift_groups (robust N.value model.now)) }
-    ensures group { slice_get (parameter_groups (robust N.value model.now) ++ lift_groups (robust N.value model.now)) i
+    ensures group { slice_get (parameter_groups (robust N.value model.now) ++ lift_groups
+        (robust N.value model.now)) i
         ≡ Some (names_in N.value result) }
 {
     let params = model.params.items();
@@ -174,7 +181,8 @@ fn set_column_group<'a, N: Exact>(model: &'a Model<N>, i: usize) -> Group<'a, N>
 /// The parameters.
 fn parameter_group<'a, N: Exact>(model: &'a Model<N>, i: usize) -> Group<'a, N>
     requires inside { i < length (groups Parameters (robust N.value model.now)) }
-    ensures group { slice_get (groups Parameters (robust N.value model.now)) i ≡ Some (names_in N.value result) }
+    ensures group { slice_get (groups Parameters (robust N.value model.now)) i
+        ≡ Some (names_in N.value result) }
 {
     Group::Single(model.params.items()[i].name.bytes())
 }

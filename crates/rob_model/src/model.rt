@@ -35,13 +35,25 @@ pub struct Var<N> {
 }
 
 /// An adjustable variable with an affine decision rule: a constant, and a coefficient for each parameter of `on`.
-#[derive(Debug, Drop)]
+#[derive(Debug)]
 pub struct Adaptive<N> {
     pub name: Text,
     /// The numbers of the written parameters that the rule may use.
     pub on: List<u32>,
     pub lower: Option<N>,
     pub upper: Option<N>,
+}
+
+impl<N: Drop> Drop for Adaptive<N> {
+    /// Lets go of it in one call. A derived drop would stand in each function that does.
+    fn drop(self) {
+        let Adaptive {
+            name: _name,
+            on: _on,
+            lower: _lower,
+            upper: _upper,
+        } = self;
+    }
 }
 
 /// A member of a budget of uncertainty.
@@ -72,7 +84,7 @@ pub enum SetLine<N> {
 }
 
 /// A robust constraint, kept in every scenario of its set.
-#[derive(Debug, Drop)]
+#[derive(Debug)]
 pub struct RowDef<N> {
     pub name: Text,
     pub left: Expr<N>,
@@ -80,8 +92,20 @@ pub struct RowDef<N> {
     pub right: Expr<N>,
 }
 
+impl<N: Drop> Drop for RowDef<N> {
+    /// Lets go of it in one call. A derived drop would stand in each function that does.
+    fn drop(self) {
+        let RowDef {
+            name: _name,
+            left: _left,
+            rel: _rel,
+            right: _right,
+        } = self;
+    }
+}
+
 /// A robust linear model with affine decision rules and fixed recourse.
-#[derive(Debug, Drop)]
+#[derive(Debug)]
 pub struct Model<N> {
     /// The joint parameters: those of the default set, then those of each named set.
     pub params: List<Param<N>>,
@@ -98,4 +122,23 @@ pub struct Model<N> {
     pub rows: List<RowDef<N>>,
     /// The set of each row.
     pub row_sets: List<u32>,
+}
+
+impl<N: Drop> Drop for Model<N> {
+    /// Lets go of it in one call. A derived drop would stand in each function that does.
+    fn drop(self) {
+        let Model {
+            params: _params,
+            sets: _sets,
+            set_lines: _set_lines,
+            line_sets: _line_sets,
+            vars: _vars,
+            adaptives: _adaptives,
+            sense: _sense,
+            objective: _objective,
+            objective_set: _objective_set,
+            rows: _rows,
+            row_sets: _row_sets,
+        } = self;
+    }
 }

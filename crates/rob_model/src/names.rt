@@ -97,7 +97,8 @@ pub fn find_param<N: Exact>(model: &Model<N>, name: &[u8]) -> Option<u32>
 pub fn put_form_name<N: Exact>(model: &Model<N>, index: u32, out: &mut Text) -> Result<(), Memory>
     requires valid { IsValid N.value model.now }
     requires inside { index < length (form_names (robust N.value model.now)) }
-    ensures appended { OnOk result (AppendsName (form_names (robust N.value model.now)) index out.old out.new) }
+    ensures appended { OnOk result (AppendsName
+        (form_names (robust N.value model.now)) index out.old out.new) }
     ensures unchanged { OnErr result (out.new ≡ out.old) }
 {
     put(model, Kind::Form, index, out)
@@ -107,7 +108,8 @@ pub fn put_form_name<N: Exact>(model: &Model<N>, index: u32, out: &mut Text) -> 
 pub fn put_column_name<N: Exact>(model: &Model<N>, index: u32, out: &mut Text) -> Result<(), Memory>
     requires valid { IsValid N.value model.now }
     requires inside { index < length (column_names (robust N.value model.now)) }
-    ensures appended { OnOk result (AppendsName (column_names (robust N.value model.now)) index out.old out.new) }
+    ensures appended { OnOk result (AppendsName
+        (column_names (robust N.value model.now)) index out.old out.new) }
     ensures unchanged { OnErr result (out.new ≡ out.old) }
 {
     put(model, Kind::Column, index, out)
@@ -121,7 +123,8 @@ pub fn put_set_row_name<N: Exact>(
 ) -> Result<(), Memory>
     requires valid { IsValid N.value model.now }
     requires inside { index < length (set_row_names (robust N.value model.now)) }
-    ensures appended { OnOk result (AppendsName (set_row_names (robust N.value model.now)) index out.old out.new) }
+    ensures appended { OnOk result (AppendsName
+        (set_row_names (robust N.value model.now)) index out.old out.new) }
     ensures unchanged { OnErr result (out.new ≡ out.old) }
 {
     put(model, Kind::SetRow, index, out)
@@ -135,7 +138,8 @@ pub fn put_set_place_name<N: Exact>(
 ) -> Result<(), Memory>
     requires valid { IsValid N.value model.now }
     requires inside { index < length (set_place_names (robust N.value model.now)) }
-    ensures appended { OnOk result (AppendsName (set_place_names (robust N.value model.now)) index out.old out.new) }
+    ensures appended { OnOk result (AppendsName
+        (set_place_names (robust N.value model.now)) index out.old out.new) }
     ensures unchanged { OnErr result (out.new ≡ out.old) }
 {
     put(model, Kind::SetPlace, index, out)
@@ -174,7 +178,8 @@ fn find<N: Exact>(model: &Model<N>, kind: Kind, name: &[u8]) -> Option<u32>
 fn put<N: Exact>(model: &Model<N>, kind: Kind, index: u32, out: &mut Text) -> Result<(), Memory>
     requires valid { IsValid N.value model.now }
     requires inside { index < length (names kind (robust N.value model.now)) }
-    ensures appended { OnOk result (AppendsName (names kind (robust N.value model.now)) index out.old out.new) }
+    ensures appended { OnOk result (AppendsName
+        (names kind (robust N.value model.now)) index out.old out.new) }
     ensures unchanged { OnErr result (out.new ≡ out.old) }
 {
     let mut left = index;

@@ -121,7 +121,8 @@ fn rule<N: Exact, L: Ledger>(
     ledger: &mut L,
 ) -> Result<N, Wide>
     requires few { column + 1 + length on.now ≤ most_columns }
-    ensures exact { answer N.value result ≡ rule_within N.limit (map N.value columns.now) (map N.value values.now)
+    ensures exact { answer N.value result
+        ≡ rule_within N.limit (map N.value columns.now) (map N.value values.now)
         on.now (column + 1) (at (map N.value columns.now) column) }
     ensures counted { CountsTold L.ops L.wides ledger.old ledger.new result }
 {

@@ -30,7 +30,8 @@ impl Spelling<'_> {
 
     /// What stands behind the name at the front of a text.
     fn behind<'t>(&self, text: &'t [u8]) -> Option<&'t [u8]>
-        ensures found { MatchOption result ((rest : List ℕ) → text.now ≡ name_of self.now ++ rest → ⊥)
+        ensures found { MatchOption result
+            ((rest : List ℕ) → text.now ≡ name_of self.now ++ rest → ⊥)
             (λ rest. text.now ≡ name_of self.now ++ rest.now) }
     {
         let rest = strip(text, self.first)?;
@@ -76,7 +77,8 @@ fn strip<'t>(text: &'t [u8], piece: &[u8]) -> Option<&'t [u8]>
 
 /// The same for a dot and a part, where there is one.
 fn strip_part<'t>(text: &'t [u8], part: Option<&[u8]>) -> Option<&'t [u8]>
-    ensures found { MatchOption result ((rest : List ℕ) → text.now ≡ tail_of (option_copied part.entry) ++ rest → ⊥)
+    ensures found { MatchOption result
+        ((rest : List ℕ) → text.now ≡ tail_of (option_copied part.entry) ++ rest → ⊥)
         (λ rest. text.now ≡ tail_of (option_copied part.entry) ++ rest.now) }
 {
     match part {

@@ -27,11 +27,12 @@ pub fn broken_statement<N: Exact, L: Ledger>(
     vector: &[N],
     ledger: &mut L,
 ) -> Result<Option<u32>, Wide>
-    requires lines { Each (IsSetLine (robust N.value model.now)) (map (set_line_of N.value) model.now.set_lines) }
+    requires lines { Each (IsSetLine (robust N.value model.now))
+        (map (set_line_of N.value) model.now.set_lines) }
     requires few { column_count (robust N.value model.now) ≤ most_columns }
     requires small { first + length model.now.set_lines ≤ 1000 }
-    ensures exact { result_ok result ≡ first_within N.limit (robust N.value model.now) (N.value base)
-        (map N.value vector.now)
+    ensures exact { result_ok result
+        ≡ first_within N.limit (robust N.value model.now) (N.value base) (map N.value vector.now)
         (all_stated (map (set_line_of N.value) model.now.set_lines)) first }
     ensures counted { CountsTold L.ops L.wides ledger.old ledger.new result }
 {
@@ -55,8 +56,8 @@ pub fn holds<N: Exact, L: Ledger>(
 ) -> Result<bool, Wide>
     requires line { IsSetLine (robust N.value model.now) (set_line_of N.value line.now) }
     requires few { column_count (robust N.value model.now) ≤ most_columns }
-    ensures exact { result_ok result ≡ holds_within N.limit (robust N.value model.now) (N.value base)
-        (map N.value vector.now)
+    ensures exact { result_ok result
+        ≡ holds_within N.limit (robust N.value model.now) (N.value base) (map N.value vector.now)
         (stated (set_line_of N.value line.now)) }
     ensures counted { CountsTold L.ops L.wides ledger.old ledger.new result }
 {

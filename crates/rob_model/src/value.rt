@@ -33,9 +33,11 @@ pub fn value_at<N: Exact, L: Ledger>(
     requires inside { IsInside (robust N.value model.now) (expression_of N.value e.now) }
     // A sum and a product prefix by prefix from the left; refused exactly where a number on the way is wide.
     ensures exact { answer N.value result ≡ value_within N.limit (robust N.value model.now)
-        (plan_of N.value plan.now) (scenario_of N.value scenario.now) (expression_of N.value e.now) }
+        (plan_of N.value plan.now) (scenario_of N.value scenario.now)
+        (expression_of N.value e.now) }
     ensures value { IfOk result (λ x. N.value x ≡ value_of (robust N.value model.now)
-        (plan_of N.value plan.now) (scenario_of N.value scenario.now) (expression_of N.value e.now)) }
+        (plan_of N.value plan.now) (scenario_of N.value scenario.now)
+        (expression_of N.value e.now)) }
     ensures counted { CountsTold L.ops L.wides ledger.old ledger.new result }
 {
     evaluate(
@@ -82,10 +84,12 @@ fn sum<N: Exact, L: Ledger>(
     values: &[N],
     ledger: &mut L,
 ) -> Result<N, Wide>
-    requires inside { TermsInside (robust N.value model.now) (terms_of (map (signed_of N.value) terms.now)) }
+    requires inside { TermsInside (robust N.value model.now)
+        (terms_of (map (signed_of N.value) terms.now)) }
     requires few { column_count (robust N.value model.now) ≤ most_columns }
     ensures exact { answer N.value result ≡ sum_within N.limit (robust N.value model.now)
-        (map N.value columns.now) (map N.value values.now) (terms_of (map (signed_of N.value) terms.now)) 0ℚ }
+        (map N.value columns.now) (map N.value values.now)
+        (terms_of (map (signed_of N.value) terms.now)) 0ℚ }
     ensures counted { CountsTold L.ops L.wides ledger.old ledger.new result }
 {
     let mut so_far = zero(ledger);
@@ -105,10 +109,12 @@ fn product<N: Exact, L: Ledger>(
     values: &[N],
     ledger: &mut L,
 ) -> Result<N, Wide>
-    requires inside { FactorsInside (robust N.value model.now) (factors_of (map (expression_of N.value) factors.now)) }
+    requires inside { FactorsInside (robust N.value model.now)
+        (factors_of (map (expression_of N.value) factors.now)) }
     requires few { column_count (robust N.value model.now) ≤ most_columns }
     ensures exact { answer N.value result ≡ product_within N.limit (robust N.value model.now)
-        (map N.value columns.now) (map N.value values.now) (factors_of (map (expression_of N.value) factors.now)) 1ℚ }
+        (map N.value columns.now) (map N.value values.now)
+        (factors_of (map (expression_of N.value) factors.now)) 1ℚ }
     ensures counted { CountsTold L.ops L.wides ledger.old ledger.new result }
 {
     let mut so_far: N = one(ledger);
@@ -121,7 +127,8 @@ fn product<N: Exact, L: Ledger>(
 
 /// A sum so far, plus or minus a part.
 fn joined<N: Exact, L: Ledger>(so_far: N, minus: bool, part: N, ledger: &mut L) -> Result<N, Wide>
-    ensures exact { answer N.value result ≡ kept N.limit (plus_or_minus minus (N.value so_far) (N.value part)) }
+    ensures exact { answer N.value result
+        ≡ kept N.limit (plus_or_minus minus (N.value so_far) (N.value part)) }
     ensures counted { CountsTold L.ops L.wides ledger.old ledger.new result }
 {
     if minus {

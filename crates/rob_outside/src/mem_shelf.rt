@@ -12,7 +12,6 @@ use std::alloc::Global;
 use std::marker::Model;
 
 /// Files in memory, and the numbers of the fetches that fail.
-#[derive(Drop)]
 pub struct MemShelf {
     alloc: Global,
     files: List<StoredFile>,
@@ -20,6 +19,20 @@ pub struct MemShelf {
     calls: u64,
     log: FetchNote,
     faults: u64,
+}
+
+impl Drop for MemShelf {
+    /// Lets go of it in one call. A derived drop would stand in each function that does.
+    fn drop(self) {
+        let MemShelf {
+            alloc: _alloc,
+            files: _files,
+            failing: _failing,
+            calls: _calls,
+            log: _log,
+            faults: _faults,
+        } = self;
+    }
 }
 
 impl Model for MemShelf {
@@ -54,7 +67,8 @@ impl MemShelf {
     /// Adds a file. It hides behind an earlier one of the same name.
     pub fn add(&mut self, name: &str, bytes: &[u8]) -> Result<(), Memory>
         ensures added { OnOk result
-            (self.new ≡ record self.old { files = self.old.files ++ file_of name.now bytes.now ∷ [] }) }
+            (self.new
+            ≡ record self.old { files = self.old.files ++ file_of name.now bytes.now ∷ [] }) }
         ensures unchanged { OnErr result (self.new ≡ self.old) }
     {
         store(self.alloc, &mut self.files, name, bytes)

@@ -28,7 +28,6 @@ impl Model for FailingPut {
 }
 
 /// Output kept in memory, up to a fixed number of bytes.
-#[derive(Drop)]
 pub struct MemSink {
     room: usize,
     failing: List<FailingPut>,
@@ -36,6 +35,20 @@ pub struct MemSink {
     calls: u64,
     puts: PutNote,
     faults: u64,
+}
+
+impl Drop for MemSink {
+    /// Lets go of it in one call. A derived drop would stand in each function that does.
+    fn drop(self) {
+        let MemSink {
+            room: _room,
+            failing: _failing,
+            bytes: _bytes,
+            calls: _calls,
+            puts: _puts,
+            faults: _faults,
+        } = self;
+    }
 }
 
 impl Model for MemSink {

@@ -80,7 +80,8 @@ fn write_whole<W: Write>(writer: &mut W, piece: &[u8], taken: &mut WriteNote) ->
     // The bytes that are noted: the piece, or at an error a prefix of it,
     ensures noted { Takes taken.old.bytes taken.new.bytes piece.now result }
     // and they are those that came behind the writer's bytes.
-    ensures same { TookBoth (W.contents writer.old) (W.contents writer.new) taken.old.bytes taken.new.bytes }
+    ensures same { TookBoth (W.contents writer.old)
+        (W.contents writer.new) taken.old.bytes taken.new.bytes }
     ensures fault { IfErr result (λ error. error ≡ SinkErr.Failed) }
 {
     let mut rest = piece;

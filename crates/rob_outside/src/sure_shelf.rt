@@ -44,7 +44,8 @@ impl SureShelf {
     /// Adds a file. It hides behind an earlier one of the same name.
     pub fn add(&mut self, name: &str, bytes: &[u8]) -> Result<(), Memory>
         ensures added { OnOk result
-            (self.new ≡ record self.old { files = self.old.files ++ file_of name.now bytes.now ∷ [] }) }
+            (self.new
+            ≡ record self.old { files = self.old.files ++ file_of name.now bytes.now ∷ [] }) }
         ensures unchanged { OnErr result (self.new ≡ self.old) }
     {
         store(self.alloc, &mut self.files, name, bytes)
@@ -61,7 +62,8 @@ impl Shelf for SureShelf {
     fn fetch(&mut self, alloc: Global, name: &str, max: usize) -> Result<Fetched, ShelfErr>
         ensures found { Finds (Some self.old.files) name.now max result }
         ensures within { IfOk result (IsAtMost max) }
-        ensures after { self.new ≡ record self.old { log = self.old.log ++ logged name.now max result } }
+        ensures after { self.new
+            ≡ record self.old { log = self.old.log ++ logged name.now max result } }
         // Want of memory is the only error.
         ensures memory { IfErr result (λ error. error ≡ ShelfErr.Memory) }
     {

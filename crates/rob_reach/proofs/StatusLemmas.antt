@@ -3,7 +3,6 @@ use Rattle.std.specs.Prelude.{◌≡◌, ℕ, List}
 use Rattle.rob_algebra.specs.Fraction.{Fraction}
 use Rattle.rob_meaning.specs.Places.{0ℚ}
 use Rattle.rob_meaning.specs.RobustModel.{RobustModel}
-use Rattle.rob_algebra.specs.Polynomials.{lit, ◌:+◌, ◌:-◌, v0}
 use Rattle.rob_reach.specs.WholeStatus.{IsWholeOptimal, IsWholeInfeasible, IsWholeUnbounded}
 use Rattle.rob_meaning.proofs.StatusLemmas.{no_worse_both, better, not_better}
 

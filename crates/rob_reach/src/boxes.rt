@@ -24,7 +24,8 @@ pub fn box_laws()
     // A plan with whole numbers that has a bound has it in one of the two boxes of a branch.
     ensures split { (m : RobustModel) (names : List ℕ) (j : ℕ) (k : ℤ) (plan : List Fraction)
         (tau : Fraction) → IsIn j names → WholeBound m names plan tau
-        → WholeBound (box_below m j k) names plan tau ⊎ WholeBound (box_above m j k) names plan tau }
+        → WholeBound (box_below m j k) names plan tau
+        ⊎ WholeBound (box_above m j k) names plan tau }
 {}
 
 /// Texts about a box speak of the model's parts.

@@ -18,10 +18,10 @@ ghost use Rattle.std.specs.Prelude.{◌≡◌, ◌+◌, ◌<◌, ◌≤◌, ℕ,
 pub fn branching_laws()
     // A search branches on the first named variable whose number isn't whole, at that number's
     // floor, where the certificate is optimal or unbounded.
-    ensures first { (m : RobustModel) (names : List ℕ) (s : Search) (c : Certificate) (j : ℕ) (k : ℤ)
-        → Decides m names s c (branches j k) → first_broken names c.plan ≡ Some j }
-    ensures allowed { (m : RobustModel) (names : List ℕ) (s : Search) (c : Certificate) (j : ℕ) (k : ℤ)
-        → Decides m names s c (branches j k) → AllowsBranch m names c j k }
+    ensures first { (m : RobustModel) (names : List ℕ) (s : Search) (c : Certificate) (j : ℕ)
+        (k : ℤ) → Decides m names s c (branches j k) → first_broken names c.plan ≡ Some j }
+    ensures allowed { (m : RobustModel) (names : List ℕ) (s : Search) (c : Certificate) (j : ℕ)
+        (k : ℤ) → Decides m names s c (branches j k) → AllowsBranch m names c j k }
     ensures broken { (names : List ℕ) (plan : List Fraction) (j : ℕ)
         → first_broken names plan ≡ Some j → IsIn j names × (IsWhole (at plan j) → ⊥) }
     ensures whole { (names : List ℕ) (plan : List Fraction)
@@ -31,14 +31,17 @@ pub fn branching_laws()
 /// How the measure of a search falls, from a box to one behind it.
 pub fn measure_laws()
     // The measures of the two boxes sum to at most that of the branched one, so they fall.
-    ensures splits { (m : RobustModel) (names : List ℕ) (c : Certificate) (j : ℕ) (k : ℤ) → IsModel m
-        → KeepsBothBounds m names → AllowsBranch m names c j k
+    ensures splits { (m : RobustModel) (names : List ℕ) (c : Certificate) (j : ℕ) (k : ℤ)
+        → IsModel m → KeepsBothBounds m names → AllowsBranch m names c j k
         → product_of_ranges (box_below m j k).variables names
-        + product_of_ranges (box_above m j k).variables names ≤ product_of_ranges m.variables names }
+        + product_of_ranges (box_above m j k).variables names
+        ≤ product_of_ranges m.variables names }
     ensures falls { (m : RobustModel) (names : List ℕ) (c : Certificate) (j : ℕ) (k : ℤ) → IsModel m
         → KeepsBothBounds m names → AllowsBranch m names c j k
-        → (product_of_ranges (box_below m j k).variables names < product_of_ranges m.variables names)
-        × (product_of_ranges (box_above m j k).variables names < product_of_ranges m.variables names) }
+        → (product_of_ranges (box_below m j k).variables names
+        < product_of_ranges m.variables names)
+        × (product_of_ranges (box_above m j k).variables names
+        < product_of_ranges m.variables names) }
     // A path of such branches is shorter than the measure.
     ensures path { (m : RobustModel) (names : List ℕ) (path : List Branch) → IsModel m
         → KeepsBothBounds m names → IsAllowedPath m names path

@@ -8,13 +8,15 @@ ghost use Rattle.rob_meaning.specs.RobustModel.{Member, RobustModel, budget};
 ghost use Rattle.rob_meaning.specs.UncertaintySet.{Admits, IsEmptySet};
 ghost use Rattle.rob_meaning.specs.WellFormed.{IsModel};
 ghost use Rattle.rob_reach.specs.Sweeps.{Answers, GrowsHarder, Rises, SweepAnswer, Swept, is_empty, with_budget};
-ghost use Rattle.std.specs.Prelude.{◌≡◌, ◌≢◌, ◌↔◌, ◌<◌, ℕ, suc, List, Some, length, slice_get};
+ghost use Rattle.std.specs.Prelude.{◌≡◌, ◌≢◌, ◌↔◌, ◌<◌, ℕ, suc, List, Some, slice_get};
 
 /// What the model with another limit in one budget is.
 pub fn with_budget_laws()
     // It is well formed, and has the model's names.
-    ensures model { (m : RobustModel) (n : ℕ) (g : Fraction) → IsModel m → IsModel (with_budget m n g) }
-    ensures named { (m : RobustModel) (n : ℕ) (g : Fraction) → IsNamed m → IsNamed (with_budget m n g) }
+    ensures model { (m : RobustModel) (n : ℕ) (g : Fraction) → IsModel m
+        → IsModel (with_budget m n g) }
+    ensures named { (m : RobustModel) (n : ℕ) (g : Fraction) → IsNamed m
+        → IsNamed (with_budget m n g) }
     ensures set_rows { (m : RobustModel) (n : ℕ) (g : Fraction)
         → set_row_names (with_budget m n g) ≡ set_row_names m }
     // That limit is replaced, and nothing else: no other statement, and nothing but statements.
@@ -38,9 +40,10 @@ pub fn with_budget_laws()
 pub fn sweep_laws()
     // A model has one answer, which is empty exactly where it admits nothing.
     ensures one_answer { (m : RobustModel) (a b : SweepAnswer) → Answers m a → Answers m b → a ≡ b }
-    ensures empty { (m : RobustModel) (a : SweepAnswer) → Answers m a → (a ≡ is_empty) ↔ IsEmptySet m }
-    ensures one_sweep { (m : RobustModel) (n : ℕ) (limits : List Fraction) (xs ys : List SweepAnswer)
-        → Swept m n limits xs → Swept m n limits ys → xs ≡ ys }
+    ensures empty { (m : RobustModel) (a : SweepAnswer) → Answers m a
+        → (a ≡ is_empty) ↔ IsEmptySet m }
+    ensures one_sweep { (m : RobustModel) (n : ℕ) (limits : List Fraction)
+        (xs ys : List SweepAnswer) → Swept m n limits xs → Swept m n limits ys → xs ≡ ys }
     // Of two answers, the one at the greater limit is no easier;
     ensures pair { (m : RobustModel) (n : ℕ) (g h : Fraction) → g ≤ℚ h → (a b : SweepAnswer)
         → Answers (with_budget m n g) a → Answers (with_budget m n h) b → GrowsHarder m.sense a b }

@@ -13,7 +13,8 @@ ghost use Rattle.std.specs.Prelude.{◌⊎◌, ℕ, List};
 /// What every model with a scenario has.
 pub fn ending_laws()
     // A certificate that proves, for each of its boxes.
-    ensures solves { (m : RobustModel) (inside : List Fraction) → IsModel m → Admits m inside → Solves m }
+    ensures solves { (m : RobustModel) (inside : List Fraction) → IsModel m → Admits m inside
+        → Solves m }
     // So a tree grows,
     ensures grows { (m : RobustModel) (names : List ℕ) (inside : List Fraction) → IsModel m
         → KeepsBothBounds m names → Admits m inside → (t : Tree) × IsGrown m names t }

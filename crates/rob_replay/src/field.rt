@@ -45,7 +45,8 @@ fn with_digit(value: u64, b: u8, limit: u64) -> Option<u64>
     requires small { value ≤ limit }
     requires bits { limit < 2 ^ 62 }
     ensures value { result
-        ≡ (if is_digit b && nat_le (value * 10 + (b - 48)) limit then Some (value * 10 + (b - 48)) else None) }
+        ≡ (if is_digit b && nat_le (value * 10 + (b - 48)) limit then Some (value * 10 + (b - 48))
+        else None) }
 {
     if b < b'0' || b > b'9' {
         return None;
@@ -77,7 +78,8 @@ fn read_whole<N: Exact>(digits: &[u8]) -> Option<u64>
 
 /// The place of the first `/`.
 fn slash_in(word: &[u8]) -> Option<usize>
-    ensures place { MatchOption result ((numerator_in word.now ≡ word.now) × (denominator_in word.now ≡ None))
+    ensures place { MatchOption result
+        ((numerator_in word.now ≡ word.now) × (denominator_in word.now ≡ None))
         (λ i. (i < length word.now) × (numerator_in word.now ≡ take i word.now)
         × (denominator_in word.now ≡ Some (drop (i + 1) word.now))) }
 {

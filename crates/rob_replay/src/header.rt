@@ -61,7 +61,8 @@ pub fn read_header<N: Exact>(
     params: &[Param<N>],
     header: &ByteRecord,
 ) -> Result<Option<List<usize>>, Memory>
-    ensures places { IfOk result (λ o. option_map (λ ks. ks) o ≡ header_places (fields_of header.now)
+    ensures places { IfOk result (λ o. option_map (λ ks. ks) o
+        ≡ header_places (fields_of header.now)
         (map (λ (d : Parameter). d.name) (map (parameter_of N.value) params.now))) }
 {
     if params.is_empty() || header.len() != params.len() {

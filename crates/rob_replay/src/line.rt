@@ -53,7 +53,8 @@ fn policies<N: Exact, L: Ledger>(
     ledger: &mut L,
 ) -> Result<List<N>, Stopped>
     requires valid { IsValid N.value model.now }
-    ensures exact { Computes (map N.value) (all_of (policies_within N.limit (robust N.value model.now)
+    ensures exact { Computes (map N.value)
+        (all_of (policies_within N.limit (robust N.value model.now)
         (plan_of N.value plan.now) (scenario_of N.value scenario.now)
         0 (map (adaptive_of N.value) model.now.adaptives))) result }
     ensures wide { RoseAtWide (L.wides ledger.old) (L.wides ledger.new) result }
@@ -73,7 +74,8 @@ fn policies<N: Exact, L: Ledger>(
 
 /// Right minus left for `<=` and `=`, left minus right for `>=`.
 fn slack<N: Exact, L: Ledger>(rel: Rel, left: N, right: N, ledger: &mut L) -> Result<N, Wide>
-    ensures exact { answer N.value result ≡ kept N.limit (slack_of (relation_of rel) (N.value left) (N.value right)) }
+    ensures exact { answer N.value result
+        ≡ kept N.limit (slack_of (relation_of rel) (N.value left) (N.value right)) }
     ensures counted { CountsTold L.ops L.wides ledger.old ledger.new result }
 {
     match rel {
@@ -113,8 +115,10 @@ fn add_row_slacks<N: Exact, L: Ledger>(
 ) -> Result<(), Stopped>
     requires valid { IsValid N.value model.now }
     requires inside { Each (HasInside (robust N.value model.now)) (map (row_of N.value) rows.now) }
-    ensures exact { Gathers N.value slacks.old slacks.new (map (row_slack N.limit (robust N.value model.now)
-        (plan_of N.value plan.now) (scenario_of N.value scenario.now)) (map (row_of N.value) rows.now)) result }
+    ensures exact { Gathers N.value slacks.old slacks.new
+        (map (row_slack N.limit (robust N.value model.now)
+        (plan_of N.value plan.now) (scenario_of N.value scenario.now))
+        (map (row_of N.value) rows.now)) result }
     ensures wide { RoseAtWide (L.wides ledger.old) (L.wides ledger.new) result }
     ensures counted { NeverFell L.ops L.wides ledger.old ledger.new }
 {
@@ -191,7 +195,8 @@ fn add_all_bound_slacks<N: Exact, L: Ledger>(
 ) -> Result<(), Stopped>
     requires lengths { length adaptives.now ≡ length values.now }
     ensures exact { Gathers N.value slacks.old slacks.new
-        (bound_slacks N.limit (map (adaptive_of N.value) adaptives.now) (map N.value values.now)) result }
+        (bound_slacks N.limit (map (adaptive_of N.value) adaptives.now) (map N.value values.now))
+        result }
     ensures wide { RoseAtWide (L.wides ledger.old) (L.wides ledger.new) result }
     ensures counted { NeverFell L.ops L.wides ledger.old ledger.new }
 {
@@ -216,7 +221,8 @@ fn slacks_at<N: Exact, L: Ledger>(
     requires valid { IsValid N.value model.now }
     requires lengths { length model.now.adaptives ≡ length values.now }
     ensures exact { Computes (map N.value) (all_of (slacks_within N.limit (robust N.value model.now)
-        (plan_of N.value plan.now) (scenario_of N.value scenario.now) (map N.value values.now))) result }
+        (plan_of N.value plan.now) (scenario_of N.value scenario.now) (map N.value values.now)))
+        result }
     ensures wide { RoseAtWide (L.wides ledger.old) (L.wides ledger.new) result }
     ensures counted { NeverFell L.ops L.wides ledger.old ledger.new }
 {

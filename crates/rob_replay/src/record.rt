@@ -19,7 +19,8 @@ pub fn read_numbers<N: Exact, L: Ledger>(
     row: &ByteRecord,
     ledger: &mut L,
 ) -> Result<Option<List<N>>, Memory>
-    ensures numbers { IfOk result (λ o. option_map (λ xs. map N.value xs) o ≡ numbers_in N.limit (fields_of row.now)) }
+    ensures numbers { IfOk result (λ o. option_map (λ xs. map N.value xs) o
+        ≡ numbers_in N.limit (fields_of row.now)) }
     ensures counted { NeverFell L.ops L.wides ledger.old ledger.new }
 {
     let mut numbers = List::new(alloc);
@@ -43,7 +44,8 @@ pub fn in_order<N: Exact, L: Ledger>(
     numbers: &[N],
     ledger: &mut L,
 ) -> Result<Scenario<N>, Memory>
-    ensures scenario { IfOk result (λ u. map N.value u.values ≡ scenario_at places.now (map N.value numbers.now)) }
+    ensures scenario { IfOk result (λ u. map N.value u.values
+        ≡ scenario_at places.now (map N.value numbers.now)) }
     ensures counted { NeverFell L.ops L.wides ledger.old ledger.new }
 {
     let mut values = List::new(alloc);

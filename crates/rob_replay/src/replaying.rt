@@ -36,10 +36,11 @@ fn replay_record<N: Exact, L: Ledger>(
     requires valid { IsValid N.value model.now }
     requires places { length places.now ≡ length model.now.params }
     ensures line { MatchResult result
-        (λ line. record_outcome N.limit (robust N.value model.now) (plan_of N.value plan.now) places.now number
+        (λ line. record_outcome N.limit (robust N.value model.now)
+        (plan_of N.value plan.now) places.now number
         (fields_of row.now) ≡ Ok (line_of N.value line))
-        (Refuses (record_outcome N.limit (robust N.value model.now) (plan_of N.value plan.now) places.now number
-        (fields_of row.now))) }
+        (Refuses (record_outcome N.limit (robust N.value model.now)
+        (plan_of N.value plan.now) places.now number (fields_of row.now))) }
     ensures wide { IfErr result (RoseIfWide (L.wides ledger.old) (L.wides ledger.new)) }
     ensures counted { NeverFell L.ops L.wides ledger.old ledger.new }
 {
@@ -73,10 +74,11 @@ fn replay_records<N: Exact, L: Ledger>(
     requires places { length places.now ≡ length model.now.params }
     requires few { length rows.now ≤ 10000 }
     ensures lines { MatchResult result
-        (λ lines. records_outcome N.limit (robust N.value model.now) (plan_of N.value plan.now) places.now 2
+        (λ lines. records_outcome N.limit (robust N.value model.now)
+        (plan_of N.value plan.now) places.now 2
         (map fields_of rows.now) ≡ Ok (map (line_of N.value) lines))
-        (Refuses (records_outcome N.limit (robust N.value model.now) (plan_of N.value plan.now) places.now 2
-        (map fields_of rows.now))) }
+        (Refuses (records_outcome N.limit (robust N.value model.now)
+        (plan_of N.value plan.now) places.now 2 (map fields_of rows.now))) }
     ensures wide { IfErr result (RoseIfWide (L.wides ledger.old) (L.wides ledger.new)) }
     ensures counted { NeverFell L.ops L.wides ledger.old ledger.new }
 {
@@ -105,7 +107,8 @@ fn replay_rows<N: Exact, L: Ledger>(
     ensures lines { MatchResult result
         (λ lines. outcome N.limit (robust N.value model.now) (plan_of N.value plan.now)
         (map fields_of rows.now) ≡ Ok (map (line_of N.value) lines))
-        (Refuses (outcome N.limit (robust N.value model.now) (plan_of N.value plan.now) (map fields_of rows.now))) }
+        (Refuses (outcome N.limit (robust N.value model.now) (plan_of N.value plan.now)
+        (map fields_of rows.now))) }
     ensures wide { IfErr result (RoseIfWide (L.wides ledger.old) (L.wides ledger.new)) }
     ensures counted { NeverFell L.ops L.wides ledger.old ledger.new }
 {
@@ -134,10 +137,11 @@ pub fn replay<N: Exact, L: Ledger>(
     ledger: &mut L,
 ) -> Result<Table<N>, ReplayErr>
     requires valid { IsValid N.value model.now }
-    ensures table { IfOk result (λ table. Gives (outcome N.limit (robust N.value model.now) (plan_of N.value plan.now))
+    ensures table { IfOk result (λ table. Gives
+        (outcome N.limit (robust N.value model.now) (plan_of N.value plan.now))
         text.now (Ok (map (line_of N.value) table.lines))) }
-    ensures refused { IfErr result (FileRefuses (outcome N.limit (robust N.value model.now) (plan_of N.value plan.now))
-        text.now) }
+    ensures refused { IfErr result (FileRefuses
+        (outcome N.limit (robust N.value model.now) (plan_of N.value plan.now)) text.now) }
     // So, whatever records the file is: the table or the refusal is theirs, unless memory was refused.
     ensures exact { (rows : Items (Items (Items ℕ))) → IsFile text.now rows → MatchResult result
         (λ table. outcome N.limit (robust N.value model.now) (plan_of N.value plan.now) rows
@@ -148,8 +152,10 @@ pub fn replay<N: Exact, L: Ledger>(
         × IsTable N.limit (robust N.value model.now) (plan_of N.value plan.now) rows
         (map (line_of N.value) table.lines)) }
     // Where the plan has its bound, no inside line shows a slack below 0, or an objective worse than the bound.
-    ensures bounded { HasBound (robust N.value model.now) (plan_of N.value plan.now) (N.value plan.now.bound)
-        → IfOk result (λ table. Each (ShowsBound (robust N.value model.now) (N.value plan.now.bound))
+    ensures bounded { HasBound (robust N.value model.now) (plan_of N.value plan.now)
+        (N.value plan.now.bound)
+        → IfOk result (λ table. Each
+        (ShowsBound (robust N.value model.now) (N.value plan.now.bound))
         (map (line_of N.value) table.lines)) }
     ensures wide { IfErr result (RoseIfWide (L.wides ledger.old) (L.wides ledger.new)) }
     ensures counted { NeverFell L.ops L.wides ledger.old ledger.new }

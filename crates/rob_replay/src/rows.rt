@@ -13,7 +13,8 @@ const ROOM: usize = 10_002;
 
 /// Keeps a record while there is room.
 fn keep(rows: &mut Vec<ByteRecord>, row: ByteRecord) -> Result<(), Memory>
-    ensures kept { IfOk result (λ _. (more : List (List (List ℕ))) → map fields_of rows.old.items ≡ take 10002 more
+    ensures kept { IfOk result (λ _. (more : List (List (List ℕ)))
+        → map fields_of rows.old.items ≡ take 10002 more
         → map fields_of rows.new.items ≡ take 10002 (more ++ fields_of row ∷ [])) }
 {
     if rows.len() < ROOM {

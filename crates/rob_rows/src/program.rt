@@ -7,7 +7,7 @@ use crate::sizes::is_within;
 use rob_number::List;
 
 /// A linear program in whole numbers: maximise `c * x` subject to `A * x <= b` and `x >= 0`.
-#[derive(Debug, Drop)]
+#[derive(Debug)]
 pub struct Lp {
     /// The rows of `A`, each with one number for each column.
     pub a: List<List<i64>>,
@@ -15,6 +15,17 @@ pub struct Lp {
     pub b: List<i64>,
     /// The objective's coefficients, one for each column.
     pub c: List<i64>,
+}
+
+impl Drop for Lp {
+    /// Lets go of it in one call. A derived drop would stand in each function that does.
+    fn drop(self) {
+        let Lp {
+            a: _a,
+            b: _b,
+            c: _c,
+        } = self;
+    }
 }
 
 impl Lp {

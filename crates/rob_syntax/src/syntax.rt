@@ -90,7 +90,6 @@ pub struct Member {
 }
 
 /// A budget of uncertainty: its limit and its members, of which there is one at least.
-#[derive(Drop)]
 pub struct Budget {
     pub limit: Numeral,
     pub members: List<Member>,
@@ -98,8 +97,18 @@ pub struct Budget {
     pub over: Option<usize>,
 }
 
+impl Drop for Budget {
+    /// Lets go of it in one call. A derived drop would stand in each function that does.
+    fn drop(self) {
+        let Budget {
+            limit: _limit,
+            members: _members,
+            over: _over,
+        } = self;
+    }
+}
+
 /// An adaptive variable that is declared, with the parameters that it depends on and its bounds.
-#[derive(Drop)]
 pub struct Policy {
     /// The number of a word.
     pub name: usize,
@@ -108,14 +117,36 @@ pub struct Policy {
     pub bounds: Option<Bounds>,
 }
 
+impl Drop for Policy {
+    /// Lets go of it in one call. A derived drop would stand in each function that does.
+    fn drop(self) {
+        let Policy {
+            name: _name,
+            on: _on,
+            bounds: _bounds,
+        } = self;
+    }
+}
+
 /// Two expressions with a relation between them, and the set that the relation is over.
-#[derive(Drop)]
 pub struct Relation {
     pub left: Syntax,
     pub rel: Rel,
     pub right: Syntax,
     /// The number of the word behind `over`.
     pub over: Option<usize>,
+}
+
+impl Drop for Relation {
+    /// Lets go of it in one call. A derived drop would stand in each function that does.
+    fn drop(self) {
+        let Relation {
+            left: _left,
+            rel: _rel,
+            right: _right,
+            over: _over,
+        } = self;
+    }
 }
 
 /// A row: the number of its name's word, and what it demands.
@@ -135,7 +166,6 @@ pub struct Goal {
 }
 
 /// A statement.
-#[derive(Drop)]
 pub enum Statement {
     Uncertain(Declared),
     /// A set that is declared: the number of its name's word.
@@ -146,6 +176,22 @@ pub enum Statement {
     Adaptive(Policy),
     Goal(Goal),
     Row(Row),
+}
+
+impl Drop for Statement {
+    /// Lets go of it in one call. A derived drop would stand in each function that does.
+    fn drop(self) {
+        match self {
+            Statement::Uncertain(_part) => {}
+            Statement::Over(_part) => {}
+            Statement::Set(_part) => {}
+            Statement::Budget(_part) => {}
+            Statement::Var(_part) => {}
+            Statement::Adaptive(_part) => {}
+            Statement::Goal(_part) => {}
+            Statement::Row(_part) => {}
+        }
+    }
 }
 
 /// Digits of an index, or the number of the word that is a range's name.
@@ -229,23 +275,42 @@ pub struct Sides {
 }
 
 /// A name that is declared, with its bounds and its ranges.
-#[derive(Drop)]
 pub struct Entry {
     pub name: Ref,
     pub bounds: Option<Bounds>,
     pub ranges: List<Range>,
 }
 
+impl Drop for Entry {
+    /// Lets go of it in one call. A derived drop would stand in each function that does.
+    fn drop(self) {
+        let Entry {
+            name: _name,
+            bounds: _bounds,
+            ranges: _ranges,
+        } = self;
+    }
+}
+
 /// A budget of uncertainty: its limit and its members, of which there is one at least.
-#[derive(Drop)]
 pub struct Shares {
     pub limit: Numeral,
     pub members: List<Ranged<Share>>,
     pub over: Option<Ref>,
 }
 
+impl Drop for Shares {
+    /// Lets go of it in one call. A derived drop would stand in each function that does.
+    fn drop(self) {
+        let Shares {
+            limit: _limit,
+            members: _members,
+            over: _over,
+        } = self;
+    }
+}
+
 /// An adaptive variable that is declared, with the parameters that it depends on, its bounds and its ranges.
-#[derive(Drop)]
 pub struct Rule {
     pub name: Ref,
     pub on: List<Ranged<Ref>>,
@@ -253,8 +318,19 @@ pub struct Rule {
     pub ranges: List<Range>,
 }
 
+impl Drop for Rule {
+    /// Lets go of it in one call. A derived drop would stand in each function that does.
+    fn drop(self) {
+        let Rule {
+            name: _name,
+            on: _on,
+            bounds: _bounds,
+            ranges: _ranges,
+        } = self;
+    }
+}
+
 /// The goal.
-#[derive(Drop)]
 pub struct Target {
     pub sense: Sense,
     pub objective: Tree,
@@ -262,8 +338,19 @@ pub struct Target {
     pub ranges: List<Range>,
 }
 
+impl Drop for Target {
+    /// Lets go of it in one call. A derived drop would stand in each function that does.
+    fn drop(self) {
+        let Target {
+            sense: _sense,
+            objective: _objective,
+            over: _over,
+            ranges: _ranges,
+        } = self;
+    }
+}
+
 /// A statement with indices, ranges and sums.
-#[derive(Drop)]
 pub enum Indexed {
     Uncertain(Entry),
     /// A set that is declared.
@@ -275,4 +362,20 @@ pub enum Indexed {
     Goal(Target),
     /// A row's name, what it demands, and its ranges.
     Row(Ref, Ranged<Sides>),
+}
+
+impl Drop for Indexed {
+    /// Lets go of it in one call. A derived drop would stand, variant by variant, in each function that does.
+    fn drop(self) {
+        match self {
+            Indexed::Uncertain(_entry) => {}
+            Indexed::Over(_set) => {}
+            Indexed::Set(_sides) => {}
+            Indexed::Budget(_shares) => {}
+            Indexed::Var(_entry) => {}
+            Indexed::Adaptive(_rule) => {}
+            Indexed::Goal(_target) => {}
+            Indexed::Row(_name, _sides) => {}
+        }
+    }
 }

@@ -26,23 +26,28 @@ impl Calls<HostRuntime> for Libraries {
     }
 }
 
+/// The answer of a call that there is.
+fn some(answer: Result<String, Trouble>) -> Result<Option<String>, Trouble> {
+    Ok(Some(answer?))
+}
+
 /// Calls on the line alone.
 fn of_line(alloc: Global, word: &str, rest: &str) -> Result<Option<String>, Trouble> {
     match word {
-        "number-8" => Ok(Some(number::operation::<Eight>(alloc, rest)?)),
-        "number-62" => Ok(Some(number::operation::<Most>(alloc, rest)?)),
-        "pair-8" => Ok(Some(number::reduced::<Eight>(alloc, rest)?)),
-        "compare-8" => Ok(Some(number::compared::<Eight>(alloc, rest)?)),
-        "limits" => Ok(Some(number::limits(alloc)?)),
-        "divisor" => Ok(Some(number::divisor(alloc, rest)?)),
-        "cut" => Ok(Some(number::cut(alloc, rest)?)),
-        "push" => Ok(Some(number::pushed(alloc, rest)?)),
-        "minuses" => Ok(Some(number::minuses(alloc)?)),
-        "order" => Ok(Some(rows::order(alloc, rest)?)),
-        "solve" | "resume" | "combined" => { Ok(Some(simplex::answer::<Most>(alloc, word, rest)?)) }
-        "resume-8" => Ok(Some(simplex::answer::<Eight>(alloc, "resume", rest)?)),
-        "base-8" => Ok(Some(simplex::answer::<Eight>(alloc, "base", rest)?)),
-        "bound" => Ok(Some(narrow::bound(alloc, rest)?)),
+        "number-8" => some(number::operation::<Eight>(alloc, rest)),
+        "number-62" => some(number::operation::<Most>(alloc, rest)),
+        "pair-8" => some(number::reduced::<Eight>(alloc, rest)),
+        "compare-8" => some(number::compared::<Eight>(alloc, rest)),
+        "limits" => some(number::limits(alloc)),
+        "divisor" => some(number::divisor(alloc, rest)),
+        "cut" => some(number::cut(alloc, rest)),
+        "push" => some(number::pushed(alloc, rest)),
+        "minuses" => some(number::minuses(alloc)),
+        "order" => some(rows::order(alloc, rest)),
+        "solve" | "resume" | "combined" => some(simplex::answer::<Most>(alloc, word, rest)),
+        "resume-8" => some(simplex::answer::<Eight>(alloc, "resume", rest)),
+        "base-8" => some(simplex::answer::<Eight>(alloc, "base", rest)),
+        "bound" => some(narrow::bound(alloc, rest)),
         _ => of_more(alloc, word, rest),
     }
 }
@@ -50,11 +55,11 @@ fn of_line(alloc: Global, word: &str, rest: &str) -> Result<Option<String>, Trou
 /// Calls on rows of numbers of up to 126 bits, on programs solved by them, and on words.
 fn of_more(alloc: Global, word: &str, rest: &str) -> Result<Option<String>, Trouble> {
     match word {
-        "deep-row" => Ok(Some(deep::combined(alloc, rest)?)),
-        "deep-lowest" => Ok(Some(deep::reduced(alloc, rest)?)),
-        "deep-order" => Ok(Some(deep::order(alloc, rest)?)),
-        "deeper" => Ok(Some(solver::solved::<Most>(alloc, rest)?)),
-        "deeper-8" => Ok(Some(solver::solved::<Eight>(alloc, rest)?)),
+        "deep-row" => some(deep::combined(alloc, rest)),
+        "deep-lowest" => some(deep::reduced(alloc, rest)),
+        "deep-order" => some(deep::order(alloc, rest)),
+        "deeper" => some(solver::solved::<Most>(alloc, rest)),
+        "deeper-8" => some(solver::solved::<Eight>(alloc, rest)),
         _ => of_words(alloc, word, rest),
     }
 }
@@ -62,15 +67,15 @@ fn of_more(alloc: Global, word: &str, rest: &str) -> Result<Option<String>, Trou
 /// Calls on words.
 fn of_words(alloc: Global, word: &str, rest: &str) -> Result<Option<String>, Trouble> {
     match word {
-        "words" => Ok(Some(words::command(alloc, rest)?)),
-        "no-word" => Ok(Some(words::no_word(alloc)?)),
+        "words" => some(words::command(alloc, rest)),
+        "no-word" => some(words::no_word(alloc)),
         "refuses" => {
             let (more, words) = keyword(rest);
-            Ok(Some(words::refused(alloc, words, more)?))
+            some(words::refused(alloc, words, more))
         }
         "widens" => {
             let (more, words) = keyword(rest);
-            Ok(Some(words::widened(alloc, words, more)?))
+            some(words::widened(alloc, words, more))
         }
         _ => Ok(None),
     }
@@ -80,13 +85,13 @@ fn of_words(alloc: Global, word: &str, rest: &str) -> Result<Option<String>, Tro
 fn of_outside(rt: &HostRuntime, word: &str, rest: &str) -> Result<Option<String>, Trouble> {
     let alloc = rt.alloc();
     match word {
-        "fetch" => Ok(Some(outside::fetches(alloc, rest)?)),
-        "sure-fetch" => Ok(Some(outside::sure_fetch(alloc, rest)?)),
-        "machine-fetch" => Ok(Some(outside::machine_fetch(rt, rest)?)),
-        "put" => Ok(Some(outside::puts(alloc, rest)?)),
-        "sure-put" => Ok(Some(outside::sure_puts(alloc, rest)?)),
-        "print" => Ok(Some(outside::prints(alloc, rest)?)),
-        "machine-put" => Ok(Some(outside::machine_put(rt, rest)?)),
+        "fetch" => some(outside::fetches(alloc, rest)),
+        "sure-fetch" => some(outside::sure_fetch(alloc, rest)),
+        "machine-fetch" => some(outside::machine_fetch(rt, rest)),
+        "put" => some(outside::puts(alloc, rest)),
+        "sure-put" => some(outside::sure_puts(alloc, rest)),
+        "print" => some(outside::prints(alloc, rest)),
+        "machine-put" => some(outside::machine_put(rt, rest)),
         _ => Ok(None),
     }
 }

@@ -37,24 +37,36 @@ fn fetched<S: Shelf>(alloc: Global, shelf: &mut S, call: &str) -> Result<String,
     seen(alloc, shelf.fetch(alloc, name, max as usize))
 }
 
-/// A shelf with two files of one name and two at the limit, whose first two fetches fail.
+/// A shelf with two files of one name and two at the limit, whose first two fetches fail. It alone has the shelf: what
+/// it calls is lent it.
 fn stocked(alloc: Global) -> Result<MemShelf, Trouble> {
     let mut shelf = MemShelf::new(alloc);
+    stock(alloc, &mut shelf)?;
+    Ok(shelf)
+}
+
+/// Puts these files on a shelf.
+fn stock(alloc: Global, shelf: &mut MemShelf) -> Result<(), Trouble> {
     shelf.add("one", b"12")?;
     shelf.add("one", b"hidden")?;
     shelf.add("full", vec![in alloc; 0u8; LIMIT]?.as_slice())?;
     shelf.add("over", vec![in alloc; 0u8; LIMIT + 1]?.as_slice())?;
     shelf.fail_at(1)?;
     shelf.fail_at(2)?;
-    Ok(shelf)
+    Ok(())
 }
 
 /// What the fetches from such a shelf give, with `|` between them, and how many it counted.
 pub(crate) fn fetches(alloc: Global, calls: &str) -> Result<String, Trouble> {
     let mut shelf = stocked(alloc)?;
+    fetch_each(alloc, &mut shelf, calls)
+}
+
+/// What the fetches from a shelf give, with `|` between them, and how many it counted.
+fn fetch_each(alloc: Global, shelf: &mut MemShelf, calls: &str) -> Result<String, Trouble> {
     let mut answer = String::new(alloc);
     for call in calls.split('|') {
-        let one = fetched(alloc, &mut shelf, call)?;
+        let one = fetched(alloc, shelf, call)?;
         add(&mut answer, one.as_str())?;
     }
     let calls = shelf.calls();
@@ -85,10 +97,16 @@ fn taken(answer: Result<(), SinkErr>) -> Result<&'static str, Trouble> {
 }
 
 /// What puts into a sink of 9 bytes give, whose second call keeps 3 bytes and fails, with the bytes that it then holds.
+/// It alone has the sink: what it calls is lent it.
 pub(crate) fn puts(alloc: Global, pieces: &str) -> Result<String, Trouble> {
     let mut sink = MemSink::new(alloc, 9)?;
     sink.fail_at(2, 3)?;
     sink.fail_at(2, 0)?;
+    put_each(alloc, &mut sink, pieces)
+}
+
+/// What puts into a sink give, with the bytes that it then holds, and how many it counted.
+fn put_each(alloc: Global, sink: &mut MemSink, pieces: &str) -> Result<String, Trouble> {
     let mut answer = String::new(alloc);
     for piece in pieces.split('|') {
         let word = taken(sink.put(piece.as_bytes()))?;

@@ -5,6 +5,7 @@ ghost use Rattle.rob_linear.specs.Programs.{Program};
 ghost use Rattle.rob_rows.specs.LinearPrograms.{program_of};
 ghost use Rattle.rob_simplex.specs.Solvers.{positions, HasPoint, HasOptimum, HasRay, HasWeights, IsMadeFor};
 ghost use Rattle.rob_simplex.specs.Endings.{IsFresh};
+ghost use Rattle.rob_simplex.specs.Lowering.{IsCostOf};
 ghost use Rattle.rob_simplex.specs.Resuming.{CanResume};
 
 use crate::program::program;
@@ -89,24 +90,45 @@ struct Size {
     rows: u32,
 }
 
-/// The answer of a call on a program, and on the cost behind the `>`, where the call has one. It alone has the program
-/// and its solver: what it calls is lent them.
+/// The answer of a call on a program, and on the cost behind the `>`, where the call has one. It alone has the program:
+/// what it calls is lent it.
 pub(crate) fn answer<N: Exact>(alloc: Global, word: &str, line: &str) -> Result<String, Trouble> {
     let (first, second) = match line.split_once('>') {
         Some((first, second)) => (first, second),
         None => (line, ""),
     };
     let lp = program(alloc, first)?;
-    let mut work = made::<N>(alloc, &lp)?;
+    of_program::<N>(alloc, word, &lp, second)
+}
+
+/// The answer of a call on a program, and on a cost. It alone has the program's solver: what it calls is lent it.
+fn of_program<N: Exact>(alloc: Global, word: &str, lp: &Lp, cost: &str) -> Result<String, Trouble> {
+    let mut work = made::<N>(alloc, lp)?;
     let size = Size {
         columns: lp.c.items().len() as u32,
         rows: lp.b.items().len() as u32,
     };
+    of_solver(alloc, word, lp, &mut work, size, cost)
+}
+
+/// The answer of a call on a program and its solver, and on a cost.
+fn of_solver<N: Exact>(
+    alloc: Global,
+    word: &str,
+    lp: &Lp,
+    work: &mut Work<N, i64>,
+    size: Size,
+    cost: &str,
+) -> Result<String, Trouble>
+    requires made { IsMadeFor (program_of lp.now) work.old }
+    requires columns { size.columns ≡ work.old.columns }
+    requires rows { size.rows ≡ positions work.old }
+{
     match word {
-        "solve" => solved(alloc, &mut work, size),
-        "resume" => resumed(alloc, &lp, &mut work, second),
-        "combined" => combined(alloc, &lp, &mut work, second),
-        "base" => based(alloc, &lp, &mut work),
+        "solve" => solved(alloc, work, size),
+        "resume" => resumed(alloc, lp, work, cost),
+        "combined" => combined(alloc, lp, work, cost),
+        "base" => based(alloc, lp, work),
         _ => Err(Trouble::Line),
     }
 }
@@ -125,7 +147,8 @@ fn solved<N: Exact>(alloc: Global, work: &mut Work<N, i64>, size: Size) -> Resul
     }
 }
 
-/// What a solver gives that goes on with another cost from where the first one stands.
+/// What a solver gives that goes on with another cost from where the first one stands. It alone has that solver: what
+/// it calls is lent it.
 fn resumed_from<N: Exact>(
     alloc: Global,
     lp: &Lp,
@@ -144,11 +167,28 @@ fn resumed_from<N: Exact>(
     }
     let mut next = made::<N>(alloc, lp)?;
     next.set_to(work);
-    let columns = lp.c.items().len() as u32;
-    let rows = lp.b.items().len() as u32;
-    match next.resume(cost, &mut Tally::new()) {
-        Ok(LpKind::Optimal) => optimum(alloc, &next, columns, rows),
-        Ok(LpKind::Unbounded) => ray(alloc, &next, columns),
+    let size = Size {
+        columns: lp.c.items().len() as u32,
+        rows: lp.b.items().len() as u32,
+    };
+    gone_on(alloc, &mut next, cost, size)
+}
+
+/// What a solver gives that goes on with another cost.
+fn gone_on<N: Exact>(
+    alloc: Global,
+    work: &mut Work<N, i64>,
+    cost: &[i64],
+    size: Size,
+) -> Result<String, Trouble>
+    requires resumable { (P : Program) × CanResume P work.old }
+    requires cost { IsCostOf N.limit work.old.columns cost.now }
+    requires columns { size.columns ≡ work.old.columns }
+    requires rows { size.rows ≡ positions work.old }
+{
+    match work.resume(cost, &mut Tally::new()) {
+        Ok(LpKind::Optimal) => optimum(alloc, work, size.columns, size.rows),
+        Ok(LpKind::Unbounded) => ray(alloc, work, size.columns),
         Ok(LpKind::Infeasible) => Err(Trouble::Line),
         Err(stop) => Ok(format!(in alloc; "{stop:?}")?),
     }

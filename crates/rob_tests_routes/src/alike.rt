@@ -45,12 +45,19 @@ fn first_line(answer: &str) -> &str {
     }
 }
 
-/// What a route prints of the case's model with these numbers.
+/// What a route prints of the case's model with these numbers. It alone has the model: what it calls is lent it.
 fn answered<N: Exact>(alloc: Global, case: &Case, route: &str) -> Result<String, Trouble> {
     let model: Model<N> = given::model(alloc, case)?;
+    by_route(alloc, &model, route)
+}
+
+/// What a route prints of a model.
+fn by_route<N: Exact>(alloc: Global, model: &Model<N>, route: &str) -> Result<String, Trouble>
+    requires valid { IsValid N.value model.now }
+{
     match route {
-        "dual" => by_counterpart(alloc, &model),
-        "cuts" => cuts::of_model(alloc, &model, Telling::Prints),
+        "dual" => by_counterpart(alloc, model),
+        "cuts" => cuts::of_model(alloc, model, Telling::Prints),
         _ => Err(Trouble::Line),
     }
 }

@@ -157,10 +157,21 @@ fn wide_line<N: Exact>(
     })
 }
 
-/// The answer with the summary of what the two routes told.
+/// The answer with the summary of what the two routes told. It alone has their lines: what it calls is lent them.
 fn summary(alloc: Global, number: u32, dual: RouteLine, cuts: RouteLine) -> Result<Reply, Memory>
     ensures summary { IfOk result (Replies (first_ended dual.spot cuts.spot)
         (heading number ++ (dual.text ++ cuts.text))) }
+{
+    let text = summary_text(alloc, number, dual.text.bytes(), cuts.text.bytes())?;
+    Ok(Reply {
+        ended: ended_first(dual.spot, cuts.spot),
+        text,
+    })
+}
+
+/// The text of the summary.
+fn summary_text(alloc: Global, number: u32, dual: &[u8], cuts: &[u8]) -> Result<Text, Memory>
+    ensures text { IfOk result (λ text. text ≡ heading number ++ (dual.now ++ cuts.now)) }
 {
     let mut text = Text::new(alloc);
     text.push(b"gen ")?;
@@ -168,12 +179,9 @@ fn summary(alloc: Global, number: u32, dual: RouteLine, cuts: RouteLine) -> Resu
     text.push(b" periods ")?;
     text.push(Buffer::new().format(number % 4 + 2).as_bytes())?;
     text.push(b"\n")?;
-    text.push(dual.text.bytes())?;
-    text.push(cuts.text.bytes())?;
-    Ok(Reply {
-        ended: ended_first(dual.spot, cuts.spot),
-        text,
-    })
+    text.push(dual)?;
+    text.push(cuts)?;
+    Ok(text)
 }
 
 /// The answer by the spots that the two routes told.

@@ -18,12 +18,24 @@ use rob_words::{CommandLine, Own};
 use std::alloc::Global;
 
 /// The texts of a command's files, by their kinds. A text that the command doesn't have is empty.
-#[derive(Debug, Drop)]
+#[derive(Debug)]
 pub struct Texts {
     pub model: Vec<u8>,
     pub certificate: Vec<u8>,
     pub scenarios: Vec<u8>,
     pub tree: Vec<u8>,
+}
+
+impl Drop for Texts {
+    /// Lets go of it in one call. A derived drop would stand in each function that does.
+    fn drop(self) {
+        let Texts {
+            model: _model,
+            certificate: _certificate,
+            scenarios: _scenarios,
+            tree: _tree,
+        } = self;
+    }
 }
 
 /// What came of a command's files: the texts of all of them, or the answer that ends the call.

@@ -49,7 +49,7 @@ pub fn split_node<N: Exact>(
 }
 
 /// A branch tree, and what it claims of the model over plans with whole numbers.
-#[derive(Debug, Drop)]
+#[derive(Debug)]
 pub struct Tree<N> {
     pub status: Status,
     /// The optimum; 0 where the status is another.
@@ -57,4 +57,16 @@ pub struct Tree<N> {
     /// The number of the leaf that shows the status, from 1; 0 in an infeasible tree.
     pub best: u32,
     pub root: Node<N>,
+}
+
+impl<N: Drop> Drop for Tree<N> {
+    /// Lets go of it in one call. A derived drop would stand in each function that does.
+    fn drop(self) {
+        let Tree {
+            status: _status,
+            value: _value,
+            best: _best,
+            root: _root,
+        } = self;
+    }
 }

@@ -3,7 +3,7 @@
 use crate::{Route, Verb, Width};
 
 /// A command line: a command, its own words, and its options.
-#[derive(Debug, Drop)]
+#[derive(Debug)]
 pub struct CommandLine {
     pub verb: Verb,
     /// One for each of `verb.own()`, in that order.
@@ -12,4 +12,16 @@ pub struct CommandLine {
     pub route: Route,
     /// 62 bits where the command line names none.
     pub width: Width,
+}
+
+impl Drop for CommandLine {
+    /// Lets go of it in one call. A derived drop would stand in each function that does.
+    fn drop(self) {
+        let CommandLine {
+            verb: _verb,
+            own: _own,
+            route: _route,
+            width: _width,
+        } = self;
+    }
 }

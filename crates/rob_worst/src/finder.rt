@@ -37,12 +37,21 @@ use std::alloc::Global;
 /// Finds worst scenarios over one uncertainty set. The set's program is solved once; each search goes on from there
 /// with its own cost, so that what it finds doesn't depend on the searches before it. (The pessimisation problem of
 /// robust optimisation.)
-#[derive(Drop)]
 pub struct Finder<N: Exact> {
     /// Stands at the last basis of the set's program.
     solved: Solver<N>,
     /// Is set to it, and goes on.
     search: Solver<N>,
+}
+
+impl<N: Exact> Drop for Finder<N> {
+    /// Lets go of it in one call. A derived drop would stand in each function that does.
+    fn drop(self) {
+        let Finder {
+            solved: _solved,
+            search: _search,
+        } = self;
+    }
 }
 
 impl<N: Exact> Finder<N> {

@@ -22,7 +22,6 @@ use rob_sets::error::Stop as Refusal;
 use std::alloc::Global;
 
 /// The search for the worst case of a form, in whole numbers.
-#[derive(Drop)]
 pub struct Task {
     /// The form, by its number.
     pub form: u32,
@@ -36,6 +35,20 @@ pub struct Task {
     pub constant: i64,
     /// The costs of the set's program: for each set column the form's number, and behind it its negation.
     pub cost: List<i64>,
+}
+
+impl Drop for Task {
+    /// Lets go of it in one call. A derived drop would stand in each function that does.
+    fn drop(self) {
+        let Task {
+            form: _form,
+            by_step: _by_step,
+            params: _params,
+            common: _common,
+            constant: _constant,
+            cost: _cost,
+        } = self;
+    }
 }
 
 /// The search for a form at a plan with its bound.

@@ -7,8 +7,8 @@ use Rattle.std.proofs.lemmas.List.Sums.{fold-append}
 use Rattle.rob_meaning.specs.Forms.{forms}
 use Rattle.rob_meaning.specs.RobustModel.{RobustModel}
 use Rattle.rob_meaning.specs.SetRows.{lift_count, set_rows}
-use Rattle.rob_meaning.specs.Sizes.{adaptive_bounds, parameter_bounds, rows_of, variable_bounds}
-use Rattle.rob_meaning.proofs.SizeLemmas.{bounds-joint, length-forms, length-set_rows}
+use Rattle.rob_meaning.specs.Sizes.{adaptive_bounds, variable_bounds}
+use Rattle.rob_meaning.proofs.SizeLemmas.{bounds-joint, length-forms, length-set_rows, parameter_bounds, rows_of}
 use Rattle.rob_model.specs.Limits.{IsWithinLimits, most_columns, most_members, most_parameters, most_rows, most_set_lines, most_sets, most_size}
 use Rattle.rob_rules.specs.declared.size.Sizes.{Sizes}
 use Rattle.rob_rules.specs.declared.sort.Sort.{Sort}

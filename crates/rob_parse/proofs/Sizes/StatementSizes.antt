@@ -6,7 +6,8 @@ use Rattle.std.proofs.lemmas.List.{length-map}
 use Rattle.std.specs.List.{flat_map}
 use Rattle.rob_meaning.specs.RobustModel.{RobustModel}
 use Rattle.rob_meaning.specs.SetRows.{lift_count}
-use Rattle.rob_meaning.specs.Sizes.{adaptive_bounds, declared_count, inequalities, parameter_bounds, row_inequalities, rows_of, variable_bounds}
+use Rattle.rob_meaning.specs.Sizes.{adaptive_bounds, declared_count, variable_bounds}
+use Rattle.rob_meaning.proofs.SizeLemmas.{inequalities, parameter_bounds, row_inequalities, rows_of}
 use Rattle.rob_rules.specs.declared.size.Sizes.{Sizes}
 use Rattle.rob_rules.specs.declared.sort.Sort.{Sort}
 use Rattle.rob_syntax.specs.declared.syntax.Bounds.{Bounds}

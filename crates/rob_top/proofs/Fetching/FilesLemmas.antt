@@ -23,7 +23,7 @@ use Rattle.rob_top.specs.declared.files.Got.TheVariants.{Bytes, Answer}
 use Rattle.rob_top.specs.declared.files.Texts.{Texts}
 use Rattle.rob_top.specs.declared.reply.Reply.{Reply}
 use Rattle.rob_top.proofs.Fetching.OwnLemmas.{later_request, text_of-other, text_of-same}
-use Rattle.rob_top.proofs.Meaning.WorkLemmas.{rose_earlier}
+use Rattle.rob_number.proofs.CountLemmas.{rose_later}
 use Rattle.rob_words.specs.Commands.{Line, IsSpelled}
 use Rattle.rob_words.specs.Values.{Word}
 use Rattle.rob_words.specs.contracts.verb.Own.{the_type}
@@ -336,7 +336,7 @@ module _ (told later_told : Option (List File)) (same : later_told ≡ told) (ki
     );
     absent = absence_behind told request (files_of kinds names) before middle now one rest h.request
         (count start end) (count between end)
-        reply.ended reply.text (λ r. rose_earlier start between end rose r) h.absent;
+        reply.ended reply.text (λ r. rose_later start between end rose r) h.absent;
   }
 
   pub more_fetched : (found_files : Files)

@@ -49,7 +49,8 @@ use Rattle.rob_top.specs.declared.files.Texts.{Texts}
 use Rattle.rob_top.specs.declared.reply.Reply.{Reply}
 use Rattle.rob_top.proofs.Fetching.OwnLemmas.{file_came, has_kind}
 use Rattle.rob_round_trip.proofs.Faultless.CanonicalScopes.{each_mapped}
-use Rattle.rob_top.proofs.Meaning.WorkLemmas.{call_of_verb, call_within, rose_earlier}
+use Rattle.rob_number.proofs.CountLemmas.{rose_later}
+use Rattle.rob_top.proofs.Meaning.WorkLemmas.{call_of_verb, call_within}
 use Rattle.rob_words.specs.Commands.{Line}
 use Rattle.rob_words.specs.Verbs.{own_of}
 use Rattle.rob_words.specs.Verbs.{takes_route}
@@ -238,7 +239,7 @@ module _ (limit : ℕ) (m : RobustModel) where
   certificate_answers before middle now text c (Ok reply) least is fits h = λ call line at file.
       h call line
       (call_within limit (count middle now) (count before now) Check call line
-      (rose_earlier before middle now least) at)
+      (rose_later before middle now least) at)
       (record {
         bytes = text;
         file = file;

@@ -20,7 +20,8 @@ use Rattle.rob_sets.specs.FirstWide.{HasCause}
 use Rattle.rob_sets.specs.declared.error.ElabErr.{ElabErr}
 use Rattle.rob_sets.specs.declared.error.ElabErr.TheVariants as refused
 use Rattle.rob_top.proofs.Relations.GeneratedWholes.{generated_written}
-use Rattle.rob_top.proofs.Meaning.WorkLemmas.{limit_is, rose_earlier, rose_later}
+use Rattle.rob_number.proofs.CountLemmas.{rose_later}
+use Rattle.rob_top.proofs.Meaning.WorkLemmas.{limit_is, rose_still}
 use Rattle.rob_top.specs.Calls.{Count, count}
 use Rattle.rob_top.specs.Compared.{heading}
 use Rattle.rob_top.specs.ComparedWork.{RoseAtSpot, RepliesCompared, IsLineOf, first_ended}
@@ -86,7 +87,7 @@ module _ (limit start first middle end : ℕ) where
       → RoseAtSpot (count start end) spot
   counted_first None a b h = tt
   counted_first (Some spot) a b h =
-      rose_later start middle end b (rose_earlier start first middle a h)
+      rose_still start middle end b (rose_later start first middle a h)
 
   pub summary_replies : (n : ℕ) (m : RobustModel) (dual cuts : Option Spot) (by_dual by_cuts : List ℕ)
       (r : Result Reply Want) → m ≡ generated n
@@ -110,7 +111,7 @@ module _ (limit start first middle end : ℕ) where
     where
       counted_last : (spot : Option Spot) → RoseAtSpot (count middle end) spot → RoseAtSpot (count start end) spot
       counted_last None h = tt
-      counted_last (Some spot) h = rose_earlier start middle end (omega (arith, a, b)) h
+      counted_last (Some spot) h = rose_later start middle end (omega (arith, a, b)) h
 
 -- ---- at the width of the line
 pub enough : (width : Width) → 255 ≤ Lowest.limit_of (bits_of width)

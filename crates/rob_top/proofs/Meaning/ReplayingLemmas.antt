@@ -35,7 +35,8 @@ use Rattle.rob_top.specs.declared.ended.Ended.TheVariants.{Printed, TooWide, Cer
 use Rattle.rob_top.specs.declared.files.Texts.{Texts}
 use Rattle.rob_top.specs.declared.reply.Reply.{Reply}
 use Rattle.rob_top.proofs.Fetching.OwnLemmas.{file_came, has_kind}
-use Rattle.rob_top.proofs.Meaning.WorkLemmas.{call_of_verb, call_within, rose_earlier}
+use Rattle.rob_number.proofs.CountLemmas.{rose_later}
+use Rattle.rob_top.proofs.Meaning.WorkLemmas.{call_of_verb, call_within}
 use Rattle.rob_words.specs.Commands.{Line}
 use Rattle.rob_words.specs.Verbs.{own_of}
 use Rattle.rob_words.specs.Verbs.{takes_route}
@@ -157,7 +158,7 @@ module _ (limit : ℕ) (m : RobustModel) where
   read_answers before middle now certificate text c (Ok reply) least is fits h = λ call line at given.
       h call line
       (call_within limit (count middle now) (count before now) Replay call line
-      (rose_earlier before middle now least) at) (
+      (rose_later before middle now least) at) (
         record {
           bytes = certificate;
           file = given.0;

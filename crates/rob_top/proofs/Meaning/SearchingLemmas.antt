@@ -39,7 +39,8 @@ use Rattle.rob_words.specs.Commands.{Line}
 use Rattle.rob_words.specs.Verbs.{takes_route}
 use Rattle.rob_worst.specs.Finding.{Tells}
 use Rattle.rob_top.proofs.Fetching.OwnLemmas.{file_came, has_form, has_kind, own_told}
-use Rattle.rob_top.proofs.Meaning.WorkLemmas.{call_of_verb, call_within, rose_earlier}
+use Rattle.rob_number.proofs.CountLemmas.{rose_later}
+use Rattle.rob_top.proofs.Meaning.WorkLemmas.{call_of_verb, call_within}
 use Rattle.rob_top.proofs.Meaning.WorstSlackLemmas.{bound_slack, fitting_slack, scale_some, worst_found_at}
 use Rattle.rob_top.specs.Answers.{certificate_fault_text, no_row_text}
 use Rattle.rob_top.specs.Calls.{Count, count, limit_of}
@@ -134,7 +135,7 @@ module _ (limit : ℕ) (m : RobustModel) where
     read_answers before middle now certificate c (Ok reply) least is fits h = λ call line at given.
         h call line
         (call_within limit (count middle now) (count before now) Worst call line
-        (rose_earlier before middle now least) at) (
+        (rose_later before middle now least) at) (
           record {
             bytes = certificate;
             file = given.0;

@@ -31,7 +31,8 @@ use Rattle.rob_top.proofs.Courses.CourseLemmas.{inside_admitted}
 use Rattle.rob_top.proofs.Fetching.OwnLemmas.{has_kind, own_of_kind, own_told, second_of}
 use Rattle.rob_top.proofs.Meaning.RouteLemmas.{no_rounds}
 use Rattle.rob_top.proofs.Meaning.SolvingLemmas.{proved_bound}
-use Rattle.rob_top.proofs.Meaning.WorkLemmas.{call_within, rose_earlier}
+use Rattle.rob_number.proofs.CountLemmas.{rose_later}
+use Rattle.rob_top.proofs.Meaning.WorkLemmas.{call_within}
 use Rattle.rob_top.specs.Calls.{Call, Count, count, limit_of}
 use Rattle.rob_top.specs.Files.{word_of}
 use Rattle.rob_top.specs.Headline.{Means}
@@ -149,7 +150,7 @@ module _ (limit : ℕ) (m : RobustModel) (verb : Verb) (is : IsSplitting verb) w
   cuts_answers before middle now word cuts (Ok reply) alone are least h = λ call line at given.
       h call line
       (call_within limit (count middle now) (count before now) verb call line
-      (rose_earlier before middle now least) at)
+      (rose_later before middle now least) at)
       (record {
         word = word;
         has_word = has_word (count before now) call line word at given.0 given.1;

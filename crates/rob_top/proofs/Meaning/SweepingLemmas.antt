@@ -34,7 +34,8 @@ use Rattle.rob_top.specs.declared.files.Texts.{Texts}
 use Rattle.rob_top.specs.declared.reply.Reply.{Reply}
 use Rattle.rob_top.proofs.Meaning.BoxPathLemmas.{spot_in}
 use Rattle.rob_top.proofs.Fetching.OwnLemmas.{has_kind, own_of_kind, own_told}
-use Rattle.rob_top.proofs.Meaning.WorkLemmas.{call_within, rose_earlier}
+use Rattle.rob_number.proofs.CountLemmas.{rose_later}
+use Rattle.rob_top.proofs.Meaning.WorkLemmas.{call_within}
 use Rattle.rob_words.specs.Commands.{Line}
 use Rattle.rob_words.specs.Kinds.{IsOfKind, number_of}
 use Rattle.rob_words.specs.Names.{parts_of}
@@ -110,7 +111,7 @@ module _ (limit : ℕ) (m : RobustModel) where
       λ call line at given.
       h call line
       (call_within limit (count middle now) (count before now) verbs.Sweep call line
-      (rose_earlier before middle now least) at)
+      (rose_later before middle now least) at)
       (record {
         model = given.0;
         is_sweep = at.verb_is;

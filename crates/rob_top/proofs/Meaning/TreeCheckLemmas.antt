@@ -15,7 +15,8 @@ use Rattle.rob_tree.specs.declared.verdict.LeafFault.{LeafFault}
 use Rattle.rob_tree.specs.declared.verdict.TreeVerdict.{TreeVerdict}
 use Rattle.rob_tree.specs.declared.verdict.TreeVerdict.TheVariants as verdict
 use Rattle.rob_top.proofs.Fetching.OwnLemmas.{file_came, has_kind, own_told}
-use Rattle.rob_top.proofs.Meaning.WorkLemmas.{call_of_verb, call_within, rose_earlier}
+use Rattle.rob_number.proofs.CountLemmas.{rose_later}
+use Rattle.rob_top.proofs.Meaning.WorkLemmas.{call_of_verb, call_within}
 use Rattle.rob_top.specs.Answers.{tree_fault_text, whole_fault_text}
 use Rattle.rob_top.specs.Branched.{no_ranges, no_variables}
 use Rattle.rob_top.specs.Calls.{Count, count}
@@ -107,7 +108,7 @@ module _ (limit : ℕ) (m : RobustModel) where
     tree_answers before middle now text (Ok reply) least is fits h = λ call line at file.
         h call line
         (call_within limit (count middle now) (count before now) CheckTree call line
-        (rose_earlier before middle now least) at)
+        (rose_later before middle now least) at)
         (record {
           bytes = text;
           file = file;

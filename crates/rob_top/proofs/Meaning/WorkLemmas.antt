@@ -4,6 +4,7 @@ use Rattle.rob_cert.specs.declared.trace.Round.{Round}
 use Rattle.rob_meaning.specs.RobustModel.{RobustModel}
 use Rattle.rob_model.specs.declared.place.Spot.{Spot}
 use Rattle.rob_number.specs.Counts.{Rose}
+use Rattle.rob_number.proofs.CountLemmas.{rose_later}
 use Rattle.rob_number.specs.Lowest as Lowest
 use Rattle.rob_number.specs.declared.memory.Memory.{Memory as Want}
 use Rattle.rob_parse.specs.Modelled.{ReadsModel}
@@ -43,12 +44,9 @@ use Rattle.rob_top.proofs.Meaning.BoxPathLemmas.{judged_spot}
 
 -- ---- counts and widths
 
--- the count rose since an earlier time too
-pub rose_earlier : (before middle now : ℕ) → before ≤ middle → Rose middle now → Rose before now
-rose_earlier before middle now least rose = omega (arith, rose, least)
-
-pub rose_later : (before middle now : ℕ) → middle ≤ now → Rose before middle → Rose before now
-rose_later before middle now least rose = omega (arith, rose, least)
+-- the count rose up to a later time too
+pub rose_still : (before middle now : ℕ) → middle ≤ now → Rose before middle → Rose before now
+rose_still before middle now least rose = omega (arith, rose, least)
 
 -- the limit of numbers of a width
 pub limit_is : (width : Width) → Lowest.limit_of (bits_of width) ≡ 2 ^ bits_of width - 1
@@ -187,7 +185,7 @@ module _ (limit : ℕ) (m : RobustModel) where
   whole_answers before middle now line texts (Ok reply) least written h = λ call at came has.
       h call
       (call_within limit (count middle now) (count before now) line.verb call line
-      (rose_earlier before middle now least) at) came
+      (rose_later before middle now least) at) came
       (record { model = has; none_wide = subst (λ (l : ℕ). IsWritten l m) (sym at.limit_is) written })
 
   -- the rows are printed

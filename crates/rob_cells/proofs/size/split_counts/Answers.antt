@@ -1,5 +1,6 @@
 use Rattle.std.proofs.Common.{length, arith}
-use Rattle.rob_meaning.specs.Sizes.{adaptive_bounds, variable_bounds, parameter_bounds, rows_of}
+use Rattle.rob_meaning.specs.Sizes.{adaptive_bounds, variable_bounds}
+use Rattle.rob_meaning.proofs.SizeLemmas.{parameter_bounds}
 use Rattle.rob_cells.proofs.ReadCounts.{adaptives_few, bounds_in_forms, bounds_in_set_rows, bounds_times, counts_read, counts_small, lines_times, params_times, rows_times, set_rows_times, vars_few}
 use Rattle.rob_cells.proofs.size.split_counts.Goals as goal
 

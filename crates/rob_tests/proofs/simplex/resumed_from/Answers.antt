@@ -2,8 +2,8 @@ use Rattle.std.proofs.Common.{◌≡◌, ◌∙◌, ◌≤◌, rules, arith, nat
 use Rattle.rob_number.proofs.CastLemmas.{limit_seen}
 use Rattle.rob_tests.proofs.simplex.resumed_from.Goals as goal
 
-pub resume-requires-clause-cost : goal.resume-requires-clause-cost
-resume-requires-clause-cost g c = record {
+pub gone_on-requires-clause-cost : goal.gone_on-requires-clause-cost
+gone_on-requires-clause-cost g c = record {
   size = search rules;
   within = λ k d l.
       let b : nat_abs (slice_index_or c.args.cost.now k d) ≤ c.largest.result = c.largest.ensures.bound k d l in
