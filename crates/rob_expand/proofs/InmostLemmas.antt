@@ -40,6 +40,20 @@ module _ (r : Ends) (vs : List ℤ) (v : ℤ) (from : v ≡ value_of r.from vs) 
       ap (λ (b : Bool). finding b false)
       (lt_no (pos 99) (value_of (length_form r) vs) (omega (arith, ints, minus_is r.upto r.from vs, from, upto)))
 
+  -- a sum over it is the expression inside
+  module _ (p : Placed) where
+    pub one_counted : (limit room : ℕ) → tree_left limit (over r p) vs room ≡ tree_left limit p (v ∷ vs) room
+    one_counted limit room =
+        ap (λ (ws : List ℤ). over_left limit (λ w. tree_left limit p (w ∷ vs)) ws room) one_value
+
+    pub one_printed : (own : List Name) → printed_at own (over r p) vs ≡ printed_at own p (v ∷ vs)
+    one_printed own = ap (λ (ws : List ℤ). summed (map (λ w. printed_at own p (w ∷ vs)) ws)) one_value
+
+    pub one_found : tree_found (over r p) vs ≡ tree_found p (v ∷ vs)
+    one_found =
+        (λ i. worse (none_long i) (worst (λ w. tree_found p (w ∷ vs)) (one_value i)))
+        ∙ worse_nothing (tree_found p (v ∷ vs))
+
 -- an end that a range is seen to have
 pub end_read : (f : Form) {o : Option ℤ} {v : ℤ} {ws vs : List ℤ} → o ≡ Some v → ws ≡ vs
     → IfSome o (λ v. v ≡ value_of f ws) → v ≡ value_of f vs
@@ -61,24 +75,19 @@ module _ (ends : Ends) (inner : _) (whole shown last : Code) (vs us : List ℤ) 
   seen : placed_of whole ≡ over ends (placed_of shown)
   seen = sym (over_seen ends inner whole shown is same)
 
-  one : values_of ends vs ≡ v ∷ []
-  one = one_value ends vs v from upto
-
   pub inmost_more : IsInmost whole vs last us
   inmost_more = record {
     counted = λ limit room.
         ap (λ (p : Placed). tree_left limit p vs room) seen
-        ∙ ap (λ (ws : List ℤ). over_left limit (λ w. tree_left limit (placed_of shown) (w ∷ vs)) ws room) one
+        ∙ one_counted ends vs v from upto (placed_of shown) limit room
         ∙ inside.counted limit room;
     printed = λ own.
         ap (λ (p : Placed). printed_at own p vs) seen
-        ∙ ap (λ (ws : List ℤ). summed (map (λ w. printed_at own (placed_of shown) (w ∷ vs)) ws)) one
+        ∙ one_printed ends vs v from upto (placed_of shown) own
         ∙ inside.printed own;
     found =
         ap (λ (p : Placed). tree_found p vs) seen
-        ∙ (λ i. worse (none_long ends vs v from upto i)
-        (worst (λ w. tree_found (placed_of shown) (w ∷ vs)) (one i)))
-        ∙ worse_nothing (tree_found (placed_of shown) (v ∷ vs))
+        ∙ one_found ends vs v from upto (placed_of shown)
         ∙ inside.found;
   }
 

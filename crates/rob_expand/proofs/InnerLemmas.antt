@@ -145,16 +145,18 @@ innermost_some fs gs x is some e = go fs some e ∙ ap first_factor is
     go [] n e = absurd (omega (arith, n))
     go (h ∷ hs) n e = e
 
-pub sum_least : (f g sum : Form) (a b : ℤ) (vs : List ℤ) → pos 0 ≤ℤ a → pos 0 ≤ℤ b
-    → sum ≡ plus_times (plus_times (only (pos 0)) a f) b g → pos 0 ≤ℤ value_of f vs → pos 0 ≤ℤ value_of g vs
-    → pos 0 ≤ℤ value_of sum vs
-sum_least f g sum a b vs h k is p q =
-    let m = mul_nonneg a (value_of f vs) h p in
-    let n = mul_nonneg b (value_of g vs) k q in
-    let e = plus_times_is (plus_times (only (pos 0)) a f) b g vs in
-    let d = plus_times_is (only (pos 0)) a f vs in
+-- where a form is at least 0, so is a sum to which it is added with a factor of at least 0
+pub nothing_least : (nothing : Form) (vs : List ℤ) → nothing ≡ only (pos 0) → pos 0 ≤ℤ value_of nothing vs
+nothing_least nothing vs is =
     let z : value_of (only (pos 0)) vs ≡ pos 0 = refl in
-    subst (λ (s : Form). pos 0 ≤ℤ value_of s vs) (sym is) (omega (arith, ints, m, n, e, d, z))
+    subst (λ (s : Form). pos 0 ≤ℤ value_of s vs) (sym is) (omega (arith, ints, z))
+
+pub added_least : (f g sum : Form) (a : ℤ) (vs : List ℤ) → pos 0 ≤ℤ a → sum ≡ plus_times f a g
+    → pos 0 ≤ℤ value_of g vs → pos 0 ≤ℤ value_of f vs → pos 0 ≤ℤ value_of sum vs
+added_least f g sum a vs h is p q =
+    let m = mul_nonneg a (value_of g vs) h p in
+    let e = plus_times_is f a g vs in
+    subst (λ (s : Form). pos 0 ≤ℤ value_of s vs) (sym is) (omega (arith, ints, m, e, q))
 
 -- ---- what the two lengths tell, as they are tested
 module _ (rs : List Ends) (vs : List ℤ) (a b : ℤ) (first : value_of (first_length rs) vs ≡ a)

@@ -21,12 +21,12 @@ use Rattle.rob_expand.specs.declared.judging.Finding.TheVariants.{Nothing}
 use Rattle.rob_expand.specs.declared.line.Item.{Item}
 use Rattle.rob_expand.specs.declared.line.Line.{Line}
 use Rattle.rob_expand.specs.declared.placed.Named.{Named}
-use Rattle.rob_expand.specs.Placed.{placed_of}
 use Rattle.rob_expand.specs.Placing.{placed_name, placed_tree, placed_parts, placed_factors}
 use Rattle.rob_expand.specs.Statements.{head_of, over_of, trees_of, items_of, name_item, member_item, IsLine}
 use Rattle.rob_expand.specs.Judging.{finding, worse, worst, is_outside, index_found, indices_found, length_found, range_found, ranges_found, tree_found, parts_found, factors_found, optional_found, item_found, line_found, lines_found}
+use Rattle.rob_expand.proofs.TreesLemmas.{trees_found}
 use Rattle.rob_expand.proofs.WalkLemmas.{flat_mapped}
-use Rattle.rob_expand.proofs.FindingLemmas.{worse_nothing, worse_assoc, worse_both, worst_nothing, worst_same, worst_append, worst_worse, worst_map, worst_flat, worst_finding, worst_long, worst_out}
+use Rattle.rob_expand.proofs.FindingLemmas.{worse_nothing, worse_assoc, worse_both, worst_nothing, worst_same, worst_append, worst_worse, worst_flat, worst_finding, worst_long, worst_out}
 
 -- ---- settings inside ranges, as lists of values
 -- the settings of these ranges are these values of these names
@@ -282,8 +282,7 @@ module _ (limit : ℕ) (s : Indexed Tree) (ranges : List Ends) (line : Line) (is
       ≡ line_found line vs
   line_is vs =
       let head = ap (λ (o : Option Named). optional_found o vs) (sym is.head_is) in
-      let trees = ap (worst (λ p. tree_found p vs)) (sym is.trees_are)
-      ∙ worst_map (λ p. tree_found p vs) placed_of line.trees in
+      let trees = sym (trees_found names line.trees (trees_of s) is.trees_are vs) in
       let items = ap (worst (λ (x : Item). item_found x vs)) (sym is.items_are) in
       let over = ap (λ (o : Option Named). optional_found o vs) (sym is.over_is) in
       worse_both head (worse_both trees (worse_both items over))

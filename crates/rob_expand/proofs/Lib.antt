@@ -28,3 +28,6 @@ pub mod AppendLemmas
 pub mod RoundingLemmas
 pub mod InmostLemmas
 pub mod RunLemmas
+pub mod ScopeLemmas
+pub mod AlikeLemmas
+pub mod TreesLemmas

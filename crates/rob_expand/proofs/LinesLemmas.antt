@@ -17,7 +17,7 @@ use Rattle.rob_expand.specs.declared.count.Shape.{Shape}
 use Rattle.rob_expand.specs.declared.line.Item.{Item}
 use Rattle.rob_expand.specs.declared.line.Line.{Line}
 use Rattle.rob_expand.specs.Room.{left_of, after}
-use Rattle.rob_expand.specs.Placed.{Placed, placed_of}
+use Rattle.rob_expand.specs.Placed.{placed_of}
 use Rattle.rob_expand.specs.Placing.{placed_tree}
 use Rattle.rob_expand.specs.Count.{of_shape}
 use Rattle.rob_expand.specs.Settings.{all_left}
@@ -26,6 +26,7 @@ use Rattle.rob_expand.specs.Statements.{IsLine, base_of, trees_of, items_of, nam
 use Rattle.rob_expand.proofs.RoomLemmas.{left_zero, left_same, left_after, more_crowded}
 use Rattle.rob_expand.proofs.CountLemmas.{tree_left_is}
 use Rattle.rob_expand.proofs.PlacingLemmas.{placed_is}
+use Rattle.rob_expand.proofs.TreesLemmas.{trees_counted}
 
 pub rest_is : (shape : Shape) (o : Option ℕ) → rest_of (of_shape shape o) ≡ o
 rest_is shape None = refl
@@ -168,7 +169,7 @@ module _ (limit : ℕ) (words : List Name) where
         (λ k.
         ap (λ (o : Option ℕ). after o (items_left true line.items vs))
         (ap (λ (n : ℕ). trees_left n (map placed_of line.trees) vs k) is.limit_is
-        ∙ ap (λ (ts : List Placed). trees_left limit ts vs k) is.trees_are ∙ trees_are names (trees_of s) vs k)
+        ∙ trees_counted names limit line.trees (trees_of s) is.trees_are vs k ∙ trees_are names (trees_of s) vs k)
         ∙ left_after (trees_tokens (trees_of s) setting) (items_tokens s setting) k (items_left true line.items vs)
         (λ j. ap (λ (l : List Item). items_left true l vs j) is.items_are ∙ items_are names s vs j))
         ∙ left_same _ _ room

@@ -49,6 +49,7 @@ use Rattle.rob_expand.specs.Instances.{ref_at, tree_at, set_at, each_at, member_
 use Rattle.rob_expand.specs.Making.{number_zero, summed_of, made_parts, made_factors, made_each, entry_at, first_at, second_at, head_in, relation_in, numbers_in, budget_in}
 use Rattle.rob_expand.specs.Statements.{IsLineOf, head_of, over_of, trees_of}
 use Rattle.rob_expand.proofs.StepLemmas.{part_is}
+use Rattle.rob_expand.proofs.TreesLemmas.{first_tree, second_tree}
 use Rattle.rob_expand.proofs.WalkLemmas.{flat_mapped}
 use Rattle.rob_expand.proofs.NameLemmas.{set_is, items_are}
 use Rattle.rob_index.proofs.FastLemmas.{map_flat, flat_same}
@@ -209,12 +210,14 @@ module _ (own words : List Name) (vs : List ℤ) (s : Indexed Tree) (line : Line
   first_made : (t : Tree) (ts : List Tree) → trees_of s ≡ t ∷ ts
       → first_at own (map placed_of line.trees) vs ≡ tree_at own printed names t vs
   first_made t ts trees =
-      ap (λ (ps : List Placed). first_at own ps vs) (is.trees_are ∙ ap (map (placed_tree names)) trees)
+      first_tree names own line.trees (trees_of s) is.trees_are vs
+      ∙ ap (λ (us : List Tree). first_at own (map (placed_tree names) us) vs) trees
 
   second_made : (t u : Tree) (ts : List Tree) → trees_of s ≡ t ∷ u ∷ ts
       → second_at own (map placed_of line.trees) vs ≡ tree_at own printed names u vs
   second_made t u ts trees =
-      ap (λ (ps : List Placed). second_at own ps vs) (is.trees_are ∙ ap (map (placed_tree names)) trees)
+      second_tree names own line.trees (trees_of s) is.trees_are vs
+      ∙ ap (λ (us : List Tree). second_at own (map (placed_tree names) us) vs) trees
 
   relation_made : (l p : Tree) (r : Rel) → trees_of s ≡ l ∷ p ∷ []
       → relation_in own words r line vs

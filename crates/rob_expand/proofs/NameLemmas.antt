@@ -27,6 +27,7 @@ use Rattle.rob_expand.specs.Names.{tree_names, part_names, factor_names, side_na
 use Rattle.rob_expand.specs.Growing.{printed, add_name, printed_at, parts_names, factors_names, each_names, over_at, item_names, line_names, lacks_members, is_bare}
 use Rattle.rob_expand.specs.Instances.{ref_at, tree_at, set_at, each_at, member_at, instance_at, instance}
 use Rattle.rob_expand.proofs.StepLemmas.{part_is}
+use Rattle.rob_expand.proofs.TreesLemmas.{trees_named}
 use Rattle.rob_expand.proofs.WalkLemmas.{or_both, join_both, flat_mapped}
 use Rattle.rob_index.proofs.FastLemmas.{map_flat, flat_same}
 
@@ -154,9 +155,7 @@ module _ (own : List Name) (vs : List ℤ) where
   line_names_are s line is =
       let names = names_in [] (ranges_of s) in
       let head = ap (λ (o : Option Named). option_to_list (over_at own o vs)) is.head_is in
-      let trees =
-      sym (flat_mapped (λ (p : Placed). tree_names (printed_at own p vs)) placed_of line.trees)
-      ∙ ap (flat_map (λ (p : Placed). tree_names (printed_at own p vs))) is.trees_are in
+      let trees = trees_named names own line.trees (trees_of s) is.trees_are vs in
       let items = ap (flat_map (λ (x : Item). item_names own x vs)) is.items_are in
       let sets = ap (λ (o : Option Named). option_to_list (over_at own o vs)) is.over_is in
       let all : line_names own line vs ≡ stated_names line.limit names s =

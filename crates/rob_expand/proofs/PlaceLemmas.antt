@@ -1,70 +1,179 @@
--- Lists that are placed item by item.
-use Rattle.std.proofs.Common.{◌≡◌, ℕ, ◌+◌, ◌<◌, ◌≤◌, List, [], ◌∷◌, ◌++◌, length, map, drop, get_or, refl, sym, ap, ◌∙◌, append_assoc, append-nil}
-use Rattle.std.proofs.lemmas.List.{at_drop_more, at_drop_all, map-append}
-use Rattle.rob_algebra.proofs.ListLemmas.{map_map}
+-- What is placed of the code's trees, level by level; lists that are placed item by item.
+use Rattle.std.proofs.Common.{◌≡◌, ℕ, Bool, true, false, ◌+◌, ◌<◌, ◌≤◌, List, [], ◌∷◌, ◌++◌, length, map, take, get_or, rules, sym, ap, ◌∙◌, subst}
+use Rattle.std.specs.declared.alloc.Global.{Global}
+use Rattle.std.specs.declared.boxed.Box.{Box}
+use Rattle.std.proofs.lemmas.List.{take_all, take_more}
+use Rattle.rob_index.specs.Fast.{index_form, ends_of, nothing}
+use Rattle.rob_index.specs.Forms.{Form, minus}
 use Rattle.rob_index.specs.Statements as stated
-use Rattle.rob_syntax.specs.declared.syntax.Part.{Part as Given, fold_out-Part as fold_out-Given}
+use Rattle.rob_syntax.specs.declared.syntax.Index.{Index}
+use Rattle.rob_syntax.specs.declared.syntax.Numeral.{Numeral}
+use Rattle.rob_syntax.specs.declared.syntax.Part.{Part as Given}
+use Rattle.rob_syntax.specs.declared.syntax.Range.{Range}
+use Rattle.rob_syntax.specs.declared.syntax.Ref.{Ref}
 use Rattle.rob_syntax.specs.declared.syntax.Tree.{Tree as GivenTree}
-use Rattle.rob_syntax.specs.Seen as seen
-use Rattle.rob_syntax.specs.Seen.{SeenPart, seen_part, seen_tree}
-use Rattle.rob_expand.specs.declared.placed.Placed.{Placed as Code}
+use Rattle.rob_syntax.specs.declared.syntax.Tree.TheVariants as given
+use Rattle.rob_syntax.specs.Seen.{SeenPart, seen_index, seen_numeral, seen_part, seen_range, seen_tree}
+use Rattle.rob_syntax.proofs.Fronts.TreeLemmas as shown
+use Rattle.rob_expand.specs.declared.placed.Named.{Named}
 use Rattle.rob_expand.specs.declared.placed.Part.{Part as CodePart}
-use Rattle.rob_expand.specs.Placed.{Part, parts_of, factors_of, placed_of, part_of}
-use Rattle.rob_expand.specs.Placing.{placed_tree, placed_parts, placed_factors}
+use Rattle.rob_expand.specs.declared.placed.Placed.{Placed as Code, the_lemmas}
+use Rattle.rob_expand.specs.declared.placed.Placed.TheVariants as code
+use Rattle.rob_expand.specs.declared.scope.Binding.{Binding}
+use Rattle.rob_expand.specs.Placed.{Placed, Part, number, name, sum, product, over, placed_of, part_of, parts_of, factors_of}
+use Rattle.rob_expand.specs.Placing.{placed_tree}
+use Rattle.rob_expand.specs.Scopes.{IsAlike, IsIndex, IsNothing, IsPart, IsPlaced, IsPutIn, Pairwise}
+use Rattle.rob_expand.proofs.AlikeLemmas.{number_alike, name_alike, sum_alike, product_alike, over_alike, single_alike}
 use Rattle.rob_expand.proofs.StepLemmas.{part_is}
 
--- one item more of those that are mapped
-pub mapped_step : {A B C : Type 0} (f : A → C) (g : B → C) (done : List A) (xs : List B) (i : ℕ) (x : B) (y : A)
-    {result : List C} → i < length xs → x ≡ get_or xs i x → f y ≡ g x
-    → map f done ++ map g (drop i xs) ≡ result → map f (done ++ y ∷ []) ++ map g (drop (i + 1) xs) ≡ result
-mapped_step {A} {B} {C} f g done xs i x y inside is same so_far =
-    let step : map g (drop i xs) ≡ map g (get_or xs i x ∷ drop (i + 1) xs) = at_drop_more (map g) xs i x inside in
-    ap (λ (l : List C). l ++ map g (drop (i + 1) xs)) (map-append f done (y ∷ []))
-    ∙ append_assoc (map f done) (f y ∷ []) (map g (drop (i + 1) xs))
-    ∙ ap (λ (c : C). map f done ++ c ∷ map g (drop (i + 1) xs)) (same ∙ ap g is)
-    ∙ ap (λ (l : List C). map f done ++ l) (sym step) ∙ so_far
+-- ---- item by item
+pairs_with : {A B : Type 0} (Holds : A → B → Type 0) (xs : List A) (ys : List B) (x : A) (y : B)
+    → Pairwise Holds xs ys → Holds x y → Pairwise Holds (xs ++ x ∷ []) (ys ++ y ∷ [])
+pairs_with Holds [] [] x y h k = (k, tt)
+pairs_with Holds [] (z ∷ ys) x y h k = absurd h
+pairs_with Holds (z ∷ xs) [] x y h k = absurd h
+pairs_with Holds (z ∷ xs) (w ∷ ys) x y h k = (h.0, pairs_with Holds xs ys x y h.1 k)
 
-pub mapped_all : {A B C : Type 0} (f : A → C) (g : B → C) (done : List A) (xs : List B) (i : ℕ) {result : List C}
-    → length xs ≤ i → map f done ++ map g (drop i xs) ≡ result → map f done ≡ result
-mapped_all {A} {B} {C} f g done xs i all so_far =
-    let end : map g (drop i xs) ≡ [] = at_drop_all (map g) xs i all in
-    sym (append-nil (map f done)) ∙ ap (λ (l : List C). map f done ++ l) (sym end) ∙ so_far
+-- none is placed, one more, and all
+pub pairs_none : {A B : Type 0} (Holds : A → B → Type 0) (done : List A) (xs : List B) → done ≡ []
+    → Pairwise Holds done (take 0 xs)
+pairs_none {A} {B} Holds done xs none = subst (λ (l : List A). Pairwise Holds l (take 0 xs)) (sym none) tt
 
-module _ (names : List ℕ) where
-  -- a part of a sum
-  abbrev pub placed_part : SeenPart → Part
-  placed_part p = record { minus = p.minus; inner = placed_tree names p.inner }
+pub pairs_more : {A B : Type 0} (Holds : A → B → Type 0) (done next : List A) (xs : List B) (i : ℕ) (y : B) (x : A)
+    → i < length xs → y ≡ get_or xs i y → next ≡ done ++ x ∷ [] → Holds x y → Pairwise Holds done (take i xs)
+    → Pairwise Holds next (take (i + 1) xs)
+pairs_more {A} {B} Holds done next xs i y x inside is pushed holds so_far =
+    let with_it : take i xs ++ y ∷ [] ≡ take (i + 1) xs =
+    ap (λ (z : B). take i xs ++ z ∷ []) is ∙ sym (take_more xs i y inside) in
+    subst (λ (l : List A). Pairwise Holds l (take (i + 1) xs)) (sym pushed)
+    (subst (λ (l : List B). Pairwise Holds (done ++ x ∷ []) l) with_it
+    (pairs_with Holds done (take i xs) x y so_far holds))
 
-  pub parts_listed : (ps : List SeenPart) → placed_parts names (seen.parts_of ps) ≡ parts_of (map placed_part ps)
-  parts_listed [] = refl
-  parts_listed (p ∷ ps) = rw (parts_listed ps) refl
+pub pairs_all : {A B : Type 0} (Holds : A → B → Type 0) (done : List A) (xs : List B) (i : ℕ) → length xs ≤ i
+    → Pairwise Holds done (take i xs) → Pairwise Holds done xs
+pairs_all {A} {B} Holds done xs i all so_far =
+    subst (λ (l : List B). Pairwise Holds done l) (take_all i xs all) so_far
 
-  pub factors_listed : (fs : List stated.Tree)
-      → placed_factors names (seen.factors_of fs) ≡ factors_of (map (placed_tree names) fs)
-  factors_listed [] = refl
-  factors_listed (f ∷ fs) = rw (factors_listed fs) refl
+-- of lists that are shown otherwise
+pub pairs_shown : {A B : Type 0} (Holds : A → B → Type 0) (xs : List A) {shown ys : List B} → shown ≡ ys
+    → Pairwise Holds xs shown → Pairwise Holds xs ys
+pairs_shown {A} {B} Holds xs same h = subst (λ (l : List B). Pairwise Holds xs l) same h
 
-  -- a part that is placed
-  pub part_placed : (x : Given) (y : CodePart) → y.minus ≡ x.minus
-      → placed_of y.inner ≡ placed_tree names (seen_tree x.inner)
-      → part_of y ≡ placed_part (seen_part x)
-  part_placed x y minus inner =
-      let given : seen_part x ≡ record { minus = x.minus; inner = seen_tree x.inner } =
-      fold_out-Given stated.Tree SeenPart seen.tree_step seen.part_step x in
-      let same : record { minus = y.minus; inner = placed_of y.inner }
-      ≡ placed_part (record { minus = x.minus; inner = seen_tree x.inner }) =
-      λ i. record { minus = minus i; inner = inner i } in
-      part_is y ∙ same ∙ ap placed_part (sym given)
+mapped_pairs : {A B C D : Type 0} (Holds : C → D → Type 0) (f : A → C) (g : B → D) (xs : List A) (ys : List B)
+    → Pairwise (λ x y. Holds (f x) (g y)) xs ys → Pairwise Holds (map f xs) (map g ys)
+mapped_pairs Holds f g [] [] h = tt
+mapped_pairs Holds f g [] (y ∷ ys) h = absurd h
+mapped_pairs Holds f g (x ∷ xs) [] h = absurd h
+mapped_pairs Holds f g (x ∷ xs) (y ∷ ys) h = (h.0, mapped_pairs Holds f g xs ys h.1)
 
-  -- all parts, all factors
-  pub parts_all : (done : List CodePart) (xs : List Given)
-      → map part_of done ≡ map (λ p. placed_part (seen_part p)) xs
-      → parts_of (map part_of done) ≡ placed_parts names (seen.parts_of (map seen_part xs))
-  parts_all done xs same =
-      ap parts_of (same ∙ sym (map_map placed_part seen_part xs)) ∙ sym (parts_listed (map seen_part xs))
+-- ---- the code's placed trees
+number_of : (n : Numeral) → placed_of (code.Number n) ≡ number (seen_numeral n)
+number_of n = search (rules, the_lemmas)
 
-  pub factors_all : (done : List Code) (xs : List GivenTree)
-      → map placed_of done ≡ map (λ t. placed_tree names (seen_tree t)) xs
-      → factors_of (map placed_of done) ≡ placed_factors names (seen.factors_of (map seen_tree xs))
-  factors_all done xs same =
-      ap factors_of (same ∙ sym (map_map (placed_tree names) seen_tree xs)) ∙ sym (factors_listed (map seen_tree xs))
+name_of : (n : Named) → placed_of (code.Name n) ≡ name n.word n.indices
+name_of n = search (rules, the_lemmas)
+
+sum_of : (ps : List CodePart) → placed_of (code.Sum ps) ≡ sum (parts_of (map part_of ps))
+sum_of ps = search (rules, the_lemmas)
+
+product_of : (ps : List Code) → placed_of (code.Product ps) ≡ product (factors_of (map placed_of ps))
+product_of ps = search (rules, the_lemmas)
+
+module _ (bound : List Binding) (names : List ℕ) where
+  -- what is said of one expression is said of the same one
+  moved_alike : {p q : Placed} {s t : stated.Tree} → q ≡ p → t ≡ s → IsAlike bound p (placed_tree names s)
+      → IsAlike bound q (placed_tree names t)
+  moved_alike {p = p} {q = q} {s = s} {t = t} q_is t_is h =
+      subst (λ (x : Placed). IsAlike bound x (placed_tree names t)) (sym q_is)
+      (subst (λ (u : stated.Tree). IsAlike bound p (placed_tree names u)) (sym t_is) h)
+
+  pub number_placed : (x : GivenTree) (n : Numeral) → x ≡ given.Number n
+      → IsPlaced bound names (code.Number n) (seen_tree x)
+  number_placed x n is =
+      moved_alike (number_of n) (ap seen_tree is ∙ shown.number_is n) (number_alike bound (seen_numeral n))
+
+  indices_placed : (fs : List Form) (xs : List Index)
+      → Pairwise (λ f x. IsIndex bound names f (seen_index x)) fs xs
+      → Pairwise (IsPutIn bound) fs (map (index_form names) (map seen_index xs))
+  indices_placed [] [] h = tt
+  indices_placed [] (x ∷ xs) h = absurd h
+  indices_placed (f ∷ fs) [] h = absurd h
+  indices_placed (f ∷ fs) (x ∷ xs) h = (h.0, indices_placed fs xs h.1)
+
+  pub ref_placed : (x : GivenTree) (r : Ref) (n : Named) → x ≡ given.Ref r → n.word ≡ r.name
+      → Pairwise (λ f i. IsIndex bound names f (seen_index i)) n.indices r.indices
+      → IsPlaced bound names (code.Name n) (seen_tree x)
+  ref_placed x r n is word indices =
+      moved_alike (name_of n ∙ ap (λ (k : ℕ). name k n.indices) word) (ap seen_tree is ∙ shown.ref_is r)
+      (name_alike bound r.name n.indices (map (index_form names) (map seen_index r.indices))
+      (indices_placed n.indices r.indices indices))
+
+  pub sum_placed : (x : GivenTree) (xs items : List Given) (ps : List CodePart) → x ≡ given.Sum xs → items ≡ xs
+      → Pairwise (λ p y. IsPart bound names (part_of p) (seen_part y)) ps items
+      → IsPlaced bound names (code.Sum ps) (seen_tree x)
+  sum_placed x xs items ps is same parts =
+      moved_alike (sum_of ps)
+      (ap seen_tree is ∙ ap (λ (l : List Given). seen_tree (given.Sum l)) (sym same) ∙ shown.sum_is items)
+      (sum_alike bound names (map part_of ps) (map seen_part items)
+      (mapped_pairs (IsPart bound names) part_of seen_part ps items parts))
+
+  pub product_placed : (x : GivenTree) (xs items : List GivenTree) (ps : List Code) → x ≡ given.Product xs
+      → items ≡ xs → Pairwise (λ p y. IsPlaced bound names p (seen_tree y)) ps items
+      → IsPlaced bound names (code.Product ps) (seen_tree x)
+  product_placed x xs items ps is same factors =
+      moved_alike (product_of ps)
+      (ap seen_tree is ∙ ap (λ (l : List GivenTree). seen_tree (given.Product l)) (sym same)
+      ∙ shown.product_is items)
+      (product_alike bound names (map placed_of ps) (map seen_tree items)
+      (mapped_pairs (λ (p : Placed) (t : stated.Tree). IsAlike bound p (placed_tree names t)) placed_of seen_tree ps
+      items factors))
+
+  -- a signed part
+  pub part_placed : (x : Given) (p : CodePart) → p.minus ≡ x.minus → IsPlaced bound names p.inner (seen_tree x.inner)
+      → IsPart bound names (part_of p) (seen_part x)
+  part_placed x p minus inner =
+      subst (λ (q : Part). IsPart bound names q (seen_part x)) (sym (part_is p))
+      (subst (λ (y : SeenPart). IsPart bound names (record { minus = p.minus; inner = placed_of p.inner }) y)
+      (sym (shown.part_is x)) (minus, inner))
+
+  -- ---- a sum over a range
+  abbrev whole_of : Range → GivenTree → Placed
+  whole_of r t = over (ends_of names (seen_range r)) (placed_tree (r.name ∷ names) (seen_tree t))
+
+  pub ranged_placed : (x : GivenTree) (r : Range) (b : Box GivenTree Global) (t : GivenTree) (p : Code)
+      → x ≡ given.Ranged r b → t ≡ b.value → IsAlike bound (placed_of p) (whole_of r t)
+      → IsPlaced bound names p (seen_tree x)
+  ranged_placed x r b t p is same h =
+      subst (λ (u : stated.Tree). IsAlike bound (placed_of p) (placed_tree names u))
+      (ap (λ (t : GivenTree). stated.ranged (seen_range r) (seen_tree t)) same ∙ sym (shown.ranged_is r b)
+      ∙ sym (ap seen_tree is)) h
+
+  module _ (from upto length : Form) (r : Range) (t : GivenTree)
+      (from_is : IsIndex bound names from (seen_index r.from))
+      (upto_is : IsIndex bound names upto (seen_index r.upto)) (length_is : length ≡ minus upto from)
+      (inside : List Binding) (within : List ℕ) (within_is : within ≡ r.name ∷ names) (p : Code)
+      (placed : IsPlaced inside within p (seen_tree t)) where
+    abbrev inner : Placed
+    inner = placed_tree (r.name ∷ names) (seen_tree t)
+
+    alike_in : (moves : Bool) → inside ≡ record { moves = moves; start = from } ∷ bound
+        → IsAlike (record { moves = moves; start = from } ∷ bound) (placed_of p) inner
+    alike_in moves is =
+        subst (λ (l : List Binding). IsAlike l (placed_of p) inner) is
+        (subst (λ (ns : List ℕ). IsAlike inside (placed_of p) (placed_tree ns (seen_tree t))) within_is placed)
+
+    -- that has one value
+    pub single_placed : IsNothing length → inside ≡ record { moves = false; start = from } ∷ bound
+        → IsAlike bound (placed_of p) (whole_of r t)
+    single_placed none is =
+        single_alike bound (ends_of names (seen_range r)) from upto length from_is upto_is length_is (placed_of p) inner
+        none (alike_in false is)
+
+    -- or may have more
+    pub over_is_placed : inside ≡ record { moves = true; start = from } ∷ bound → (whole : Code)
+        → placed_of whole ≡ over (record { from = nothing; upto = length }) (placed_of p)
+        → IsAlike bound (placed_of whole) (whole_of r t)
+    over_is_placed is whole whole_is =
+        subst (λ (q : Placed). IsAlike bound q (whole_of r t)) (sym whole_is)
+        (over_alike bound (ends_of names (seen_range r)) from upto length from_is upto_is length_is (placed_of p) inner
+        (alike_in true is))

@@ -7,7 +7,7 @@ use Rattle.rob_expand.specs.Growing.{printed_at}
 use Rattle.rob_expand.specs.Judging.{tree_found}
 use Rattle.rob_expand.specs.Placed.{placed_of}
 
--- in every respect an expression at some values is the last one at others
+-- the tokens, the plain expression and the findings of an expression at some values are those of the last one at others
 pub record IsInmost (placed : Code) (vs : List ℤ) (last : Code) (us : List ℤ) : Type 0 where
   pub counted : (limit room : ℕ)
       → tree_left limit (placed_of placed) vs room ≡ tree_left limit (placed_of last) us room

@@ -14,5 +14,6 @@ pub mod Growing
 pub mod Instances
 pub mod Making
 pub mod Judging
+pub mod Scopes
 pub mod Spots
 pub mod Inmost

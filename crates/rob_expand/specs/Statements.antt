@@ -10,8 +10,8 @@ use Rattle.rob_index.specs.Forms.{Ends}
 use Rattle.rob_index.specs.Fast.{nest_of, names_in}
 use Rattle.rob_expand.specs.declared.line.Item.{Item}
 use Rattle.rob_expand.specs.declared.line.Line.{Line}
-use Rattle.rob_expand.specs.Placed.{placed_of}
-use Rattle.rob_expand.specs.Placing.{placed_name, placed_tree}
+use Rattle.rob_expand.specs.Placing.{placed_name}
+use Rattle.rob_expand.specs.Scopes.{IsPlaced, Pairwise}
 
 -- the expressions of a statement
 abbrev pub trees_of : Indexed Tree → List Tree
@@ -92,7 +92,7 @@ module _ (limit : ℕ) where
     pub limit_is : line.limit ≡ limit
     pub base_is : line.base ≡ base
     pub head_is : line.head ≡ option_map (placed_name (names_in [] rs)) head
-    pub trees_are : map placed_of line.trees ≡ map (placed_tree (names_in [] rs)) trees
+    pub trees_are : Pairwise (IsPlaced [] (names_in [] rs)) line.trees trees
     pub items_are : line.items ≡ items
     pub over_is : line.over ≡ option_map (placed_name (names_in [] rs)) over
 

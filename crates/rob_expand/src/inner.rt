@@ -1,7 +1,7 @@
 //! The ranges of an item of a list, inside those of its statement.
 
 ghost use Rattle.std.specs.Prelude.{◌≡◌, ◌≤◌, ◌≤ℤ◌, ℤ, [], List as Items, length, nat_abs, pos};
-ghost use Rattle.std.specs.Prelude.{false, IfOk, IfSome, IsTrue, MatchResult};
+ghost use Rattle.std.specs.Prelude.{false, IfOk, IfSome, IsTrue, MatchResult, OnOk};
 ghost use Rattle.rob_index.specs.Forms.{extensions, first_factor, only, value_of};
 ghost use Rattle.rob_ranges.specs.Shorts.{short_value};
 ghost use Rattle.rob_ranges.specs.Spans.{IsIn};
@@ -255,14 +255,21 @@ fn combination(alloc: Global, first: &Form, second: &Form) -> Result<Form, Memor
     ensures combined { IfOk result (λ form. (vs : Items ℤ) → pos 0 ≤ℤ value_of first.now vs
         → pos 0 ≤ℤ value_of second.now vs → pos 0 ≤ℤ value_of form vs) }
 {
-    let one = lowered(alloc, first)?;
-    let other = lowered(alloc, second)?;
     let mut sum = nothing(alloc);
-    let a = weight(alloc, second)?;
-    sum.add(alloc, &a, &one)?;
-    let b = weight(alloc, first)?;
-    sum.add(alloc, &b, &other)?;
+    add_lowered(alloc, &mut sum, first, second)?;
+    add_lowered(alloc, &mut sum, second, first)?;
     Ok(sum)
+}
+
+/// Adds a form, lowered, as often as the other one's factor of the innermost value is great.
+fn add_lowered(alloc: Global, sum: &mut Form, form: &Form, other: &Form) -> Result<(), Memory>
+    ensures kept { OnOk result ((vs : Items ℤ) → pos 0 ≤ℤ value_of form.now vs
+        → pos 0 ≤ℤ value_of sum.old vs → pos 0 ≤ℤ value_of sum.new vs) }
+{
+    let low = lowered(alloc, form)?;
+    let factor = weight(alloc, other)?;
+    sum.add(alloc, &factor, &low)?;
+    Ok(())
 }
 
 /// The factor of the innermost value, without its sign.

@@ -21,6 +21,7 @@ mod place;
 mod placed;
 mod room;
 mod rounding;
+mod scope;
 mod setting;
 mod settings;
 mod spot;

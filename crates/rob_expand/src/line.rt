@@ -29,7 +29,6 @@ pub struct Item {
 
 /// What of a statement has tokens or names: so many tokens in any setting, the name that is declared, expressions, the
 /// items of a list, and the name behind `over`.
-#[derive(Drop)]
 pub struct Line {
     /// What digits have to be within.
     pub limit: u64,
@@ -38,6 +37,20 @@ pub struct Line {
     pub trees: List<Placed>,
     pub items: List<Item>,
     pub over: Option<Named>,
+}
+
+impl Drop for Line {
+    /// Lets go of it in one call. A derived drop would stand in each function that does.
+    fn drop(self) {
+        let Line {
+            limit: _limit,
+            base: _base,
+            head: _head,
+            trees: _trees,
+            items: _items,
+            over: _over,
+        } = self;
+    }
 }
 
 /// What is left behind the lines of some settings, in which no items but those at these places have entries. The

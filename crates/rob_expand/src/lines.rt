@@ -5,8 +5,7 @@ ghost use Rattle.std.specs.Option.{option_map};
 ghost use Rattle.rob_index.specs.Counting as counting;
 ghost use Rattle.rob_index.specs.Fast.{names_in, nest_of};
 ghost use Rattle.rob_syntax.specs.Seen.{seen_bounds, seen_numeral, seen_over, seen_ranged, seen_ranges, seen_ref, seen_share, seen_statement, seen_tree};
-ghost use Rattle.rob_expand.specs.Placed.{placed_of};
-ghost use Rattle.rob_expand.specs.Placing.{placed_tree};
+ghost use Rattle.rob_expand.specs.Scopes.{IsPlaced, Pairwise};
 ghost use Rattle.rob_expand.specs.Statements.{IsLine, IsParts, member_item, name_item};
 
 use crate::around::{copied, with_name};
@@ -14,6 +13,7 @@ use crate::inner::Inner;
 use crate::line::{Item, Line};
 use crate::place::{place, place_name, place_over};
 use crate::placed::Placed;
+use crate::scope::Scope;
 use crate::tokens::{bounds_tokens, number_tokens, over_tokens, signed_tokens};
 use rob_number::{List, Memory};
 use rob_ranges::Ends;
@@ -140,11 +140,12 @@ fn row(
 
 /// Both sides of a relation.
 fn two_trees(alloc: Global, names: &[usize], sides: &Sides) -> Result<List<Placed>, Memory>
-    ensures trees { IfOk result (λ trees. map placed_of trees
-        ≡ map (placed_tree names.now) (seen_tree sides.now.left ∷ seen_tree sides.now.right ∷ [])) }
+    ensures trees { IfOk result (λ trees. Pairwise (IsPlaced [] names.now) trees
+        (seen_tree sides.now.left ∷ seen_tree sides.now.right ∷ [])) }
 {
-    let left = place(alloc, names, &sides.left)?;
-    let right = place(alloc, names, &sides.right)?;
+    let scope = Scope::within(alloc, names)?;
+    let left = place(alloc, &scope, &sides.left)?;
+    let right = place(alloc, &scope, &sides.right)?;
     let mut trees = List::new(alloc);
     trees.push(left)?;
     trees.push(right)?;
@@ -158,7 +159,8 @@ fn goal(alloc: Global, limit: u64, target: &Target) -> Result<(List<Ends>, Line)
         (seen_over target.now.over) p.0 p.1) }
 {
     let nest = nest_in(alloc, &[], target.ranges.items())?;
-    let tree = place(alloc, nest.names.items(), &target.objective)?;
+    let scope = Scope::within(alloc, nest.names.items())?;
+    let tree = place(alloc, &scope, &target.objective)?;
     let mut trees = List::new(alloc);
     trees.push(tree)?;
     let over = place_over(alloc, nest.names.items(), &target.over)?;

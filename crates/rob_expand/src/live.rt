@@ -6,7 +6,7 @@ ghost use Rattle.rob_expand.specs.Live.{lack_at, IsDead};
 use crate::divide::{small_steps, steps_to};
 use crate::setting::next;
 use rob_number::Memory;
-use rob_ranges::small::{small_growth, small_inside};
+use rob_ranges::small::{small_growth, small_inside, value_inside};
 use rob_ranges::{Ends, Whole};
 use std::alloc::Global;
 
@@ -35,7 +35,7 @@ pub fn first_live(
     }
 }
 
-/// The same in machine numbers, where all numbers are kept in one digit.
+/// The same for the outermost of the ranges inside, where all numbers are kept in one digit.
 #[inline(always)]
 fn small_first(from: &Whole, range: &Ends, values: &[Whole]) -> Option<Option<i64>>
     ensures live { IfSome result (λ live. MatchOption live
@@ -78,7 +78,7 @@ fn small_behind(from: i64, lack: i64, step: i64) -> Option<i64>
     from.checked_add(steps)
 }
 
-/// The same, where this is the outermost of the ranges inside.
+/// The first value from `from` on at which this range has one, or nothing, by numbers of any size.
 fn first_of(
     alloc: Global,
     from: &Whole,
@@ -166,8 +166,8 @@ fn fall(
 fn lack(alloc: Global, range: &Ends, value: &Whole, values: &[Whole]) -> Result<Whole, Memory>
     ensures lack { IfOk result (λ lack. lack ≡ lack_at range.now values.now value.now) }
 {
-    let from = range.from().value_inside(alloc, value, values)?;
-    let upto = range.upto().value_inside(alloc, value, values)?;
+    let from = value_inside(alloc, range.from(), value, values)?;
+    let upto = value_inside(alloc, range.upto(), value, values)?;
     let minus_one = Whole::small(alloc, -1);
     from.plus_times(alloc, &minus_one, &upto)
 }

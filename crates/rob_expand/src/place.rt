@@ -1,54 +1,80 @@
 //! Expressions with their indices and ranges as forms.
 
-ghost use Rattle.std.specs.Prelude.{◌≡◌, map, IfOk};
+ghost use Rattle.std.specs.Prelude.{◌≡◌, ◌∷◌, map, IfOk};
 ghost use Rattle.rob_index.specs.Fast as fast;
+ghost use Rattle.rob_index.specs.Fast.{nothing};
 ghost use Rattle.std.specs.Option.{option_map};
-ghost use Rattle.rob_syntax.specs.Seen.{seen_index, seen_over, seen_part, seen_ref, seen_tree};
-ghost use Rattle.rob_syntax.specs.Seen as seen;
-ghost use Rattle.rob_expand.specs.Placed.{placed_of, part_of, parts_of, factors_of};
-ghost use Rattle.rob_expand.specs.Placing.{placed_name, placed_tree, placed_parts, placed_factors};
+ghost use Rattle.rob_syntax.specs.Seen.{seen_index, seen_over, seen_part, seen_range, seen_ref, seen_tree};
+ghost use Rattle.rob_expand.specs.Placed.{placed_of, part_of, over};
+ghost use Rattle.rob_expand.specs.Placing.{placed_name, placed_tree};
+ghost use Rattle.rob_expand.specs.Scopes.{IsAlike, IsIndex, IsPart, IsPlaced, Pairwise};
 
-use crate::around::with_name;
 use crate::placed::{Named, Part, Placed};
+use crate::scope::{Scope, is_nothing};
 use rob_number::{List, Memory};
-use rob_ranges::Form;
-use rob_ranges::index::{ends_of, index_form};
+use rob_ranges::index::index_form;
+use rob_ranges::{Ends, Form};
 use rob_syntax::syntax;
-use rob_syntax::syntax::{Index, Ref, Tree};
+use rob_syntax::syntax::{Index, Range, Ref, Tree};
 use std::alloc::Global;
 
-/// An expression over the values of the ranges around it, whose names are these, the innermost first.
+/// An expression over the values of the ranges around it. The start of a sum's range is put in for its value, so that a
+/// setting has how far the value is from there. Where the range is seen to have one value everywhere, what is placed is
+/// the expression inside.
 #[cycle(place)]
-pub fn place(alloc: Global, names: &[usize], tree: &Tree) -> Result<Placed, Memory>
-    ensures placed { IfOk result (λ placed. placed_of placed
-        ≡ placed_tree names.now (seen_tree tree.now)) }
+pub fn place(alloc: Global, scope: &Scope, tree: &Tree) -> Result<Placed, Memory>
+    ensures placed { IfOk result
+        (λ placed. IsPlaced scope.now.bound scope.now.names placed (seen_tree tree.now)) }
 {
     match tree {
         Tree::Number(number) => Ok(Placed::Number(*number)),
-        Tree::Ref(name) => Ok(Placed::Name(place_name(alloc, names, name)?)),
-        Tree::Sum(parts) => Ok(Placed::Sum(place_parts(alloc, names, parts.items())?)),
+        Tree::Ref(name) => Ok(Placed::Name(name_within(alloc, scope, name)?)),
+        Tree::Sum(parts) => Ok(Placed::Sum(place_parts(alloc, scope, parts.items())?)),
         Tree::Product(factors) => {
-            let factors = place_factors(alloc, names, factors.items())?;
+            let factors = place_factors(alloc, scope, factors.items())?;
             Ok(Placed::Product(factors))
         }
-        Tree::Ranged(range, inner) => {
-            let ends = ends_of(alloc, names, range)?;
-            let inside = with_name(alloc, range.name, names)?;
-            let inner = place(alloc, inside.items(), inner)?;
-            Ok(Placed::Over(ends, Box::new(alloc, inner)?))
-        }
+        Tree::Ranged(range, inner) => place_ranged(alloc, scope, range, inner),
     }
+}
+
+/// A sum over a range.
+#[cycle(place)]
+fn place_ranged(alloc: Global, scope: &Scope, range: &Range, inner: &Tree) -> Result<Placed, Memory>
+    ensures placed { IfOk result (λ placed. IsAlike scope.now.bound (placed_of placed)
+        (over (fast.ends_of scope.now.names (seen_range range.now))
+        (placed_tree (range.now.name ∷ scope.now.names) (seen_tree inner.now)))) }
+{
+    let from = scope.index(alloc, &range.from)?;
+    let upto = scope.index(alloc, &range.upto)?;
+    let length = upto.minus(alloc, &from)?;
+    if is_nothing(&length) {
+        let inside = scope.with(alloc, range.name, false, from)?;
+        return place(alloc, &inside, inner);
+    }
+    let inside = scope.with(alloc, range.name, true, from)?;
+    let inner = place(alloc, &inside, inner)?;
+    sum_over(alloc, length, inner)
+}
+
+/// An expression at each value from 0 up to a form's, all added.
+fn sum_over(alloc: Global, length: Form, inner: Placed) -> Result<Placed, Memory>
+    ensures placed { IfOk result (λ placed. placed_of placed
+        ≡ over (record { from = nothing; upto = length }) (placed_of inner)) }
+{
+    let ends = Ends::new(Form::nothing(alloc), length);
+    Ok(Placed::Over(ends, Box::new(alloc, inner)?))
 }
 
 /// The parts of a sum.
 #[cycle(place)]
-fn place_parts(alloc: Global, names: &[usize], parts: &[syntax::Part]) -> Result<List<Part>, Memory>
+fn place_parts(alloc: Global, scope: &Scope, parts: &[syntax::Part]) -> Result<List<Part>, Memory>
     ensures placed { IfOk result (λ placed.
-        parts_of (map part_of placed) ≡ placed_parts names.now (seen.parts_of (map seen_part parts.now))) }
+        Pairwise (λ p x. IsPart scope.now.bound scope.now.names (part_of p) (seen_part x)) placed parts.now) }
 {
     let mut placed = List::new(alloc);
     for part in parts {
-        let inner = place(alloc, names, &part.inner)?;
+        let inner = place(alloc, scope, &part.inner)?;
         placed.push(Part {
             minus: part.minus,
             inner,
@@ -59,18 +85,43 @@ fn place_parts(alloc: Global, names: &[usize], parts: &[syntax::Part]) -> Result
 
 /// The factors of a product.
 #[cycle(place)]
-fn place_factors(alloc: Global, names: &[usize], factors: &[Tree]) -> Result<List<Placed>, Memory>
+fn place_factors(alloc: Global, scope: &Scope, factors: &[Tree]) -> Result<List<Placed>, Memory>
     ensures placed { IfOk result (λ placed.
-        factors_of (map placed_of placed) ≡ placed_factors names.now (seen.factors_of (map seen_tree factors.now))) }
+        Pairwise (λ p x. IsPlaced scope.now.bound scope.now.names p (seen_tree x)) placed factors.now) }
 {
     let mut placed = List::new(alloc);
     for factor in factors {
-        placed.push(place(alloc, names, factor)?)?;
+        placed.push(place(alloc, scope, factor)?)?;
     }
     Ok(placed)
 }
 
-/// A name with its indices.
+/// A name of an expression.
+fn name_within(alloc: Global, scope: &Scope, name: &Ref) -> Result<Named, Memory>
+    ensures word { IfOk result (λ named. named.word ≡ name.now.name) }
+    ensures indices { IfOk result (λ named.
+        Pairwise (λ f x. IsIndex scope.now.bound scope.now.names f (seen_index x)) named.indices name.now.indices) }
+{
+    let indices = indices_within(alloc, scope, name.indices.items())?;
+    Ok(Named {
+        word: name.name,
+        indices,
+    })
+}
+
+/// The indices of a name of an expression.
+fn indices_within(alloc: Global, scope: &Scope, indices: &[Index]) -> Result<List<Form>, Memory>
+    ensures forms { IfOk result (λ forms.
+        Pairwise (λ f x. IsIndex scope.now.bound scope.now.names f (seen_index x)) forms indices.now) }
+{
+    let mut forms = List::new(alloc);
+    for index in indices {
+        forms.push(scope.index(alloc, index)?)?;
+    }
+    Ok(forms)
+}
+
+/// A name with its indices, over the values of the ranges around it, whose names are these, the innermost first.
 pub fn place_name(alloc: Global, names: &[usize], name: &Ref) -> Result<Named, Memory>
     ensures named { IfOk result (λ named. named ≡ placed_name names.now (seen_ref name.now)) }
 {

@@ -147,15 +147,17 @@ pub fn middle(settings: &[Setting]) -> usize
     }
     let mut upwards = half;
     let mut downwards = half;
-    'apart: while upwards < settings.len() && downwards > 0 {
+    'apart: while upwards < settings.len() {
         if !is_row(&settings[half - 1..upwards + 1]) {
             return upwards;
         }
         upwards += 1;
-        if !is_row(&settings[downwards - 1..half + 1]) {
-            return downwards;
+        if downwards > 0 {
+            if !is_row(&settings[downwards - 1..half + 1]) {
+                return downwards;
+            }
+            downwards -= 1;
         }
-        downwards -= 1;
     }
     half
 }

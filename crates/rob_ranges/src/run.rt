@@ -88,7 +88,7 @@ fn short_upto(range: &Ends, from: i64, values: &[Whole]) -> Option<i64>
     }
 }
 
-/// The same, whatever they are kept in.
+/// The value that both ends are, whatever they are kept in.
 #[inline(never)]
 fn only_long(alloc: Global, range: &Ends, values: &[Whole]) -> Result<Option<Whole>, Memory>
     ensures from { IfOk result (λ only. IfSome only (λ v. v ≡ value_of range.now.from values.now)) }

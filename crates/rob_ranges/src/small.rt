@@ -21,7 +21,7 @@ pub fn value_inside(
 {
     match small_inside(form, innermost, values) {
         Some(value) => Ok(Whole::small(alloc, value)),
-        None => form.value_inside(alloc, innermost, values),
+        None => form.long_inside(alloc, innermost, values),
     }
 }
 

@@ -31,7 +31,6 @@ use std::alloc::Global;
 const NO_STATEMENT: u8 = 11;
 
 /// The statements of a text, and what its names stand for.
-#[derive(Drop)]
 pub struct Statements {
     /// The statements, in order.
     pub list: List<Statement>,
@@ -40,6 +39,17 @@ pub struct Statements {
     pub words: Words,
     /// What is known behind the last line.
     pub scope: Scope,
+}
+
+impl Drop for Statements {
+    /// Lets go of it in one call. A derived drop would stand in each function that does.
+    fn drop(self) {
+        let Statements {
+            list: _list,
+            words: _words,
+            scope: _scope,
+        } = self;
+    }
 }
 
 /// What is kept from line to line.

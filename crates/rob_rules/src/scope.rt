@@ -12,13 +12,23 @@ use rob_syntax::syntax::Statement;
 use std::alloc::Global;
 
 /// What is known in front of a line, or of a statement.
-#[derive(Drop)]
 pub struct Scope {
     /// What each word stands for, by its number; nothing where it isn't declared yet.
     pub sorts: Vec<Option<Sort>>,
     pub sizes: Sizes,
     /// Whether a goal stands there.
     pub goal: bool,
+}
+
+impl Drop for Scope {
+    /// Lets go of it in one call. A derived drop would stand in each function that does.
+    fn drop(self) {
+        let Scope {
+            sorts: _sorts,
+            sizes: _sizes,
+            goal: _goal,
+        } = self;
+    }
 }
 
 impl Scope {

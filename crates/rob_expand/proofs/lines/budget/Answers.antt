@@ -2,9 +2,9 @@ use Rattle.std.proofs.Common.{◌+◌, List, [], map, refl, ap, ◌∙◌}
 use Rattle.rob_syntax.specs.declared.syntax.Ranged.{Ranged}
 use Rattle.rob_syntax.specs.declared.syntax.Share.{Share}
 use Rattle.rob_syntax.specs.Seen.{seen_ranged, seen_share}
-use Rattle.rob_expand.specs.Placed.{placed_of}
 use Rattle.rob_expand.specs.Statements.{member_item}
 use Rattle.rob_expand.proofs.PartsLemmas.{parts_are}
+use Rattle.rob_expand.proofs.TreesLemmas.{no_trees}
 use Rattle.rob_expand.proofs.lines.budget.Goals as goal
 
 pub returns : goal.returns
@@ -18,5 +18,5 @@ returns c = record {
       c.items.ensures.list in
       parts_are c.args.limit [] _ [] _ _ _ _ _ _ c.new-ranges.ensures.empty refl refl (λ i. 3 + (number i + tokens i))
       refl
-      (ap (map placed_of) c.new-trees.ensures.empty) items c.in_ok-over.ensures.named;
+      (no_trees [] c.new-trees.result c.new-trees.ensures.empty) items c.in_ok-over.ensures.named;
 }

@@ -4,9 +4,9 @@ use Rattle.rob_index.specs.Fast.{names_in, nest_of}
 use Rattle.rob_syntax.specs.declared.syntax.Range.{Range}
 use Rattle.rob_syntax.specs.Seen.{seen_ranges, seen_ref}
 use Rattle.rob_expand.specs.declared.placed.Named.{Named}
-use Rattle.rob_expand.specs.Placed.{placed_of}
 use Rattle.rob_expand.specs.Placing.{placed_name}
 use Rattle.rob_expand.proofs.PartsLemmas.{parts_are}
+use Rattle.rob_expand.proofs.TreesLemmas.{no_trees}
 use Rattle.rob_expand.proofs.lines.declaration.Goals as goal
 
 pub returns : goal.returns
@@ -22,5 +22,5 @@ returns c = record {
       ∙ ap (λ (ns : List ℕ). placed_name ns (seen_ref c.args.entry.now.name)) c.items-2.ensures.list) in
       parts_are c.args.limit _ _ c.in_ok-nest.nest.names _ _ _ _ _ _ ends bound refl
       (ap (λ (n : ℕ). 3 + n) c.bounds_tokens-bounds.ensures.tokens) head
-      (ap (map placed_of) c.new-trees.ensures.empty) c.new-items.ensures.empty refl;
+      (no_trees c.in_ok-nest.nest.names c.new-trees.result c.new-trees.ensures.empty) c.new-items.ensures.empty refl;
 }

@@ -6,10 +6,10 @@ use Rattle.rob_syntax.specs.declared.syntax.Ranged.{Ranged}
 use Rattle.rob_syntax.specs.declared.syntax.Ref.{Ref}
 use Rattle.rob_syntax.specs.Seen.{seen_ranged, seen_ranges, seen_ref}
 use Rattle.rob_expand.specs.declared.placed.Named.{Named}
-use Rattle.rob_expand.specs.Placed.{placed_of}
 use Rattle.rob_expand.specs.Placing.{placed_name}
 use Rattle.rob_expand.specs.Statements.{name_item}
 use Rattle.rob_expand.proofs.PartsLemmas.{parts_are}
+use Rattle.rob_expand.proofs.TreesLemmas.{no_trees}
 use Rattle.rob_expand.proofs.lines.policy.Goals as goal
 
 pub returns : goal.returns
@@ -32,5 +32,5 @@ returns c = record {
       c.items-4.ensures.list in
       parts_are c.args.limit _ _ c.in_ok-nest.nest.names _ _ _ _ _ _ ends bound refl
       (ap (λ (n : ℕ). 5 + n) c.bounds_tokens-bounds.ensures.tokens) head
-      (ap (map placed_of) c.new-trees.ensures.empty) items refl;
+      (no_trees c.in_ok-nest.nest.names c.new-trees.result c.new-trees.ensures.empty) items refl;
 }

@@ -3,8 +3,9 @@ use Rattle.std.specs.Option.{option_map}
 use Rattle.rob_index.specs.Fast.{names_in, nest_of}
 use Rattle.rob_syntax.specs.declared.syntax.Range.{Range}
 use Rattle.rob_syntax.specs.Seen.{seen_over, seen_ranges, seen_tree}
-use Rattle.rob_expand.specs.Placing.{placed_name, placed_tree}
+use Rattle.rob_expand.specs.Placing.{placed_name}
 use Rattle.rob_expand.proofs.PartsLemmas.{parts_are}
+use Rattle.rob_expand.proofs.TreesLemmas.{trees_within}
 use Rattle.rob_expand.proofs.lines.relation.Goals as goal
 
 pub returns : goal.returns
@@ -15,13 +16,15 @@ returns c = record {
       let bound =
       c.in_ok-nest.ensures.names ∙ ap (λ (rs : List Range). names_in [] (seen_ranges rs)) c.items.ensures.list in
       let pair = seen_tree c.args.sides.now.item.left ∷ seen_tree c.args.sides.now.item.right ∷ [] in
+      let names = c.in_ok-nest.nest.names in
       let trees =
-      c.in_ok-trees.ensures.trees ∙ ap (λ (ns : List ℕ). map (placed_tree ns) pair) c.items-2.ensures.list in
+      trees_within names c.items-2.result.now c.in_ok-trees.trees pair c.items-2.ensures.list
+      c.in_ok-trees.ensures.trees in
       let over =
       c.in_ok-over.ensures.named
       ∙ ap (λ (ns : List ℕ). option_map (placed_name ns) (seen_over c.args.sides.now.item.over)) c.items-3.ensures.list
       in
-      parts_are c.args.limit _ _ c.in_ok-nest.nest.names _ _ _ _ _ _ ends bound refl
+      parts_are c.args.limit _ _ names _ _ _ _ _ _ ends bound refl
       (ap (λ (n : ℕ). 3 + n) (c.over_tokens-tokens.ensures.tokens c.args.limit)) refl trees
       c.new-items.ensures.empty over;
 }

@@ -5,8 +5,9 @@ use Rattle.rob_index.specs.Fast.{names_in, nest_of}
 use Rattle.rob_syntax.specs.declared.syntax.Range.{Range}
 use Rattle.rob_syntax.specs.Seen.{seen_over, seen_ranges, seen_ref, seen_tree}
 use Rattle.rob_expand.specs.declared.placed.Named.{Named}
-use Rattle.rob_expand.specs.Placing.{placed_name, placed_tree}
+use Rattle.rob_expand.specs.Placing.{placed_name}
 use Rattle.rob_expand.proofs.PartsLemmas.{parts_are}
+use Rattle.rob_expand.proofs.TreesLemmas.{trees_within}
 use Rattle.rob_expand.proofs.lines.row.Goals as goal
 
 pub returns : goal.returns
@@ -21,13 +22,15 @@ returns c = record {
       (c.in_ok-head.ensures.named
       ∙ ap (λ (ns : List ℕ). placed_name ns (seen_ref c.args.name.now)) c.items-2.ensures.list) in
       let pair = seen_tree c.args.sides.now.item.left ∷ seen_tree c.args.sides.now.item.right ∷ [] in
+      let names = c.in_ok-nest.nest.names in
       let trees =
-      c.in_ok-trees.ensures.trees ∙ ap (λ (ns : List ℕ). map (placed_tree ns) pair) c.items-3.ensures.list in
+      trees_within names c.items-3.result.now c.in_ok-trees.trees pair c.items-3.ensures.list
+      c.in_ok-trees.ensures.trees in
       let over =
       c.in_ok-over.ensures.named
       ∙ ap (λ (ns : List ℕ). option_map (placed_name ns) (seen_over c.args.sides.now.item.over)) c.items-4.ensures.list
       in
-      parts_are c.args.limit _ _ c.in_ok-nest.nest.names _ _ _ _ _ _ ends bound refl
+      parts_are c.args.limit _ _ names _ _ _ _ _ _ ends bound refl
       (ap (λ (n : ℕ). 5 + n) (c.over_tokens-tokens.ensures.tokens c.args.limit)) head trees
       c.new-items.ensures.empty over;
 }

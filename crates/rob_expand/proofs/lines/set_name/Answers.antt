@@ -4,9 +4,9 @@ use Rattle.rob_index.specs.Fast.{names_in, nest_of}
 use Rattle.rob_syntax.specs.declared.syntax.Range.{Range}
 use Rattle.rob_syntax.specs.Seen.{seen_ranges, seen_ref}
 use Rattle.rob_expand.specs.declared.placed.Named.{Named}
-use Rattle.rob_expand.specs.Placed.{placed_of}
 use Rattle.rob_expand.specs.Placing.{placed_name}
 use Rattle.rob_expand.proofs.PartsLemmas.{parts_are}
+use Rattle.rob_expand.proofs.TreesLemmas.{no_trees}
 use Rattle.rob_expand.proofs.lines.set_name.Goals as goal
 
 pub returns : goal.returns
@@ -21,5 +21,5 @@ returns c = record {
       (c.in_ok-head.ensures.named
       ∙ ap (λ (ns : List ℕ). placed_name ns (seen_ref c.args.set.now.item)) c.items-2.ensures.list) in
       parts_are c.args.limit _ _ c.in_ok-nest.nest.names _ _ _ _ _ _ ends bound refl refl head
-      (ap (map placed_of) c.new-trees.ensures.empty) c.new-items.ensures.empty refl;
+      (no_trees c.in_ok-nest.nest.names c.new-trees.result c.new-trees.ensures.empty) c.new-items.ensures.empty refl;
 }

@@ -1,16 +1,13 @@
-use Rattle.std.proofs.Common.{◌≡◌, ◌++◌, drop, map}
+use Rattle.std.proofs.Common.{take}
 use Rattle.rob_syntax.specs.Seen.{seen_part, seen_tree}
-use Rattle.rob_expand.specs.Placed.{placed_of, part_of}
-use Rattle.rob_expand.specs.Placing.{placed_tree}
-use Rattle.rob_expand.proofs.PlaceLemmas.{placed_part}
+use Rattle.rob_expand.specs.Placed.{part_of}
+use Rattle.rob_expand.specs.Scopes.{IsPart, IsPlaced, Pairwise}
 use Rattle.rob_expand.proofs.place.+place.Given as goal
 
 abbrev pub invariant-place_parts-loop-part : goal.invariant-place_parts-loop-part
 invariant-place_parts-loop-part l =
-    map part_of l.placed ++ map (λ p. placed_part l.names (seen_part p)) (drop l.part-index l.parts)
-    ≡ map (λ p. placed_part l.names (seen_part p)) l.parts
+    Pairwise (λ p x. IsPart l.scope.bound l.scope.names (part_of p) (seen_part x)) l.placed (take l.part-index l.parts)
 
 abbrev pub invariant-place_factors-loop-factor : goal.invariant-place_factors-loop-factor
 invariant-place_factors-loop-factor l =
-    map placed_of l.placed ++ map (λ t. placed_tree l.names (seen_tree t)) (drop l.factor-index l.factors)
-    ≡ map (λ t. placed_tree l.names (seen_tree t)) l.factors
+    Pairwise (λ p x. IsPlaced l.scope.bound l.scope.names p (seen_tree x)) l.placed (take l.factor-index l.factors)
