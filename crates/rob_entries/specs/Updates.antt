@@ -82,7 +82,7 @@ pub record CanClearRow (top limit : ℕ) (row : List ℤ) (by : Clearing) (bound
   pub own : AreOwn (at row) (at by.entries) (width - 1)
 
 -- the same of the row that begins at `start`, of rows one behind another
-pub record CanClear (top limit : ℕ) (cells : List ℤ) (by : Clearing) (bound place start : ℕ) : Type 0 where
+pub record CanClearCells (top limit : ℕ) (cells : List ℤ) (by : Clearing) (bound place start : ℕ) : Type 0 where
   pub inside : start + length by.entries ≤ length cells
   pub limit_low : limit ≤ top
   pub within : (k : ℕ) → k < length by.entries → nat_abs (at cells (start + k)) ≤ bound

@@ -5,7 +5,7 @@ ghost use Rattle.rob_linear.specs.Vectors.{at};
 ghost use Rattle.rob_linear.specs.Multiples.{IsClearedBy};
 ghost use Rattle.rob_rows.specs.PrimitiveParts.{content};
 ghost use Rattle.rob_entries.specs.Choices.{IsLowest};
-ghost use Rattle.rob_entries.specs.Updates.{CanClear, IsMultipleOf, IsWideCleared};
+ghost use Rattle.rob_entries.specs.Updates.{CanClearCells, IsMultipleOf, IsWideCleared};
 
 use crate::clearing::PivotRow;
 use crate::entry::Entry;
@@ -250,7 +250,7 @@ impl<E: Entry> Cells<E> {
         place: usize,
         limit: u128,
     ) -> Result<u128, Wide>
-        requires ready { CanClear E.top limit self.old row.old bound place start }
+        requires ready { CanClearCells E.top limit self.old row.old bound place start }
         ensures cleared { IfOk result (λ _. IsClearedBy (length row.old.entries) place
             (λ k. at self.old (start + k)) (at row.old.entries) (λ k. at self.new (start + k))) }
         ensures bounded { IfOk result (λ sum. (sum ≤ limit) × ((k : ℕ) → k < length row.old.entries

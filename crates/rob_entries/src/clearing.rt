@@ -19,13 +19,25 @@ use std::marker::Model;
 
 /// The row that clears others: its entries in lowest terms, the places where they are not 0, and room for one row more.
 /// Contracts see the entries and the number that bounds them.
-#[derive(Drop)]
 pub struct PivotRow<E: Entry> {
     entries: Vec<E>,
     bound: u128,
     places: Vec<usize>,
     listed: usize,
     room: Vec<E>,
+}
+
+impl<E: Entry> Drop for PivotRow<E> {
+    /// Lets go of it in one call. A derived drop would stand in each function that does.
+    fn drop(self) {
+        let PivotRow {
+            entries: _entries,
+            bound: _bound,
+            places: _places,
+            listed: _listed,
+            room: _room,
+        } = self;
+    }
 }
 
 impl<E: Entry> Model for PivotRow<E> {

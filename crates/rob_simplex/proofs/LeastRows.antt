@@ -1,20 +1,19 @@
 -- The sign of a row's key, and the least row so far.
-use Rattle.std.proofs.Common.{◌≡◌, ℕ, zero, suc, ◌+◌, ◌<◌, ◌≤◌, sym, ap, ◌∙◌, subst, arith, inl, inr, Option, Some, None, Bool, IsTrue, ◌↔◌, false}
+use Rattle.std.proofs.Common.{◌≡◌, ℕ, zero, suc, ◌+◌, ◌<◌, ◌≤◌, refl, sym, ap, ◌∙◌, subst, arith, inl, inr, Option, Some, None, Bool, IsTrue, ◌↔◌, true, false}
 use Rattle.std.proofs.lemmas.Int.{ints}
 use Rattle.std.proofs.lemmas.Bool.{cases_eq}
 use Rattle.std.proofs.lemmas.Bool.Decides.{nat_tests}
 use Rattle.std.specs.Option.{IfSome, MatchOption}
 use lib.IntN.{ℤ, pos, neg_ℤ}
-use lib.Signed.{◌<ℤ◌, ◌≤ℤ◌}
-use Rattle.rob_algebra.specs.IntegerOrder.{le_total}
+use lib.Signed.{◌<ℤ◌}
 use Rattle.rob_linear.specs.Vectors.{Matrix, Vector}
 use Rattle.rob_linear.specs.Programs.{auxiliary_tag}
 use Rattle.rob_linear.specs.Turns.{key, ComesBefore}
 use Rattle.rob_linear.specs.Beside.{IsLexNegative, IsLeast, HasNoLeast}
 use Rattle.rob_linear.proofs.Lexical.{before_trans}
 use Rattle.rob_linear.proofs.Choices.{before_not_self}
-use Rattle.rob_simplex.specs.Dictionaries.{shape, Decided}
-use Rattle.rob_simplex.specs.LeastRows.{IsLower, MayBeLeast}
+use Rattle.rob_simplex.specs.Dictionaries.{Table, positions, rows_of, shape, Decided}
+use Rattle.rob_simplex.specs.LeastRows.{IsBelowZero, IsLower, MayBeLeast}
 use Rattle.rob_simplex.proofs.RatioLemmas.{lex_decided, lex_none}
 
 -- ---- a number negated
@@ -23,9 +22,6 @@ negative_of z h = omega (arith, ints)
 
 pub positive_of : (z : ℤ) → z <ℤ pos 0 → pos 0 <ℤ neg_ℤ z
 positive_of z h = omega (arith, ints)
-
-pub not_below_of : (z : ℤ) → ¬ (pos 0 <ℤ neg_ℤ z) → pos 0 ≤ℤ z
-not_below_of z h = elim (le_total (pos 0) z) [ inl l ↦ l | inr l ↦ absurd (h (positive_of z l)) ]
 
 -- ---- the sign of a key
 module _ (n m : ℕ) (r : Vector) where
@@ -63,6 +59,13 @@ module _ (n m : ℕ) (r : Vector) where
       → IsTrue false ↔ IsLexNegative (suc m) (key (shape n m) r)
   none_decides col k e ek first rest =
       lex_none (suc m) minus_key (zeros_to m (omega arith) (ap r (sym e) ∙ first) (λ j l. rest j (omega arith)))
+
+pub below_negative : (n m : ℕ) (r : Vector) → r (n + m + 2) <ℤ pos 0 → IsLexNegative (suc m) (key (shape n m) r)
+below_negative n m r l = (right_decides n m r (n + m + 2) true refl (positive_of (r (n + m + 2)) l)).0 refl
+
+pub may_be_least : (t : Table) (column e : ℕ) → IsBelowZero t column e
+    → MayBeLeast t.columns (positions t) (rows_of t) column e
+may_be_least t column e h = (h.0, below_negative t.columns (positions t) (rows_of t e) h.1)
 
 -- ---- the least row so far: rows are looked at from the last one on
 module _ (n m : ℕ) (rows : Matrix) (column : ℕ) where

@@ -13,6 +13,7 @@ pub mod RatioTests
 pub mod RatioLemmas
 pub mod Ties
 pub mod LeastRows
+pub mod KnownRows
 pub mod PivotLemmas
 pub mod SecondPhase
 pub mod FirstPhase

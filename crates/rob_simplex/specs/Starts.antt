@@ -25,7 +25,7 @@ start_entry n low auxiliary right k =
     (cond (nat_eq k n) auxiliary (cond (nat_eq k (n + 1)) (pos 0) (cond (nat_eq k (n + 2)) right (pos 1))))
 
 -- a program's rows can be told into so many numbers: one for each column, of 62 bits
-pub record CanBeTold (width : ℕ) (lp : Lp) : Type 0 where
+pub record CanTellProgram (width : ℕ) (lp : Lp) : Type 0 where
   pub few : width < 2 ^ 31
   pub columns : width ≡ length lp.c
   pub numbers : HasNumbersWithin (2 ^ 62 - 1) lp

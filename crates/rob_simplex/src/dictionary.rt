@@ -8,7 +8,6 @@ use rob_entries::{Cells, Entry, PivotRow};
 use std::marker::Model;
 
 /// The rows of a basis up to positive factors, with their maps and bounds, and the memory that pivots work in.
-#[derive(Drop)]
 pub struct Dictionary<E: Entry> {
     pub columns: usize,
     pub basis: Vec<usize>,
@@ -17,6 +16,21 @@ pub struct Dictionary<E: Entry> {
     pub rows: Cells<E>,
     pub bounds: Vec<u128>,
     pub pivot_row: PivotRow<E>,
+}
+
+impl<E: Entry> Drop for Dictionary<E> {
+    /// Lets go of it in one call. A derived drop would stand in each function that does.
+    fn drop(self) {
+        let Dictionary {
+            columns: _columns,
+            basis: _basis,
+            places: _places,
+            near: _near,
+            rows: _rows,
+            bounds: _bounds,
+            pivot_row: _pivot_row,
+        } = self;
+    }
 }
 
 impl<E: Entry> Model for Dictionary<E> {

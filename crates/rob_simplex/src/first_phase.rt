@@ -1,15 +1,17 @@
 //! The first phase, with the auxiliary column kept out of the table's basis: the path's basis has it at position q,
 //! where the table has the column that left last.
 
-ghost use Rattle.std.specs.Prelude.{◌≤◌, ◌+◌, IfOk, IfErr, MatchResult};
+ghost use Rattle.std.specs.Prelude.{◌≤◌, ◌+◌, IfOk, IfErr, OnOk, MatchResult};
 ghost use Rattle.rob_linear.specs.Programs.{Program};
 ghost use Rattle.rob_number.specs.Counts.{CountsOnly};
 ghost use Rattle.rob_simplex.specs.Dictionaries.{positions, columns_of, rows_of, FirstNegative, IsSized};
 ghost use Rattle.rob_simplex.specs.Phases.{InBeside, HasTurnedBeside, IsOpenBeside, EndsBeside};
+ghost use Rattle.rob_simplex.specs.LeastRows.{AreKnown};
 ghost use Rattle.rob_simplex.specs.Starts.{IsStartingTable};
 ghost use Rattle.rob_simplex.specs.Explicit.{FirstTurns, FirstEnds, StopsFirst};
 
 use crate::dictionary::Dictionary;
+use crate::known_rows::{KNOWN, forget, forget_all};
 use rob_entries::Entry;
 use rob_number::Ledger;
 
@@ -58,7 +60,7 @@ impl<E: Entry> Dictionary<E> {
         }
     }
 
-    /// Its turns. The least row tells whether the auxiliary column is needed.
+    /// Its turns, with room for the rows that are known not to be negative.
     fn first_turns<L: Ledger>(&mut self, ledger: &mut L) -> Result<FirstEnding, usize>
         requires starts { (P : Program) × IsStartingTable P self.old }
         ensures ended { (P : Program) → IsStartingTable P self.old
@@ -69,10 +71,30 @@ impl<E: Entry> Dictionary<E> {
         ensures sized { IsSized self.old self.new }
         ensures counted { CountsOnly L.ops L.wides ledger.old ledger.new }
     {
-        let Some(q) = self.least() else {
+        let mut known = [false; KNOWN];
+        self.first_turns_by(&mut known, ledger)
+    }
+
+    /// The same. The least row tells whether the auxiliary column is needed.
+    fn first_turns_by<L: Ledger>(
+        &mut self,
+        known: &mut [bool],
+        ledger: &mut L,
+    ) -> Result<FirstEnding, usize>
+        requires starts { (P : Program) × IsStartingTable P self.old }
+        ensures ended { (P : Program) → IsStartingTable P self.old
+            → MatchResult result
+            (λ ending. FirstTurns P ending self.new)
+            (λ i. StopsFirst self.old.limit P (columns_of self.new.basis) i) }
+        ensures position { IfErr result (λ i. i ≤ positions self.old) }
+        ensures sized { IsSized self.old self.new }
+        ensures counted { CountsOnly L.ops L.wides ledger.old ledger.new }
+    {
+        forget_all(known);
+        let Some(q) = self.least(known) else {
             return Ok(FirstEnding::Feasible);
         };
-        match self.go_beside(q, ledger) {
+        match self.go_beside(q, known, ledger) {
             Beside::Infeasible => Ok(FirstEnding::Infeasible(q)),
             Beside::Feasible => Ok(FirstEnding::Feasible),
             Beside::Open => self.explicit_turns(q, ledger),
@@ -80,8 +102,9 @@ impl<E: Entry> Dictionary<E> {
     }
 
     /// Turns beside the auxiliary column until it has left, no column comes in, or a row would be wide.
-    fn go_beside<L: Ledger>(&mut self, q: usize, ledger: &mut L) -> Beside
+    fn go_beside<L: Ledger>(&mut self, q: usize, known: &mut [bool], ledger: &mut L) -> Beside
         requires stands { (P : Program) × InBeside P q self.old }
+        requires known { AreKnown self.old known.old }
         ensures ended { (P : Program) → InBeside P q self.old → EndsBeside P q result self.new }
         ensures sized { IsSized self.old self.new }
         ensures counted { CountsOnly L.ops L.wides ledger.old ledger.new }
@@ -90,7 +113,7 @@ impl<E: Entry> Dictionary<E> {
             let Some(column) = self.first_negative(q) else {
                 return Beside::Infeasible;
             };
-            match self.turn_beside(q, column, ledger) {
+            match self.turn_beside(q, column, known, ledger) {
                 Ok(true) => {}
                 Ok(false) => return Beside::Feasible,
                 Err(_) => return Beside::Open,
@@ -99,30 +122,37 @@ impl<E: Entry> Dictionary<E> {
     }
 
     /// One turn: the column comes in at position q, and the least row comes to it. Whether the auxiliary column is
-    /// still in; after an `Err` position q is open.
+    /// still in; after an `Err` position q is open. Rows that are known not to be negative stay so where they are 0 in
+    /// the column.
     fn turn_beside<L: Ledger>(
         &mut self,
         q: usize,
         column: usize,
+        known: &mut [bool],
         ledger: &mut L,
     ) -> Result<bool, usize>
         requires stands { (P : Program) × InBeside P q self.old }
         requires first { FirstNegative (self.old.columns + positions self.old)
             (rows_of self.old q) column }
+        requires known { AreKnown self.old known.old }
         ensures turned { IfOk result (λ stays. (P : Program) → InBeside P q self.old
             → HasTurnedBeside P q stays self.old self.new) }
         ensures opened { IfErr result (λ i. (P : Program) → InBeside P q self.old
             → IsOpenBeside P q self.new) }
+        ensures known { OnOk result (AreKnown self.new known.new) }
         ensures sized { IsSized self.old self.new }
         ensures counted { CountsOnly L.ops L.wides ledger.old ledger.new }
     {
         let m = self.basis.len();
+        self.spare(known, q, column);
         self.negate(q);
         match self.pivot_or_open(q, column, m + 1, ledger) {
-            Ok(()) => match self.least() {
+            Ok(()) => match self.least(known) {
                 None => Ok(false),
                 Some(p) => {
                     self.exchange(q, p);
+                    forget(known, q);
+                    forget(known, p);
                     Ok(true)
                 }
             },

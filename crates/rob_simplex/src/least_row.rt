@@ -1,16 +1,16 @@
 //! The least row over minus its entry in the auxiliary column: of the rows that are negative there and
 //! lexicographically negative, the one that comes first.
 
-ghost use Rattle.std.specs.Prelude.{◌≡◌, ◌<◌, ◌≤◌, ◌<ℤ◌, ◌↔◌, suc, pos, neg_ℤ, IsTrue, IfSome, MatchOption, ◌≤ℤ◌, ◌+◌};
-ghost use Rattle.std.specs.Bool.{OnTrue};
-ghost use Rattle.rob_linear.specs.Turns.{key};
-ghost use Rattle.rob_linear.specs.Beside.{IsLexNegative};
+ghost use Rattle.std.specs.Prelude.{◌≡◌, ◌<◌, ◌≤◌, ◌<ℤ◌, ◌↔◌, suc, pos, neg_ℤ, IsTrue, IfSome, MatchOption, Some};
+ghost use Rattle.rob_linear.specs.Turns.{key, ComesBefore};
+ghost use Rattle.rob_linear.specs.Beside.{IsLexNegative, IsLeast, HasNoLeast};
 ghost use Rattle.rob_simplex.specs.Dictionaries.{positions, rows_of, width_of, shape, Decided};
 ghost use Rattle.rob_simplex.specs.FreeSlacks.{AreFree};
-ghost use Rattle.rob_simplex.specs.LeastRows.{MayBeLeast, IsLower, IsLeastIn, HasNoLeastIn};
+ghost use Rattle.rob_simplex.specs.LeastRows.{AreKnown, IsBelowZero, IsLower, IsLeastIn, HasNoLeastIn};
 
 use crate::dictionary::Dictionary;
 use crate::free_slacks::{FIRST, Free};
+use crate::known_rows::{is_known, mark_known};
 use crate::ratio_test::is_positive;
 use rob_entries::Entry;
 use std::cmp::Ordering;
@@ -51,6 +51,24 @@ impl<E: Entry> Dictionary<E> {
         false
     }
 
+    /// The same, unless the row is known not to be negative; what is found out is kept.
+    fn is_negative_by(&self, i: usize, known: &mut [bool]) -> bool
+        requires row_in { i < positions self.now }
+        requires known { AreKnown self.now known.old }
+        ensures decides { IsTrue result ↔ IsLexNegative (suc (positions self.now))
+            (key (shape self.now.columns (positions self.now)) (rows_of self.now i)) }
+        ensures known { AreKnown self.now known.new }
+    {
+        if is_known(known, i) {
+            return false;
+        }
+        if self.is_negative(i) {
+            return true;
+        }
+        mark_known(known, i);
+        false
+    }
+
     /// Minus the entry of a row in a column.
     #[inline(always)]
     fn minus_entry(&self, i: usize, column: usize) -> E
@@ -61,62 +79,29 @@ impl<E: Entry> Dictionary<E> {
         self.dense_entry(i, column).minus()
     }
 
-    /// Whether row i may be the least, and comes before the best row so far. Its sign is looked at before the two are
-    /// compared: of rows that are 0 on their right sides few are negative, and they would tie with the best one.
-    fn is_lower(&self, free: Free, column: usize, i: usize, best: Option<usize>) -> bool
+    /// Whether row i comes before row e, each over minus its entry in the column. Few rows are compared, so this is a
+    /// call, and the loops over all rows are short.
+    #[inline(never)]
+    fn comes_lower(&self, free: Free, column: usize, i: usize, e: usize) -> bool
         requires free { AreFree self.now free.seen free.slacks.now }
         requires column_in { column < width_of self.now }
         requires i_in { i < positions self.now }
-        requires best_in { IfSome best (λ e. (e < positions self.now)
-            × (rows_of self.now e column <ℤ pos 0)) }
-        ensures decides { IsTrue result
-            ↔ IsLower self.now.columns (positions self.now) (rows_of self.now) column i best }
+        requires e_in { e < positions self.now }
+        ensures decides { IsTrue result ↔ ComesBefore (shape self.now.columns (positions self.now))
+            (rows_of self.now i) (neg_ℤ (rows_of self.now i column)) (rows_of self.now e)
+            (neg_ℤ (rows_of self.now e column)) }
     {
         let divisor = self.minus_entry(i, column);
-        if !is_positive(divisor) {
-            return false;
-        }
-        match best {
-            None => self.is_negative(i),
-            Some(e) => {
-                if self.is_behind(i, e) {
-                    return false;
-                }
-                if !self.is_negative(i) {
-                    return false;
-                }
-                self.comes_before(free, i, divisor, e, self.minus_entry(e, column))
-            }
-        }
+        self.comes_before(free, i, divisor, e, self.minus_entry(e, column))
     }
 
-    /// Whether row e is below 0 on its right side, and row i is not: then row i doesn't come before it, whatever their
-    /// divisors are. Two numbers tell so of most rows.
-    #[inline(always)]
-    fn is_behind(&self, i: usize, e: usize) -> bool
-        requires i_in { i < positions self.now }
-        requires e_in { e < positions self.now }
-        ensures not_below { IsTrue result
-            → pos 0 ≤ℤ rows_of self.now i (self.now.columns + positions self.now + 2) }
-        ensures below { IsTrue result
-            → rows_of self.now e (self.now.columns + positions self.now + 2) <ℤ pos 0 }
-    {
-        let m = self.basis.len();
-        if is_positive(self.minus_entry(i, self.columns + m + 2)) {
-            return false;
-        }
-        if !is_positive(self.minus_entry(e, self.columns + m + 2)) {
-            return false;
-        }
-        true
-    }
-
+    // ---- where a row is below 0 on its right side
     /// Whether a row is negative in a column and on its right side.
+    #[inline(always)]
     fn is_below_zero(&self, column: usize, i: usize) -> bool
         requires column_in { column < width_of self.now }
         requires i_in { i < positions self.now }
-        ensures below { OnTrue result
-            (MayBeLeast self.now.columns (positions self.now) (rows_of self.now) column i) }
+        ensures below { IsTrue result ↔ IsBelowZero self.now column i }
     {
         if !is_positive(self.minus_entry(i, column)) {
             return false;
@@ -127,12 +112,10 @@ impl<E: Entry> Dictionary<E> {
         true
     }
 
-    /// The first such row, if there is one. No row that is 0 on its right side comes before it, so where the least row
-    /// is sought from this one on, the slack entries of those are not looked at.
+    /// The first such row, if there is one.
     fn first_below_zero(&self, column: usize) -> Option<usize>
         requires column_in { column < width_of self.now }
-        ensures below { IfSome result (λ e. (e < positions self.now)
-            × MayBeLeast self.now.columns (positions self.now) (rows_of self.now) column e) }
+        ensures below { IfSome result (λ e. (e < positions self.now) × IsBelowZero self.now column e) }
     {
         for i in 0..self.basis.len() {
             if self.is_below_zero(column, i) {
@@ -142,31 +125,126 @@ impl<E: Entry> Dictionary<E> {
         None
     }
 
-    /// The least row, if there is one. Behind the search for a row to begin with, rows are looked at from the last one
-    /// on, as in the ratio test.
-    pub fn least(&self) -> Option<usize>
+    /// Whether row i may be the least, and comes before such a row. If it is not below 0 on its right side, it doesn't,
+    /// whatever their divisors are: two numbers tell so of most rows.
+    #[inline(always)]
+    fn is_below_best(&self, free: Free, column: usize, i: usize, e: usize) -> bool
+        requires free { AreFree self.now free.seen free.slacks.now }
+        requires column_in { column < width_of self.now }
+        requires i_in { i < positions self.now }
+        requires e_in { e < positions self.now }
+        requires e_below { IsBelowZero self.now column e }
+        ensures decides { IsTrue result
+            ↔ IsLower self.now.columns (positions self.now) (rows_of self.now) column i (Some e) }
+        ensures below { IsTrue result → IsBelowZero self.now column i }
+    {
+        if !self.is_below_zero(column, i) {
+            return false;
+        }
+        self.comes_lower(free, column, i, e)
+    }
+
+    /// The least row, from one that is below 0 on its right side: rows that are not, are passed by.
+    fn least_below(&self, free: Free, column: usize, first: usize) -> usize
+        requires free { AreFree self.now free.seen free.slacks.now }
+        requires column_in { column < width_of self.now }
+        requires first_in { first < positions self.now }
+        requires below { IsBelowZero self.now column first }
+        ensures least { IsLeast (shape self.now.columns (positions self.now)) column
+            (rows_of self.now) result }
+    {
+        let m = self.basis.len();
+        let mut best = first;
+        for passed in 0..m {
+            let i = m - 1 - passed;
+            if self.is_below_best(free, column, i, best) {
+                best = i;
+            }
+        }
+        best
+    }
+
+    // ---- where no row is
+    /// Whether row i may be the least, and comes before the best row so far. Its sign is looked at before the two are
+    /// compared: of rows that are 0 on their right sides few are negative, and they would tie with the best one.
+    fn is_lower(
+        &self,
+        free: Free,
+        column: usize,
+        i: usize,
+        best: Option<usize>,
+        known: &mut [bool],
+    ) -> bool
+        requires free { AreFree self.now free.seen free.slacks.now }
+        requires column_in { column < width_of self.now }
+        requires i_in { i < positions self.now }
+        requires best_in { IfSome best (λ e. (e < positions self.now)
+            × (rows_of self.now e column <ℤ pos 0)) }
+        requires known { AreKnown self.now known.old }
+        ensures decides { IsTrue result
+            ↔ IsLower self.now.columns (positions self.now) (rows_of self.now) column i best }
+        ensures known { AreKnown self.now known.new }
+    {
+        if !is_positive(self.minus_entry(i, column)) {
+            return false;
+        }
+        if !self.is_negative_by(i, known) {
+            return false;
+        }
+        match best {
+            None => true,
+            Some(e) => self.comes_lower(free, column, i, e),
+        }
+    }
+
+    /// The least row, if there is one.
+    fn least_negative(&self, free: Free, column: usize, known: &mut [bool]) -> Option<usize>
+        requires free { AreFree self.now free.seen free.slacks.now }
+        requires column_in { column < width_of self.now }
+        requires known { AreKnown self.now known.old }
+        ensures least { MatchOption result
+            (HasNoLeast (shape self.now.columns (positions self.now)) column (rows_of self.now))
+            (λ e. IsLeast (shape self.now.columns (positions self.now)) column (rows_of self.now) e) }
+        ensures known { AreKnown self.now known.new }
+    {
+        let m = self.basis.len();
+        let mut best = None;
+        for passed in 0..m {
+            let i = m - 1 - passed;
+            if self.is_lower(free, column, i, best, known) {
+                best = Some(i);
+            }
+        }
+        best
+    }
+
+    // ---- the search
+    /// The least row, if there is one. No row that is 0 on its right side comes before one that is below 0 there, so
+    /// the slack entries of those are looked at only where there is none of these. Behind the search for a row to begin
+    /// with, rows are looked at from the last one on, as in the ratio test.
+    pub fn least(&self, known: &mut [bool]) -> Option<usize>
+        requires known { AreKnown self.now known.old }
         ensures least { MatchOption result (HasNoLeastIn self.now) (λ e. IsLeastIn self.now e) }
+        ensures known { AreKnown self.now known.new }
     {
         let mut order = [0usize; FIRST];
-        self.least_by(&mut order)
+        self.least_by(&mut order, known)
     }
 
     /// The same, with room for the slack columns that are not basic.
-    fn least_by(&self, order: &mut [usize]) -> Option<usize>
+    fn least_by(&self, order: &mut [usize], known: &mut [bool]) -> Option<usize>
+        requires known { AreKnown self.now known.old }
         ensures least { MatchOption result (HasNoLeastIn self.now) (λ e. IsLeastIn self.now e) }
+        ensures known { AreKnown self.now known.new }
     {
         let m = self.basis.len();
         let auxiliary = self.columns + m;
         let (listed, seen) = self.list_free(order);
         let slacks = &order[..listed];
         let free = Free { slacks, seen };
-        let mut best = self.first_below_zero(auxiliary);
-        for passed in 0..m {
-            let i = m - 1 - passed;
-            if self.is_lower(free, auxiliary, i, best) {
-                best = Some(i);
-            }
+        match self.first_below_zero(auxiliary) {
+            Some(first) => Some(self.least_below(free, auxiliary, first)),
+            None => self.least_negative(free, auxiliary, known),
         }
-        best
     }
 }

@@ -14,6 +14,7 @@ mod explicit_phase;
 mod first_phase;
 mod free_slacks;
 mod judging;
+mod known_rows;
 mod least_row;
 mod lowering;
 mod path;

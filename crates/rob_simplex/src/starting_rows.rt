@@ -5,7 +5,7 @@ ghost use Rattle.std.specs.Prelude.{◌≡◌, ◌≢◌, ◌⊎◌, ◌<◌, �
 ghost use Rattle.rob_linear.specs.Vectors.{at};
 ghost use Rattle.rob_rows.specs.LinearPrograms.{HasNumbersWithin, program_of};
 ghost use Rattle.rob_simplex.specs.Tables.{row_at, HasBounds, IsUnchangedBut};
-ghost use Rattle.rob_simplex.specs.Starts.{start_entry, CanBeTold, IsStartingTable};
+ghost use Rattle.rob_simplex.specs.Starts.{start_entry, CanTellProgram, IsStartingTable};
 
 use crate::dictionary::Dictionary;
 use crate::row_moves::write_number;
@@ -206,7 +206,7 @@ fn write_program<E: Entry, R: Rows>(
     m: usize,
 )
     requires ready { R.ready source.now }
-    requires program { CanBeTold (length numbers.old) (R.lp source.now) }
+    requires program { CanTellProgram (length numbers.old) (R.lp source.now) }
     requires constraints { m ≡ length (R.lp source.now).b }
     requires bounded { HasBounds E.top (length numbers.old + 4) rows.old bounds.old }
     requires inside { m < length bounds.old }
@@ -233,7 +233,7 @@ fn write_rows<E: Entry, R: Rows>(
     m: usize,
 )
     requires ready { R.ready source.now }
-    requires program { CanBeTold (length numbers.old) (R.lp source.now) }
+    requires program { CanTellProgram (length numbers.old) (R.lp source.now) }
     requires constraints { m ≡ length (R.lp source.now).b }
     requires bounded { HasBounds E.top (length numbers.old + 4) rows.old bounds.old }
     requires inside { m ≤ length bounds.old }
@@ -257,7 +257,7 @@ fn write_told_row<E: Entry, R: Rows>(
     i: usize,
 )
     requires ready { R.ready source.now }
-    requires program { CanBeTold (length numbers.old) (R.lp source.now) }
+    requires program { CanTellProgram (length numbers.old) (R.lp source.now) }
     requires row_in { i < length (R.lp source.now).b }
     requires bounded { HasBounds E.top (length numbers.old + 4) rows.old bounds.old }
     requires inside { i < length bounds.old }

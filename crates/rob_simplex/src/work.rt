@@ -31,12 +31,23 @@ use std::marker::{Model, PhantomData};
 
 /// A solver of one linear program by the simplex method on condensed rows of whole numbers. It takes all its memory
 /// when it is made. Rows may be wider than the numbers that are told, which have the width of `N`.
-#[derive(Drop)]
 pub struct Work<N: Exact, E: Entry> {
     dictionary: Dictionary<E>,
     weights: Cells<E>,
     state: State,
     number: PhantomData<N>,
+}
+
+impl<N: Exact, E: Entry> Drop for Work<N, E> {
+    /// Lets go of it in one call. A derived drop would stand in each function that does.
+    fn drop(self) {
+        let Work {
+            dictionary: _dictionary,
+            weights: _weights,
+            state: _state,
+            number: _number,
+        } = self;
+    }
 }
 
 impl<N: Exact, E: Entry> Model for Work<N, E> {

@@ -1,4 +1,4 @@
-use Rattle.std.proofs.Common.{◌∙◌, subst}
+use Rattle.std.proofs.Common.{subst}
 use Rattle.rob_number.proofs.CountLemmas.{only_later}
 use Rattle.rob_simplex.specs.Phases.{HasTurnedBeside}
 use Rattle.rob_simplex.proofs.BesideRows.{row_own}
@@ -17,6 +17,7 @@ turns-smaller g c =
 
 pub turns-preserved : goal.turns-preserved
 turns-preserved g c = record {
+  known = c.in-Ok-true.ensures.known;
   stands =
       λ P h. (subst (λ v. HasTurnedBeside P c.args.q v c.turns.self c.turn_beside.new.self) c.in-Ok-true.field-0-test
       (c.in-Ok-true.ensures.turned P (c.turns.invariant.stands P h))).0;

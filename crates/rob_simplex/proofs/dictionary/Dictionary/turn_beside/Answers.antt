@@ -5,6 +5,7 @@ use Rattle.rob_simplex.proofs.Ranks.{IsSmall}
 use Rattle.rob_simplex.proofs.EntryLemmas.{small_entries}
 use Rattle.rob_simplex.proofs.FirstPhase.{negated_free, negated_closed, negated_positive, leaves_beside, stays_beside, falls_beside, open_beside}
 use Rattle.rob_simplex.proofs.Sizes.{sized_after}
+use Rattle.rob_simplex.proofs.KnownRows.{forgotten, known_pivoted, known_exchanged}
 use Rattle.rob_simplex.proofs.dictionary.Dictionary.turn_beside.Goals as goal
 
 pub pivot_or_open-requires : goal.pivot_or_open-requires
@@ -32,6 +33,20 @@ pivot_or_open-requires g c =
       };
     }
 
+pub least-requires : goal.least-requires
+least-requires g c =
+    let t = c.args.self.now in
+    let h = c.requires.stands.1 in
+    let first = c.requires.first in
+    let r = c.negate.ensures in
+    record {
+      known =
+          known_pivoted t c.negate.new.self c.pivot_or_open.new.self c.args.known.now c.spare.new.known c.args.q
+          c.args.column r.sized c.pivot_or_open.ensures.sized (omega (arith, first.inside))
+          (negated_positive h first c.negate.new.self r.basis r.sized.columns r.row r.others) r.others
+          c.in-Ok.ensures.pivoted.pivoted c.requires.known c.spare.ensures.spared;
+    }
+
 pub returns-in-None-clause-turned : goal.returns-in-None-clause-turned
 returns-in-None-clause-turned g c P h =
     let r = c.negate.ensures in
@@ -56,6 +71,17 @@ returns-in-Some-clause-turned g c P h =
           c.exchange.new.self x.rows x.basis x.sized.positions x.sized.columns (s.limit ∙ r.sized.limit) x.sized.limit
           small p.small,
     )
+
+pub returns-in-Some-clause-known : goal.returns-in-Some-clause-known
+returns-in-Some-clause-known g c =
+    let x = c.exchange.ensures in
+    known_exchanged c.pivot_or_open.new.self c.exchange.new.self c.least.new.known c.forget-in-Some.new.known c.args.q
+    c.in-Some.p x.sized x.rows
+    (forgotten c.least.new.known c.forget.new.known c.forget-in-Some.new.known c.args.q c.in-Some.p c.forget.ensures.off
+    c.forget.ensures.others c.forget-in-Some.ensures.off c.forget-in-Some.ensures.others) c.in-Some.ensures.known
+
+pub returns-in-None-clause-known : goal.returns-in-None-clause-known
+returns-in-None-clause-known g c = c.in-None.ensures.known
 
 pub returns-in-Err-clause-opened : goal.returns-in-Err-clause-opened
 returns-in-Err-clause-opened g c P h =

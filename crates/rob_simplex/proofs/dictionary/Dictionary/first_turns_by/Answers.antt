@@ -4,7 +4,10 @@ use Rattle.rob_simplex.specs.Dictionaries.{columns_of}
 use Rattle.rob_simplex.specs.Explicit.{FirstTurns, StopsFirst}
 use Rattle.rob_simplex.proofs.FirstTurns.{starts_left, starts_beside}
 use Rattle.rob_simplex.proofs.Sizes.{sized_after}
-use Rattle.rob_simplex.proofs.dictionary.Dictionary.first_turns.Goals as goal
+use Rattle.rob_simplex.proofs.dictionary.Dictionary.first_turns_by.Goals as goal
+
+pub least-requires : goal.least-requires
+least-requires g c = record { known = λ i l on. absurd (let off = c.forget_all.ensures.off i in cc) }
 
 pub returns-in_default-clause-ended : goal.returns-in_default-clause-ended
 returns-in_default-clause-ended g c P h = starts_left P c.args.self.now h c.in_default.ensures.least
@@ -16,6 +19,7 @@ go_beside-requires g c = record {
     starts_beside c.requires.starts.0 c.args.self.now c.requires.starts.1 c.in-Some.q
         c.in-Some.ensures.least,
   );
+  known = c.in-Some.ensures.known;
 }
 
 pub returns-in-Infeasible-clause-ended : goal.returns-in-Infeasible-clause-ended
