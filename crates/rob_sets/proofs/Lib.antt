@@ -2,6 +2,7 @@ pub mod AppendingLemmas
 pub mod BoundLemmas
 pub mod BoundRowLemmas
 pub mod BudgetLemmas
+pub mod BudgetSteps
 pub mod CellLemmas
 pub mod ClearingSteps
 pub mod DegreeLemmas
