@@ -5,9 +5,10 @@ use Rattle.std.proofs.lemmas.List.{length-map}
 use Rattle.std.proofs.lemmas.Option.{slice_get-map, slice_get-get_or}
 use Rattle.rob_algebra.specs.Fraction.{Fraction}
 use Rattle.rob_meaning.specs.Names.{Name}
-use Rattle.rob_meaning.specs.RobustModel.{SetLine}
+use Rattle.rob_meaning.specs.RobustModel.{Parameter, SetLine}
 use Rattle.rob_model.specs.NameGroups.{groups_by_number}
-use Rattle.rob_model.specs.View.{set_line_of}
+use Rattle.rob_model.specs.View.{parameter_of, set_line_of}
+use Rattle.rob_model.specs.declared.model.Param.{Param}
 use Rattle.rob_model.specs.declared.model.SetLine.{SetLine as SetLineOf}
 
 module _ {A : Type 0} where
@@ -90,3 +91,25 @@ statement_length value names ys xs same =
 pub inside_second : {A : Type 0} (xs rest : List A) (i n k : ℕ) → i < length (xs ++ rest) → n ≡ length xs → n ≤ i
     → k ≡ length rest → i - n < k
 inside_second xs rest i n k h e is f = omega (arith, length-append xs rest)
+
+-- ---- a place behind the groups of the parameters
+module _ {N : Type 0} (value : N → Fraction) (g : Parameter → List Name) (names : ℕ → SetLine → List Name)
+    {declared ps : List (Param N)} {stated cs : List (SetLineOf N)} (params : ps ≡ declared) (lines : cs ≡ stated)
+    (i : ℕ) (behind : length ps ≤ i) where
+  -- it is a statement's
+  pub statement_inside : i < length (map g (map (parameter_of value) declared)
+      ++ groups_by_number names 1 (map (set_line_of value) stated)) → i - length ps < length cs
+  statement_inside inside =
+      inside_second (map g (map (parameter_of value) declared))
+      (groups_by_number names 1 (map (set_line_of value) stated)) i (length ps) (length cs) inside
+      (mapped_length (parameter_of value) g declared ps params) behind (statement_length value names stated cs lines)
+
+  -- whose names stand there
+  pub statement_behind : (number : ℕ) (l : SetLineOf N) → i - length ps < length cs → number ≡ i - length ps + 1
+      → l ≡ get_or cs (i - length ps) l → slice_get (map g (map (parameter_of value) declared)
+      ++ groups_by_number names 1 (map (set_line_of value) stated)) i ≡ Some (names number (set_line_of value l))
+  statement_behind number l inside is at =
+      second_list (map g (map (parameter_of value) declared))
+      (groups_by_number names 1 (map (set_line_of value) stated)) (length ps) i
+      (Some (names number (set_line_of value l))) (mapped_length (parameter_of value) g declared ps params) behind
+      (statement value names stated cs lines (i - length ps) number inside is l at)

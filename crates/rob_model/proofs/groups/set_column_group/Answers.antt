@@ -1,12 +1,11 @@
-use Rattle.std.proofs.Common.{◌-◌, ◌+◌, arith, map, length, ap, sym, ◌∙◌, List, [], ◌∷◌, refl}
-use Rattle.std.specs.Prelude.{Some}
+use Rattle.std.proofs.Common.{◌-◌, ◌+◌, arith, map, length, ap, sym, ◌∙◌, [], ◌∷◌, refl, Some}
 use Rattle.std.proofs.lemmas.List.{length-map}
 use Rattle.rob_meaning.specs.Names.{Name}
 use Rattle.rob_model.specs.GroupNames.{lift_names}
 use Rattle.rob_meaning.specs.RobustModel.{Parameter}
-use Rattle.rob_model.specs.NameGroups.{parameter_groups, lift_groups}
+use Rattle.rob_model.specs.NameGroups.{lift_groups}
 use Rattle.rob_model.specs.View.{robust, parameter_of, set_line_of}
-use Rattle.rob_model.proofs.PlaceLemmas.{mapped_first, second_list, statement, mapped_length, statement_length, inside_second}
+use Rattle.rob_model.proofs.PlaceLemmas.{mapped_first, statement_behind, statement_inside}
 use Rattle.rob_model.specs.declared.model.Param.{Param}
 use Rattle.rob_model.proofs.groups.set_column_group.Goals as goal
 
@@ -14,37 +13,23 @@ pub offset_bounds-items-line : goal.offset_bounds-items-line
 offset_bounds-items-line g c =
     let value = g.N.Exact.value in
     let m = robust value c.args.model.now in
-    let inside =
-    inside_second (parameter_groups m) (lift_groups m) c.args.i (length c.items-params.result.now)
-    (length c.items.result.now) c.requires.inside
-    (mapped_length (parameter_of value) (λ (d : Parameter). d.name ∷ []) c.args.model.now.params
-    c.items-params.result.now c.items-params.ensures.list) c.if-i-params.false
-    (statement_length value (lift_names m.parameters) c.args.model.now.set_lines c.items.result.now
-    c.items.ensures.list) in
+    let inside = statement_inside value (λ d. d.name ∷ []) (lift_names m.parameters) c.items-params.ensures.list
+    c.items.ensures.list c.args.i c.if-i-params.false c.requires.inside in
     omega (arith, inside)
 
 pub bounds-items-line : goal.bounds-items-line
 bounds-items-line g c =
     let value = g.N.Exact.value in
     let m = robust value c.args.model.now in
-    inside_second (parameter_groups m) (lift_groups m) c.args.i (length c.items-params.result.now)
-    (length c.items.result.now) c.requires.inside
-    (mapped_length (parameter_of value) (λ (d : Parameter). d.name ∷ []) c.args.model.now.params
-    c.items-params.result.now c.items-params.ensures.list) c.if-i-params.false
-    (statement_length value (lift_names m.parameters) c.args.model.now.set_lines
-    c.items.result.now c.items.ensures.list)
+    statement_inside value (λ d. d.name ∷ []) (lift_names m.parameters) c.items-params.ensures.list
+    c.items.ensures.list c.args.i c.if-i-params.false c.requires.inside
 
 pub overflow_cast-result : goal.overflow_cast-result
 overflow_cast-result g c =
     let value = g.N.Exact.value in
     let m = robust value c.args.model.now in
-    let inside =
-    inside_second (parameter_groups m) (lift_groups m) c.args.i (length c.items-params.result.now)
-    (length c.items.result.now) c.requires.inside
-    (mapped_length (parameter_of value) (λ (d : Parameter). d.name ∷ []) c.args.model.now.params
-    c.items-params.result.now c.items-params.ensures.list) c.if-i-params.false
-    (statement_length value (lift_names m.parameters) c.args.model.now.set_lines c.items.result.now
-    c.items.ensures.list) in
+    let inside = statement_inside value (λ d. d.name ∷ []) (lift_names m.parameters) c.items-params.ensures.list
+    c.items.ensures.list c.args.i c.if-i-params.false c.requires.inside in
     omega (
       arith,
       inside,
@@ -57,13 +42,8 @@ pub overflow_add-result : goal.overflow_add-result
 overflow_add-result g c =
     let value = g.N.Exact.value in
     let m = robust value c.args.model.now in
-    let inside =
-    inside_second (parameter_groups m) (lift_groups m) c.args.i (length c.items-params.result.now)
-    (length c.items.result.now) c.requires.inside
-    (mapped_length (parameter_of value) (λ (d : Parameter). d.name ∷ []) c.args.model.now.params
-    c.items-params.result.now c.items-params.ensures.list) c.if-i-params.false
-    (statement_length value (lift_names m.parameters) c.args.model.now.set_lines c.items.result.now
-    c.items.ensures.list) in
+    let inside = statement_inside value (λ d. d.name ∷ []) (lift_names m.parameters) c.items-params.ensures.list
+    c.items.ensures.list c.args.i c.if-i-params.false c.requires.inside in
     omega (
       arith,
       inside,
@@ -91,20 +71,11 @@ returns-else-i-params g c =
     let m = robust value c.args.model.now in
     let l = c.index-items-line.result in
     let number = c.args.i - length c.items-params.result.now + 1 in
-    let count =
-    mapped_length (parameter_of value) (λ (d : Parameter). d.name ∷ []) c.args.model.now.params
-    c.items-params.result.now c.items-params.ensures.list in
-    let inside =
-    inside_second (parameter_groups m) (lift_groups m) c.args.i (length c.items-params.result.now)
-    (length c.items.result.now) c.requires.inside count c.if-i-params.false
-    (statement_length value (lift_names m.parameters) c.args.model.now.set_lines c.items.result.now
-    c.items.ensures.list) in
+    let inside = statement_inside value (λ d. d.name ∷ []) (lift_names m.parameters) c.items-params.ensures.list
+    c.items.ensures.list c.args.i c.if-i-params.false c.requires.inside in
     record {
-      group = second_list (parameter_groups m) (lift_groups m) (length c.items-params.result.now) c.args.i _
-          count c.if-i-params.false
-          (statement value (lift_names m.parameters) c.args.model.now.set_lines c.items.result.now c.items.ensures.list
-          (c.args.i - length c.items-params.result.now) number inside refl l c.index-items-line.is
-          ∙ ap (λ (ps : List (Param g.row.N.Denot)).
-          Some (lift_names (map (parameter_of value) ps) number (set_line_of value l)))
-          (sym c.items-params.ensures.list));
+      group = statement_behind value (λ d. d.name ∷ []) (lift_names m.parameters) c.items-params.ensures.list
+          c.items.ensures.list c.args.i c.if-i-params.false number l inside refl c.index-items-line.is
+          ∙ ap (λ ps. Some (lift_names (map (parameter_of value) ps) number (set_line_of value l)))
+          (sym c.items-params.ensures.list);
     }

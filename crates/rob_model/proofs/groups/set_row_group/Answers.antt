@@ -1,49 +1,33 @@
-use Rattle.std.proofs.Common.{◌-◌, ◌+◌, arith, map, length, ap, sym, ◌∙◌, List, refl}
-use Rattle.std.specs.Prelude.{Some, option_map}
+use Rattle.std.proofs.Common.{◌-◌, ◌+◌, arith, map, length, ap, sym, ◌∙◌, refl, Some, option_map}
 use Rattle.std.proofs.lemmas.List.{length-map}
 use Rattle.rob_model.specs.GroupNames.{bound_names, statement_row_names}
 use Rattle.rob_meaning.specs.RobustModel.{Parameter}
-use Rattle.rob_model.specs.NameGroups.{parameter_bound_groups, groups_by_number}
+use Rattle.rob_model.specs.NameGroups.{groups_by_number}
 use Rattle.rob_model.specs.View.{robust, parameter_of, set_line_of}
-use Rattle.rob_model.proofs.PlaceLemmas.{mapped_first, second_list, statement, mapped_length, statement_length, inside_second}
-use Rattle.rob_model.specs.declared.model.Param.{Param}
+use Rattle.rob_model.proofs.PlaceLemmas.{mapped_first, statement_behind, statement_inside}
 use Rattle.rob_model.proofs.groups.set_row_group.Goals as goal
 
 pub offset_bounds-items-line : goal.offset_bounds-items-line
 offset_bounds-items-line g c =
     let value = g.N.Exact.value in
     let m = robust value c.args.model.now in
-    let inside =
-    inside_second (parameter_bound_groups m) (groups_by_number (statement_row_names m.parameters) 1 m.set_lines)
-    c.args.i (length c.items-params.result.now) (length c.items.result.now) c.requires.inside
-    (mapped_length (parameter_of value) (λ (d : Parameter). bound_names d.name d.lower d.upper) c.args.model.now.params
-    c.items-params.result.now c.items-params.ensures.list) c.if-i-params.false
-    (statement_length value (statement_row_names m.parameters) c.args.model.now.set_lines c.items.result.now
-    c.items.ensures.list) in
+    let inside = statement_inside value (λ d. bound_names d.name d.lower d.upper) (statement_row_names m.parameters)
+    c.items-params.ensures.list c.items.ensures.list c.args.i c.if-i-params.false c.requires.inside in
     omega (arith, inside)
 
 pub bounds-items-line : goal.bounds-items-line
 bounds-items-line g c =
     let value = g.N.Exact.value in
     let m = robust value c.args.model.now in
-    inside_second (parameter_bound_groups m) (groups_by_number (statement_row_names m.parameters) 1 m.set_lines)
-    c.args.i (length c.items-params.result.now) (length c.items.result.now) c.requires.inside
-    (mapped_length (parameter_of value) (λ (d : Parameter). bound_names d.name d.lower d.upper) c.args.model.now.params
-    c.items-params.result.now c.items-params.ensures.list) c.if-i-params.false
-    (statement_length value (statement_row_names m.parameters) c.args.model.now.set_lines
-    c.items.result.now c.items.ensures.list)
+    statement_inside value (λ d. bound_names d.name d.lower d.upper) (statement_row_names m.parameters)
+    c.items-params.ensures.list c.items.ensures.list c.args.i c.if-i-params.false c.requires.inside
 
 pub overflow_cast-result : goal.overflow_cast-result
 overflow_cast-result g c =
     let value = g.N.Exact.value in
     let m = robust value c.args.model.now in
-    let inside =
-    inside_second (parameter_bound_groups m) (groups_by_number (statement_row_names m.parameters) 1 m.set_lines)
-    c.args.i (length c.items-params.result.now) (length c.items.result.now) c.requires.inside
-    (mapped_length (parameter_of value) (λ (d : Parameter). bound_names d.name d.lower d.upper) c.args.model.now.params
-    c.items-params.result.now c.items-params.ensures.list) c.if-i-params.false
-    (statement_length value (statement_row_names m.parameters) c.args.model.now.set_lines c.items.result.now
-    c.items.ensures.list) in
+    let inside = statement_inside value (λ d. bound_names d.name d.lower d.upper) (statement_row_names m.parameters)
+    c.items-params.ensures.list c.items.ensures.list c.args.i c.if-i-params.false c.requires.inside in
     omega (
       arith,
       inside,
@@ -56,13 +40,8 @@ pub overflow_add-result : goal.overflow_add-result
 overflow_add-result g c =
     let value = g.N.Exact.value in
     let m = robust value c.args.model.now in
-    let inside =
-    inside_second (parameter_bound_groups m) (groups_by_number (statement_row_names m.parameters) 1 m.set_lines)
-    c.args.i (length c.items-params.result.now) (length c.items.result.now) c.requires.inside
-    (mapped_length (parameter_of value) (λ (d : Parameter). bound_names d.name d.lower d.upper) c.args.model.now.params
-    c.items-params.result.now c.items-params.ensures.list) c.if-i-params.false
-    (statement_length value (statement_row_names m.parameters) c.args.model.now.set_lines c.items.result.now
-    c.items.ensures.list) in
+    let inside = statement_inside value (λ d. bound_names d.name d.lower d.upper) (statement_row_names m.parameters)
+    c.items-params.ensures.list c.items.ensures.list c.args.i c.if-i-params.false c.requires.inside in
     omega (
       arith,
       inside,
@@ -91,22 +70,12 @@ returns-else-i-params g c =
     let m = robust value c.args.model.now in
     let l = c.index-items-line.result in
     let number = c.args.i - length c.items-params.result.now + 1 in
-    let count =
-    mapped_length (parameter_of value) (λ (d : Parameter). bound_names d.name d.lower d.upper)
-    c.args.model.now.params c.items-params.result.now c.items-params.ensures.list in
-    let inside =
-    inside_second (parameter_bound_groups m) (groups_by_number (statement_row_names m.parameters) 1 m.set_lines)
-    c.args.i (length c.items-params.result.now) (length c.items.result.now) c.requires.inside
-    count c.if-i-params.false
-    (statement_length value (statement_row_names m.parameters) c.args.model.now.set_lines c.items.result.now
-    c.items.ensures.list) in
+    let inside = statement_inside value (λ d. bound_names d.name d.lower d.upper) (statement_row_names m.parameters)
+    c.items-params.ensures.list c.items.ensures.list c.args.i c.if-i-params.false c.requires.inside in
     record {
-      group = second_list (parameter_bound_groups m) (groups_by_number (statement_row_names m.parameters) 1 m.set_lines)
-          (length c.items-params.result.now) c.args.i _ count c.if-i-params.false
-          (statement value (statement_row_names m.parameters) c.args.model.now.set_lines c.items.result.now
-          c.items.ensures.list (c.args.i - length c.items-params.result.now) number inside
-          refl l c.index-items-line.is
-          ∙ ap (λ (ps : List (Param g.row.N.Denot)).
-          Some (statement_row_names (map (parameter_of value) ps) number (set_line_of value l)))
-          (sym c.items-params.ensures.list));
+      group = statement_behind value (λ d. bound_names d.name d.lower d.upper) (statement_row_names m.parameters)
+          c.items-params.ensures.list c.items.ensures.list c.args.i c.if-i-params.false number l inside refl
+          c.index-items-line.is
+          ∙ ap (λ ps. Some (statement_row_names (map (parameter_of value) ps) number (set_line_of value l)))
+          (sym c.items-params.ensures.list);
     }

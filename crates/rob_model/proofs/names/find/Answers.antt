@@ -15,20 +15,16 @@ loop-i-init g c =
     }
 
 pub find-requires : goal.find-requires
-find-requires g c =
-    let value = g.N.Exact.value in
-    record {
-      few = group_few (robust value c.args.model.now) c.requires.valid.limits c.args.kind c.loop-i.i
-          (names_in value c.group_at-group.result) c.group_at-group.ensures.group;
-    }
+find-requires g c = record {
+  few = group_few (robust g.N.Exact.value c.args.model.now) c.requires.valid.limits c.args.kind c.loop-i.i _
+      c.group_at-group.ensures.group;
+}
 
 pub count-first-requires : goal.count-first-requires
-count-first-requires g c =
-    let value = g.N.Exact.value in
-    record {
-      few = group_few (robust value c.args.model.now) c.requires.valid.limits c.args.kind c.loop-i.i
-          (names_in value c.group_at-group.result) c.group_at-group.ensures.group;
-    }
+count-first-requires g c = record {
+  few = group_few (robust g.N.Exact.value c.args.model.now) c.requires.valid.limits c.args.kind c.loop-i.i _
+      c.group_at-group.ensures.group;
+}
 
 pub overflow_add-result : goal.overflow_add-result
 overflow_add-result g c =
