@@ -8,13 +8,6 @@ loop-param-preserved g c =
     let more = count_more g.N.Exact.value c.args.params.now c.loop-param.param-index c.loop-param.count d
     c.loop-param-test.true c.param-item.is c.loop-param.invariant.rest in
     record {
-      rest = omega (arith, more, c.declared.ensures.count, c.declared-in-loop-param.ensures.count);
-      small = omega (
-        arith,
-        c.loop-param.invariant.small,
-        c.declared.ensures.count,
-        c.declared-in-loop-param.ensures.count,
-        few_declared d.lower,
-        few_declared d.upper,
-      );
+      rest = omega arith;
+      small = omega (arith, few_declared d.lower, few_declared d.upper);
     }

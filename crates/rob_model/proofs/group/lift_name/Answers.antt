@@ -11,12 +11,9 @@ returns g c =
     omega (
       arith,
       c.requires.inside,
-      length-lift_names value ps c.args.number c.args.line.now c.in-Budget.limit c.in-Budget.members
-          c.items.result.now c.in-Budget.is c.items.ensures.list,
+      length-lift_names value ps c.args.number c.args.line.now _ _ _ c.in-Budget.is c.items.ensures.list,
     ) in
     record {
-      name = lift_of_budget value ps c.args.number c.args.line.now c.in-Budget.limit c.in-Budget.members
-          c.items.result.now c.in-Budget.is c.items.ensures.list
-          c.args.index c.index-items-index.result c.parameter_name.result.now inside c.index-items-index.is
-          c.parameter_name.ensures.name;
+      name = lift_of_budget value ps c.args.number c.args.line.now _ _ _ c.in-Budget.is c.items.ensures.list
+          c.args.index _ _ inside c.index-items-index.is c.parameter_name.ensures.name;
     }
