@@ -11,8 +11,7 @@ invariant_of-result-2 c =
     let depth : total (weights_of n b) ≡ (1 + b % 2) + total (weights_of (n - 1) (b / 2)) = ap total first in
     let bits : doubled_of (weights_of n b) ≡ b % 2 + 2 * doubled_of (weights_of (n - 1) (b / 2)) =
     ap doubled_of first ∙ omega arith in
-    let kept = c.self.invariant in
-    (omega (arith, kept.0, depth), omega (arith, kept.1, bits))
+    (omega (arith, c.self.invariant.0, depth), omega (arith, c.self.invariant.1, bits))
 
 pub returns : goal.returns
 returns c =
