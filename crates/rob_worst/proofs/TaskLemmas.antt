@@ -1,9 +1,10 @@
 -- What a search is set is that of its form and vector.
-use Rattle.std.proofs.Common.{◌≡◌, ℕ, ◌+◌, ◌-◌, ◌^◌, ◌<◌, ◌≤◌, List, length, sym, ap, ◌∙◌, arith, to_z, w64}
+use Rattle.std.proofs.Common.{◌≡◌, ℕ, ◌+◌, ◌-◌, ◌^◌, ◌<◌, ◌≤◌, List, map, length, sym, ap, ◌∙◌, arith, to_z, w64}
 use lib.IntN.{ℤ, pos, nat_abs, neg_ℤ}
 use Rattle.rob_algebra.specs.Fraction.{Fraction}
 use Rattle.rob_linear.specs.Vectors.{Vector, sum_to, at}
 use Rattle.rob_linear.specs.Programs.{with_cost}
+use Rattle.rob_meaning.specs.Clearing.{denominator, whole_at}
 use Rattle.rob_meaning.specs.Forms.{form_columns}
 use Rattle.rob_meaning.specs.Places.{Each, tabulate}
 use Rattle.rob_meaning.specs.RobustModel.{RobustModel}
@@ -55,6 +56,11 @@ module _ (limit columns : ℕ) (task : Task) (h : FitsSet limit columns task) wh
 -- ---- of a model
 pub common_seen : (limit n : ℕ) → limit ≤ 2 ^ 62 - 1 → n ≤ limit → to_z w64 n ≡ pos n
 common_seen limit n high l = natural_seen n (omega arith)
+
+-- what is cleared by the least common denominator
+pub wholes_are : {d : ℕ} {whole cleared : List ℤ} (z : List Fraction) → whole ≡ cleared → cleared ≡ map (whole_at d) z
+    → d ≡ denominator z → whole ≡ wholes z
+wholes_are z same is least = same ∙ is ∙ ap (λ d. map (whole_at d) z) least
 
 module _ (m : RobustModel) (forms : Forms) (f : IsForms m forms) (i : ℕ) (z : List Fraction) (whole : List ℤ)
     (is : whole ≡ wholes z) where
