@@ -1,5 +1,6 @@
 pub mod AppendLemmas
 pub mod BoundLemmas
+pub mod FormParts
 pub mod LeftLemmas
 pub mod ObjectiveLemmas
 pub mod RowLemmas
