@@ -1,5 +1,5 @@
 -- Expressions as they are seen, one level at a time, and sums of the first places.
-use Rattle.std.proofs.Common.{◌≡◌, ℕ, zero, suc, ◌+◌, ◌≤◌, List, map, refl, ap, ◌∙◌, rules, arith}
+use Rattle.std.proofs.Common.{◌≡◌, ℕ, zero, suc, ◌+◌, ◌≤◌, List, [], ◌++◌, map, refl, ap, sym, ◌∙◌, rules, arith}
 use Rattle.rob_algebra.specs.Fraction.{Fraction}
 use Rattle.rob_meaning.specs.Expressions.{Expression, parameter, variable, adaptive, sum}
 use Rattle.rob_meaning.specs.Places.{tabulate}
@@ -43,3 +43,13 @@ pub total_is : (count : ℕ) (f : ℕ → Expression) → 2 ≤ count → total 
 total_is zero f h = absurd (omega arith)
 total_is (suc zero) f h = absurd (omega arith)
 total_is (suc (suc more)) f h = refl
+
+-- the sum of terms that are appended to none
+pub total_of : {N : Type 0} (value : N → Fraction) (f : ℕ → Expression) (count : ℕ) {old : List (Term N)}
+    (ts : List (Term N)) → 2 ≤ count → old ≡ []
+    → map (signed_of value) ts ≡ map (signed_of value) old ++ tabulate count (λ k. added (f k))
+    → expression_of value (expr.Sum ts) ≡ total count f
+total_of {N} value f count ts some none made =
+    sum_of value ts (tabulate count (λ k. added (f k)))
+    (made ∙ ap (λ (old : List (Term N)). map (signed_of value) old ++ tabulate count (λ k. added (f k))) none)
+    ∙ sym (total_is count f some)

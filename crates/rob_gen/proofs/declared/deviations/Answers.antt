@@ -7,12 +7,11 @@ use Rattle.rob_gen.proofs.ListLemmas.{more}
 use Rattle.rob_gen.proofs.declared.deviations.Goals as goal
 
 pub loop-place-preserved : goal.loop-place-preserved
-loop-place-preserved g c =
-    record {
-      made = more (member_of g.N.Exact.value) (deviation (centre c.args.n)) c.loop-place.list c.deviation-item.result
-          c.loop-place.place c.in_ok-push.ensures.appended c.deviation-item.ensures.made c.loop-place.invariant.made;
-      counted = only_later c.loop-place.invariant.counted c.deviation-item.ensures.counted;
-    }
+loop-place-preserved g c = record {
+  made = more (member_of g.N.Exact.value) (deviation (centre c.args.n)) c.loop-place.list c.deviation-item.result
+      c.loop-place.place c.in_ok-push.ensures.appended c.deviation-item.ensures.made c.loop-place.invariant.made;
+  counted = only_later c.loop-place.invariant.counted c.deviation-item.ensures.counted;
+}
 
 pub returns-clause-made : goal.returns-clause-made
 returns-clause-made g c =

@@ -1,8 +1,6 @@
-use Rattle.std.proofs.Common.{◌≡◌, ◌++◌, List, map, sym, ◌∙◌, ap, arith}
-use Rattle.rob_meaning.specs.Places.{tabulate}
-use Rattle.rob_model.specs.View.{Signed, signed_of}
-use Rattle.rob_gen.specs.Generated.{added, order, total}
-use Rattle.rob_gen.proofs.TreeLemmas.{sum_of, total_is}
+use Rattle.std.proofs.Common.{◌≡◌, sym, ◌∙◌, ap, arith}
+use Rattle.rob_gen.specs.Generated.{order, total}
+use Rattle.rob_gen.proofs.TreeLemmas.{total_of}
 use Rattle.rob_gen.proofs.expressions.all_orders.Goals as goal
 
 pub returns-then-count-eq1 : goal.returns-then-count-eq1
@@ -12,10 +10,6 @@ returns-then-count-eq1 g c = record {
 
 pub returns : goal.returns
 returns g c = record {
-  made =
-      sum_of g.N.Exact.value c.add_orders.new.terms (tabulate c.args.count (λ place. added (order place)))
-      (c.in_ok-add_orders.ensures.made
-      ∙ ap (λ (front : List Signed). front ++ tabulate c.args.count (λ place. added (order place)))
-      (ap (map (signed_of g.N.Exact.value)) c.new-terms.ensures.empty))
-      ∙ sym (total_is c.args.count order (omega (arith, c.requires.some)));
+  made = total_of g.N.Exact.value order c.args.count c.add_orders.new.terms (omega (arith, c.requires.some))
+      c.new-terms.ensures.empty c.in_ok-add_orders.ensures.made;
 }
