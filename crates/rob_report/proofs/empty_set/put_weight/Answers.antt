@@ -11,10 +11,9 @@ pub returns : goal.returns
 returns g c =
     let fits : SFits w64 c.args.weight = search rules in record {
       appended = weight_last c.push-3.result c.args.weight
-          (name_at (set_row_names (robust g.N.Exact.value c.args.model.now)) c.args.index) c.args.out.now
-          c.put_set_row.new.out c.push.new.self c.push-2.new.self c.push-3.new.self c.as_bytes.result.now
-          (λ e. c.if-weight-eq0.false (ap (of_z w64) e))
-          c.in_ok-put_set_row.ensures.appended c.in_ok-push.ensures.appended c.in_ok-push-2.ensures.appended
+          (name_at (set_row_names (robust g.N.Exact.value c.args.model.now)) c.args.index) c.args.out.now _ _ _
+          c.push-3.new.self _ (λ e. c.if-weight-eq0.false (ap (of_z w64) e)) c.in_ok-put_set_row.ensures.appended
+          c.in_ok-push.ensures.appended c.in_ok-push-2.ensures.appended
           (c.as_bytes.ensures.value ∙ c.format.ensures.text ∙ ap signed_decimal (to_z-of_z w64 c.args.weight fits))
           c.push-3.ensures.appended;
     }

@@ -11,8 +11,7 @@ pub returns-clause-count : goal.returns-clause-count
 returns-clause-count g c =
     let value = g.N.Exact.value in
     let m = robust value c.args.model.now in
-    let bounds : c.bound_count.result ≡ length (bounds_from 0 m.parameters)
-    = c.bound_count.ensures.count
+    let bounds : c.bound_count.result ≡ length (bounds_from 0 m.parameters) = c.bound_count.ensures.count
     ∙ ap (λ ps. length (parameter_bound_names (map (parameter_of value) ps))) c.items.ensures.list
     ∙ length-parameter_bound_names 0 m.parameters in
     let lines : length c.items-2.result.now ≡ length m.set_lines
