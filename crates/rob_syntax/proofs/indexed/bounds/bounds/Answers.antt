@@ -3,6 +3,6 @@ use Rattle.rob_syntax.proofs.indexed.bounds.bounds.Goals as goal
 
 pub returns-in_err-both : goal.returns-in_err-both
 returns-in_err-both c = record {
-  read =
-      rw c.from_residual-in_err-both.ensures (no_between c.in-Some-behind_word.ensures.read c.in_err-both.ensures.read);
+  read = rw c.from_residual-in_err-both.ensures
+      (no_between c.in-Some-behind_word.ensures.read c.in_err-both.ensures.read);
 }

@@ -11,17 +11,15 @@ returns-in_default-behind_mark c =
 
 pub returns-in_err-members : goal.returns-in_err-members
 returns-in_err-members c = record {
-  read =
-      refused_up _ _ _ c.from_residual.ensures.1
-      (λ missing. no_members c.in-Some.ensures.read c.in-Some-behind_mark.ensures.read missing)
-      c.in_err-members.ensures.read;
+  read = refused_up _ _ _ c.from_residual.ensures.1
+      (no_members c.in-Some.ensures.read c.in-Some-behind_mark.ensures.read) c.in_err-members.ensures.read;
 }
 
 pub returns-in_err-over : goal.returns-in_err-over
 returns-in_err-over c = record {
-  read =
-      refused_up _ _ _ c.from_residual-in_err-over.ensures.1 (λ missing. no_budget_over c.in-Some.ensures.read
-      c.in-Some-behind_mark.ensures.read c.in_ok-members.ensures.read missing) c.in_err-over.ensures.read;
+  read = refused_up _ _ _ c.from_residual-in_err-over.ensures.1
+      (no_budget_over c.in-Some.ensures.read c.in-Some-behind_mark.ensures.read c.in_ok-members.ensures.read)
+      c.in_err-over.ensures.read;
 }
 
 pub returns : goal.returns

@@ -3,10 +3,8 @@ use Rattle.rob_syntax.proofs.Fronts.ListLemmas.{no_share_name, no_at, no_centre,
 use Rattle.rob_syntax.proofs.indexed.budget.share.Goals as goal
 
 pub returns-in_err-name : goal.returns-in_err-name
-returns-in_err-name c = record {
-  read =
-      refused_up _ _ _ c.from_residual.ensures.1 (λ missing. no_share_name missing) c.in_err-name.ensures.read;
-}
+returns-in_err-name c =
+    record { read = refused_up _ _ _ c.from_residual.ensures.1 no_share_name c.in_err-name.ensures.read }
 
 pub returns-in_default : goal.returns-in_default
 returns-in_default c = record { read = no_at c.in_ok-name.ensures.read c.in_default.ensures.read }

@@ -12,24 +12,20 @@ use Rattle.rob_syntax.proofs.indexed.expr.+indexed_expr.Goals as goal
 
 pub expr-returns-in_err-first : goal.expr-returns-in_err-first
 expr-returns-in_err-first t c = record {
-  read =
-      refused_up _ _ _ c.from_residual.ensures.1 (λ missing. no_first_term c.front_minus-minus.ensures.read missing)
+  read = refused_up _ _ _ c.from_residual.ensures.1 (no_first_term c.front_minus-minus.ensures.read)
       c.in_err-first.ensures.read;
 }
 
 pub expr-returns-then-is_one_term : goal.expr-returns-then-is_one_term
 expr-returns-then-is_one_term t c = record {
-  read =
-      expr_of_one c.front_minus-minus.ensures.read c.in_ok-first.ensures.read c.if-is_one_term.ensures.one_term.0
+  read = expr_of_one c.front_minus-minus.ensures.read c.in_ok-first.ensures.read c.if-is_one_term.ensures.one_term.0
       c.if-is_one_term.ensures.one_term.1;
 }
 
 pub expr-returns-in_err-parts : goal.expr-returns-in_err-parts
 expr-returns-in_err-parts t c = record {
-  read =
-      refused_up _ _ _ c.from_residual-in_err-parts.ensures.1
-      (λ missing. no_terms_behind c.front_minus-minus.ensures.read c.in_ok-first.ensures.read missing)
-      c.in_err-parts.ensures.read;
+  read = refused_up _ _ _ c.from_residual-in_err-parts.ensures.1
+      (no_terms_behind c.front_minus-minus.ensures.read c.in_ok-first.ensures.read) c.in_err-parts.ensures.read;
 }
 
 pub expr-returns : goal.expr-returns
@@ -70,19 +66,16 @@ parts-returns t c = record {
 }
 
 pub term-returns-in_err-first : goal.term-returns-in_err-first
-term-returns-in_err-first t c = record {
-  read =
-      refused_up _ _ _ c.from_residual.ensures.1 (λ missing. no_first_factor missing) c.in_err-first.ensures.read;
-}
+term-returns-in_err-first t c =
+    record { read = refused_up _ _ _ c.from_residual.ensures.1 no_first_factor c.in_err-first.ensures.read }
 
 pub term-returns-in_default : goal.term-returns-in_default
 term-returns-in_default t c = record { read = term_of_one c.in_ok-first.ensures.read c.in_default.ensures.read }
 
 pub term-returns-in_err-factors : goal.term-returns-in_err-factors
 term-returns-in_err-factors t c = record {
-  read =
-      refused_up _ _ _ c.from_residual-in_err-factors.ensures.1
-      (λ missing. no_factors_behind c.in_ok-first.ensures.read missing) c.in_err-factors.ensures.read;
+  read = refused_up _ _ _ c.from_residual-in_err-factors.ensures.1 (no_factors_behind c.in_ok-first.ensures.read)
+      c.in_err-factors.ensures.read;
 }
 
 pub term-returns : goal.term-returns
@@ -126,33 +119,29 @@ factor-returns-in-Some t c =
 
 pub factor-returns-in_err-inner : goal.factor-returns-in_err-inner
 factor-returns-in_err-inner t c = record {
-  read =
-      refused_up _ _ _ c.from_residual.ensures.1 (λ missing. no_parens c.in-Some-behind_mark.ensures.read missing)
+  read = refused_up _ _ _ c.from_residual.ensures.1 (no_parens c.in-Some-behind_mark.ensures.read)
       c.in_err-inner.ensures.read;
 }
 
 pub factor-returns-in-Some-behind_mark : goal.factor-returns-in-Some-behind_mark
-factor-returns-in-Some-behind_mark t c = record {
-  read = factor_of_parens c.in-Some-behind_mark.ensures.read c.in_ok-inner.ensures.read;
-}
+factor-returns-in-Some-behind_mark t c =
+    record { read = factor_of_parens c.in-Some-behind_mark.ensures.read c.in_ok-inner.ensures.read }
 
 pub factor-returns-in_err-sum : goal.factor-returns-in_err-sum
 factor-returns-in_err-sum t c = record {
-  read =
-      refused_up _ _ _ c.from_residual-in_err-sum.ensures.1
-      (λ missing. no_sum c.in-Some-behind_word.ensures.read missing) c.in_err-sum.ensures.read;
+  read = refused_up _ _ _ c.from_residual-in_err-sum.ensures.1 (no_sum c.in-Some-behind_word.ensures.read)
+      c.in_err-sum.ensures.read;
 }
 
 pub factor-returns-in-Some-behind_word : goal.factor-returns-in-Some-behind_word
-factor-returns-in-Some-behind_word t c = record {
-  read = factor_of_sum c.in-Some-behind_word.ensures.read c.in_ok-sum.ensures.read;
-}
+factor-returns-in-Some-behind_word t c =
+    record { read = factor_of_sum c.in-Some-behind_word.ensures.read c.in_ok-sum.ensures.read }
 
 pub factor-returns-in_err-name : goal.factor-returns-in_err-name
 factor-returns-in_err-name t c = record {
-  read =
-      refused_up _ _ _ c.from_residual-in_err-name.ensures.1 (λ missing. no_factor c.in_default.ensures.read
-      c.in_default-behind_mark.ensures.read c.in_default-behind_word.ensures.read missing) c.in_err-name.ensures.read;
+  read = refused_up _ _ _ c.from_residual-in_err-name.ensures.1
+      (no_factor c.in_default.ensures.read c.in_default-behind_mark.ensures.read c.in_default-behind_word.ensures.read)
+      c.in_err-name.ensures.read;
 }
 
 pub factor-returns : goal.factor-returns
@@ -160,10 +149,8 @@ factor-returns t c =
     record { read = read_as (sym (ref_is c.in_ok-name.name)) (factor_of_ref _ c.in_ok-name.ensures.read) }
 
 pub closed-returns-in_err-inner : goal.closed-returns-in_err-inner
-closed-returns-in_err-inner t c = record {
-  read =
-      refused_up _ _ _ c.from_residual.ensures.1 (λ missing. nothing_closed missing) c.in_err-inner.ensures.read;
-}
+closed-returns-in_err-inner t c =
+    record { read = refused_up _ _ _ c.from_residual.ensures.1 nothing_closed c.in_err-inner.ensures.read }
 
 pub closed-returns-in-Some : goal.closed-returns-in-Some
 closed-returns-in-Some t c = record { read = closed_read c.in_ok-inner.ensures.read c.in-Some.ensures.read }
@@ -176,21 +163,19 @@ summed-returns-in_default t c = record { read = not_summed c.in_default.ensures.
 
 pub summed-returns-in_err-range : goal.summed-returns-in_err-range
 summed-returns-in_err-range t c = record {
-  read =
-      refused_up _ _ _ c.from_residual.ensures.1 (λ missing. no_range_inside c.in-Some.ensures.read missing)
+  read = refused_up _ _ _ c.from_residual.ensures.1 (no_range_inside c.in-Some.ensures.read)
       c.in_err-range.ensures.read;
 }
 
 pub summed-returns-in_default-behind_mark : goal.summed-returns-in_default-behind_mark
-summed-returns-in_default-behind_mark t c = record {
-  read = no_colon c.in-Some.ensures.read c.in_ok-range.ensures.read c.in_default-behind_mark.ensures.read;
-}
+summed-returns-in_default-behind_mark t c =
+    record { read = no_colon c.in-Some.ensures.read c.in_ok-range.ensures.read c.in_default-behind_mark.ensures.read }
 
 pub summed-returns-in_err-inner : goal.summed-returns-in_err-inner
 summed-returns-in_err-inner t c = record {
-  read =
-      refused_up _ _ _ c.from_residual-in_err-inner.ensures.1 (λ missing. no_summand c.in-Some.ensures.read
-      c.in_ok-range.ensures.read c.in-Some-behind_mark.ensures.read missing) c.in_err-inner.ensures.read;
+  read = refused_up _ _ _ c.from_residual-in_err-inner.ensures.1
+      (no_summand c.in-Some.ensures.read c.in_ok-range.ensures.read c.in-Some-behind_mark.ensures.read)
+      c.in_err-inner.ensures.read;
 }
 
 pub summed-returns : goal.summed-returns

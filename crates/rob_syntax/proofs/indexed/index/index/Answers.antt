@@ -6,5 +6,4 @@ pub returns-in_default : goal.returns-in_default
 returns-in_default c = record { read = no_index c.in_default.ensures.read }
 
 pub returns : goal.returns
-returns c =
-    record { read = index_found (seen_atom c.in-Some.first) c.in-Some.ensures.read c.in_ok-more.ensures.read }
+returns c = record { read = index_found (seen_atom c.in-Some.first) c.in-Some.ensures.read c.in_ok-more.ensures.read }

@@ -7,8 +7,7 @@ returns-in_default c = record { read = no_bounded c.in_default.ensures.read }
 
 pub returns-in_err-ranges : goal.returns-in_err-ranges
 returns-in_err-ranges c = record {
-  read =
-      refused_up _ _ _ c.from_residual.ensures.1 (λ missing. no_bounded_ranges c.in-Some.ensures.read missing)
+  read = refused_up _ _ _ c.from_residual.ensures.1 (no_bounded_ranges c.in-Some.ensures.read)
       c.in_err-ranges.ensures.read;
 }
 

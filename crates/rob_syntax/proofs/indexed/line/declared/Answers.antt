@@ -3,16 +3,13 @@ use Rattle.rob_syntax.proofs.Fronts.LineLemmas.{no_declared, no_declared_bounds,
 use Rattle.rob_syntax.proofs.indexed.line.declared.Goals as goal
 
 pub returns-in_err-name : goal.returns-in_err-name
-returns-in_err-name c = record {
-  read =
-      refused_up _ _ _ c.from_residual.ensures.1 (λ missing. no_declared missing) c.in_err-name.ensures.read;
-}
+returns-in_err-name c =
+    record { read = refused_up _ _ _ c.from_residual.ensures.1 no_declared c.in_err-name.ensures.read }
 
 pub returns-in_err-bounds : goal.returns-in_err-bounds
 returns-in_err-bounds c = record {
-  read =
-      refused_up _ _ _ c.from_residual-in_err-bounds.ensures.1
-      (λ missing. no_declared_bounds c.in_ok-name.ensures.read missing) c.in_err-bounds.ensures.read;
+  read = refused_up _ _ _ c.from_residual-in_err-bounds.ensures.1 (no_declared_bounds c.in_ok-name.ensures.read)
+      c.in_err-bounds.ensures.read;
 }
 
 pub returns : goal.returns

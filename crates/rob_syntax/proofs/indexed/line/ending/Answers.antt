@@ -3,16 +3,13 @@ use Rattle.rob_syntax.proofs.Fronts.LineLemmas.{no_ending, no_ending_over, endin
 use Rattle.rob_syntax.proofs.indexed.line.ending.Goals as goal
 
 pub returns-in_err-tree : goal.returns-in_err-tree
-returns-in_err-tree c = record {
-  read =
-      refused_up _ _ _ c.from_residual.ensures.1 (λ missing. no_ending missing) c.in_err-tree.ensures.read;
-}
+returns-in_err-tree c =
+    record { read = refused_up _ _ _ c.from_residual.ensures.1 no_ending c.in_err-tree.ensures.read }
 
 pub returns-in_err-over : goal.returns-in_err-over
 returns-in_err-over c = record {
-  read =
-      refused_up _ _ _ c.from_residual-in_err-over.ensures.1
-      (λ missing. no_ending_over c.in_ok-tree.ensures.read missing) c.in_err-over.ensures.read;
+  read = refused_up _ _ _ c.from_residual-in_err-over.ensures.1 (no_ending_over c.in_ok-tree.ensures.read)
+      c.in_err-over.ensures.read;
 }
 
 pub returns : goal.returns

@@ -7,9 +7,8 @@ returns-in_default c = record { read = nothing_found over_optional c.in_default.
 
 pub returns-in_err-set : goal.returns-in_err-set
 returns-in_err-set c = record {
-  read =
-      refused_up _ _ _ c.from_residual.ensures.1
-      (λ missing. something_missing over_optional c.in-Some.ensures.read missing) c.in_err-set.ensures.read;
+  read = refused_up _ _ _ c.from_residual.ensures.1 (something_missing over_optional c.in-Some.ensures.read)
+      c.in_err-set.ensures.read;
 }
 
 pub returns : goal.returns

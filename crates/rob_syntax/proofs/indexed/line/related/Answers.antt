@@ -3,16 +3,13 @@ use Rattle.rob_syntax.proofs.Fronts.LineLemmas.{no_related, no_related_ranges, r
 use Rattle.rob_syntax.proofs.indexed.line.related.Goals as goal
 
 pub returns-in_err-item : goal.returns-in_err-item
-returns-in_err-item c = record {
-  read =
-      refused_up _ _ _ c.from_residual.ensures.1 (λ missing. no_related missing) c.in_err-item.ensures.read;
-}
+returns-in_err-item c =
+    record { read = refused_up _ _ _ c.from_residual.ensures.1 no_related c.in_err-item.ensures.read }
 
 pub returns-in_err-ranges : goal.returns-in_err-ranges
 returns-in_err-ranges c = record {
-  read =
-      refused_up _ _ _ c.from_residual-in_err-ranges.ensures.1
-      (λ missing. no_related_ranges c.in_ok-item.ensures.read missing) c.in_err-ranges.ensures.read;
+  read = refused_up _ _ _ c.from_residual-in_err-ranges.ensures.1 (no_related_ranges c.in_ok-item.ensures.read)
+      c.in_err-ranges.ensures.read;
 }
 
 pub returns : goal.returns

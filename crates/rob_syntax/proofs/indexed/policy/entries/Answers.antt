@@ -6,9 +6,9 @@ use Rattle.rob_syntax.proofs.indexed.policy.entries.Goals as goal
 
 pub returns-in_err-first : goal.returns-in_err-first
 returns-in_err-first c = record {
-  read =
-      refused_up _ _ _ c.from_residual.ensures.1 (λ missing. no_first_item (spell_ranged spell_ref) entry_chain.behind
-      c.in-Some.field-0.0 c.in-Some.ensures.read missing) c.in_err-first.ensures.read;
+  read = refused_up _ _ _ c.from_residual.ensures.1
+      (no_first_item (spell_ranged spell_ref) entry_chain.behind c.in-Some.field-0.0 c.in-Some.ensures.read)
+      c.in_err-first.ensures.read;
 }
 
 pub returns-in_err-list : goal.returns-in_err-list
@@ -21,7 +21,6 @@ returns-in_err-list c = record {
 
 pub returns : goal.returns
 returns c = record {
-  read =
-      list_found (spell_ranged spell_ref) entry_chain.behind c.in-Some.field-0.0 c.in-Some.ensures.read
+  read = list_found (spell_ranged spell_ref) entry_chain.behind c.in-Some.field-0.0 c.in-Some.ensures.read
       c.in_ok-first.ensures.read c.in_ok-list.ensures.read;
 }

@@ -4,17 +4,13 @@ use Rattle.rob_syntax.proofs.indexed.policy.entry.Goals as goal
 
 pub returns-in_err-item : goal.returns-in_err-item
 returns-in_err-item c = record {
-  read =
-      refused_up _ _ _ c.from_residual.ensures.1 (λ missing. no_item entry_ranges entry_stop missing)
-      c.in_err-item.ensures.read;
+  read = refused_up _ _ _ c.from_residual.ensures.1 (no_item entry_ranges entry_stop) c.in_err-item.ensures.read;
 }
 
 pub returns-in_err-ranges : goal.returns-in_err-ranges
 returns-in_err-ranges c = record {
-  read =
-      refused_up _ _ _ c.from_residual-in_err-ranges.ensures.1
-      (λ missing. no_item_ranges entry_ranges entry_stop c.in_ok-item.ensures.read missing)
-      c.in_err-ranges.ensures.read;
+  read = refused_up _ _ _ c.from_residual-in_err-ranges.ensures.1
+      (no_item_ranges entry_ranges entry_stop c.in_ok-item.ensures.read) c.in_err-ranges.ensures.read;
 }
 
 pub returns : goal.returns

@@ -3,19 +3,16 @@ use Rattle.rob_syntax.proofs.Fronts.KindLemmas.{no_policy, no_opening, no_entrie
 use Rattle.rob_syntax.proofs.indexed.policy.policy.Goals as goal
 
 pub returns-in_err-name : goal.returns-in_err-name
-returns-in_err-name c = record {
-  read =
-      refused_up _ _ _ c.from_residual.ensures.1 (λ missing. no_policy missing) c.in_err-name.ensures.read;
-}
+returns-in_err-name c =
+    record { read = refused_up _ _ _ c.from_residual.ensures.1 no_policy c.in_err-name.ensures.read }
 
 pub returns-in_default : goal.returns-in_default
 returns-in_default c = record { read = no_opening c.in_ok-name.ensures.read c.in_default.ensures.read }
 
 pub returns-in_err-on : goal.returns-in_err-on
 returns-in_err-on c = record {
-  read =
-      refused_up _ _ _ c.from_residual-in_err-on.ensures.1
-      (λ missing. no_entries c.in_ok-name.ensures.read c.in-Some.ensures.read missing) c.in_err-on.ensures.read;
+  read = refused_up _ _ _ c.from_residual-in_err-on.ensures.1
+      (no_entries c.in_ok-name.ensures.read c.in-Some.ensures.read) c.in_err-on.ensures.read;
 }
 
 pub returns-in_default-behind_mark : goal.returns-in_default-behind_mark

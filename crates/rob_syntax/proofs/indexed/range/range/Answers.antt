@@ -11,10 +11,8 @@ returns-in_default-behind_mark c =
 
 pub returns-in_err-from : goal.returns-in_err-from
 returns-in_err-from c = record {
-  read =
-      refused_up _ _ _ c.from_residual.ensures.1
-      (λ missing. no_from c.in-Some.name c.in-Some.ensures.read c.in-Some-behind_mark.ensures.read missing)
-      c.in_err-from.ensures.read;
+  read = refused_up _ _ _ c.from_residual.ensures.1
+      (no_from c.in-Some.name c.in-Some.ensures.read c.in-Some-behind_mark.ensures.read) c.in_err-from.ensures.read;
 }
 
 pub returns-in_default-behind_word : goal.returns-in_default-behind_word

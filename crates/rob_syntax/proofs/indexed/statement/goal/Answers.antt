@@ -4,16 +4,13 @@ use Rattle.rob_syntax.proofs.Fronts.KindLemmas.{no_goal, no_goal_ranges, goal_re
 use Rattle.rob_syntax.proofs.indexed.statement.goal.Goals as goal
 
 pub returns-in_err-objective : goal.returns-in_err-objective
-returns-in_err-objective c = record {
-  read =
-      refused_up _ _ _ c.from_residual.ensures.1 (λ missing. no_goal missing) c.in_err-objective.ensures.read;
-}
+returns-in_err-objective c =
+    record { read = refused_up _ _ _ c.from_residual.ensures.1 no_goal c.in_err-objective.ensures.read }
 
 pub returns-in_err-ranges : goal.returns-in_err-ranges
 returns-in_err-ranges c = record {
-  read =
-      refused_up _ _ _ c.from_residual-in_err-ranges.ensures.1
-      (λ missing. no_goal_ranges c.in_ok-objective.ensures.read missing) c.in_err-ranges.ensures.read;
+  read = refused_up _ _ _ c.from_residual-in_err-ranges.ensures.1 (no_goal_ranges c.in_ok-objective.ensures.read)
+      c.in_err-ranges.ensures.read;
 }
 
 pub returns : goal.returns

@@ -6,8 +6,7 @@ use Rattle.rob_syntax.proofs.indexed.statement.read_statement.Goals as goal
 
 pub returns-in_err-statement : goal.returns-in_err-statement
 returns-in_err-statement c = record {
-  read =
-      refused_with _ _ _ _ c.from_residual.ensures.1
+  read = refused_with _ _ _ _ c.from_residual.ensures.1
       (statement_cause (seen_line c.args.symbols.now) c.in_err-statement.field-0.0 c.in_err-statement.ensures.read);
 }
 
