@@ -3,7 +3,6 @@ use Rattle.rob_meaning.specs.SetConditions.{set_conditions}
 use Rattle.rob_model.specs.View.{robust}
 use Rattle.rob_model.specs.declared.place.Place.TheVariants as At
 use Rattle.rob_check.specs.Conditions.{set_tests}
-use Rattle.rob_check.specs.Sums.{is_nonnegative, is_positive}
 use Rattle.rob_check.specs.Verdicts.{verdict}
 use Rattle.rob_check.proofs.VerdictLemmas.{sign_holds}
 use Rattle.rob_check.proofs.items.check_item.Goals as goal
@@ -16,7 +15,5 @@ returns-clause-exact g c =
     ∙ ap (λ (xs : List g.row.N.Denot).
     verdict (set_tests g.N.Exact.limit m (At.Item c.args.index) (value c.args.item.now.base) (map value xs) 0
     (set_conditions m))) c.items.ensures.list
-    ∙ sign_holds (At.Base c.args.index) (is_nonnegative (value c.args.item.now.base)) _
-    c.if-not-is_nonnegative.ensures.test
-    ∙ sign_holds (At.Weight c.args.index) (is_positive (value c.args.item.now.weight)) _
-    c.if-not-is_positive.ensures.test
+    ∙ sign_holds (At.Base c.args.index) _ _ c.if-not-is_nonnegative.ensures.test
+    ∙ sign_holds (At.Weight c.args.index) _ _ c.if-not-is_positive.ensures.test

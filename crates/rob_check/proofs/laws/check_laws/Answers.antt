@@ -5,23 +5,13 @@ use Rattle.rob_check.proofs.ProofLaws.{proves_judged}
 use Rattle.rob_check.proofs.SumLaws.{optimal_sums, infeasible_sums}
 use Rattle.rob_check.proofs.laws.check_laws.Goals as goal
 
-pub returns-clause-inside : goal.returns-clause-inside
-returns-clause-inside c limit m u model = inside_judged limit m model u
-
-pub returns-clause-items : goal.returns-clause-items
-returns-clause-items c = items_judged
-
-pub returns-clause-optimal : goal.returns-clause-optimal
-returns-clause-optimal c = optimal_sums
-
-pub returns-clause-infeasible : goal.returns-clause-infeasible
-returns-clause-infeasible c = infeasible_sums
-
-pub returns-clause-covered : goal.returns-clause-covered
-returns-clause-covered c = covering_judged
-
-pub returns-clause-proves : goal.returns-clause-proves
-returns-clause-proves c limit m cert model shape = proves_judged limit m model cert shape
-
-pub returns-clause-none_wide : goal.returns-clause-none_wide
-returns-clause-none_wide c limit m cert model shape narrow = narrow_decided limit m model cert shape narrow
+pub returns : goal.returns
+returns c = record {
+  inside = λ limit m u model. inside_judged limit m model u;
+  items = items_judged;
+  optimal = optimal_sums;
+  infeasible = infeasible_sums;
+  covered = covering_judged;
+  proves = λ limit m cert model shape. proves_judged limit m model cert shape;
+  none_wide = λ limit m cert model shape narrow. narrow_decided limit m model cert shape narrow;
+}
