@@ -10,7 +10,9 @@ use Rattle.rob_index.specs.Lines.{spell_line, statement_of, IsLine, IsStatement}
 use Rattle.rob_syntax.specs.Fronts.{EndsLine, Found, IsMissing, HasCause, Reads}
 use Rattle.rob_syntax.specs.Parts.{spell_named, spell_declared, spell_related, tree_related, spell_row, tree_row, spell_goal, tree_goal, spell_budget, spell_adaptive}
 use Rattle.rob_syntax.specs.Whole.{ReadsLine, IsNoLine, HasLineCause, IsNoStatement, HasStatementCause}
+use Rattle.rob_syntax.specs.Seen.{seen_statement}
 use Rattle.rob_syntax.specs.SeenSymbols.{seen_keyword}
+use Rattle.rob_syntax.specs.declared.syntax.Indexed.{Indexed as Seen}
 use Rattle.rob_syntax.specs.declared.symbol.Keyword.{Keyword}
 use Rattle.rob_syntax.specs.declared.symbol.Keyword.TheVariants as keyword
 use Rattle.rob_syntax.specs.declared.error.ParseErr.{ParseErr}
@@ -117,6 +119,13 @@ module _ {P : Type 0} {spell : P → List Symbol} {symbols behind : List Symbol}
       let m = made other (sym first ∙ same) in
       missing.none m.parts [] (m.spelled ∙ sym (append-nil (spell m.parts))) refl
 
+-- a refusal of what is behind the keyword is one of the line
+line_cause : {A : Type 0} {spell : A → List Symbol} {EndsItem : List Symbol → Type 0} {behind symbols : List Symbol}
+    → (IsMissing spell EndsItem behind → IsNoLine symbols) → (e : ParseErr) → HasCause spell EndsItem behind e
+    → HasLineCause symbols e
+line_cause up NotAStatement cause = up cause
+line_cause up Memory cause = tt
+
 module _ {symbols behind : List Symbol} {w : Keyword} (first : symbols ≡ word (seen_keyword w) ∷ behind) where
   -- the keyword in front
   keyword_first : {k : Keyword} → w ≡ k → symbols ≡ word (seen_keyword k) ∷ behind
@@ -128,29 +137,32 @@ module _ {symbols behind : List Symbol} {w : Keyword} (first : symbols ≡ word 
       line_read is.uncertain make_uncertain (keyword_first word_is) (λ p. refl) (λ l. made_of is.uncertain behind l)
       found refl
 
-  pub no_uncertain : w ≡ keyword.Uncertain → IsMissing spell_declared EndsLine behind
-      → IsNoLine symbols
-  no_uncertain word_is missing =
-      no_line is.uncertain make_uncertain (keyword_first word_is) (λ p. refl) (λ l. made_of is.uncertain behind l)
-      missing
+  pub no_uncertain : (e : ParseErr) → w ≡ keyword.Uncertain → HasCause spell_declared EndsLine behind e
+      → HasLineCause symbols e
+  no_uncertain e word_is cause =
+      line_cause
+      (no_line is.uncertain make_uncertain (keyword_first word_is) (λ p. refl) (λ l. made_of is.uncertain behind l))
+      e cause
 
   pub is_variable : {p : Ref × (Option Bounds × List Range)} → w ≡ keyword.Var
       → Found spell_declared EndsLine behind [] p → ReadsLine symbols (variable p.0 p.1.0 p.1.1)
   is_variable word_is found =
       line_read is.var make_variable (keyword_first word_is) (λ p. refl) (λ l. made_of is.var behind l) found refl
 
-  pub no_variable : w ≡ keyword.Var → IsMissing spell_declared EndsLine behind → IsNoLine symbols
-  no_variable word_is missing =
-      no_line is.var make_variable (keyword_first word_is) (λ p. refl) (λ l. made_of is.var behind l) missing
+  pub no_variable : (e : ParseErr) → w ≡ keyword.Var → HasCause spell_declared EndsLine behind e
+      → HasLineCause symbols e
+  no_variable e word_is cause =
+      line_cause
+      (no_line is.var make_variable (keyword_first word_is) (λ p. refl) (λ l. made_of is.var behind l)) e cause
 
   pub is_over : {p : Ref × List Range} → w ≡ keyword.Over → Found spell_named EndsLine behind [] p
       → ReadsLine symbols (over p.0 p.1)
   is_over word_is found =
       line_read is.over make_over (keyword_first word_is) (λ p. refl) (λ l. made_of is.over behind l) found refl
 
-  pub no_over : w ≡ keyword.Over → IsMissing spell_named EndsLine behind → IsNoLine symbols
-  no_over word_is missing =
-      no_line is.over make_over (keyword_first word_is) (λ p. refl) (λ l. made_of is.over behind l) missing
+  pub no_over : (e : ParseErr) → w ≡ keyword.Over → HasCause spell_named EndsLine behind e → HasLineCause symbols e
+  no_over e word_is cause =
+      line_cause (no_line is.over make_over (keyword_first word_is) (λ p. refl) (λ l. made_of is.over behind l)) e cause
 
   pub is_set : {s : Sides Tree} {rs : List Range} → w ≡ keyword.Set
       → Reads spell_related EndsLine tree_related behind [] (s, rs) → ReadsLine symbols (set s rs)
@@ -158,18 +170,19 @@ module _ {symbols behind : List Symbol} {w : Keyword} (first : symbols ≡ word 
       line_read is.set make_set (keyword_first word_is) (λ p. refl) (λ l. made_of is.set behind l) read.found
       (ap (λ (p : Sides Tree × List Range). set p.0 p.1) read.value_is)
 
-  pub no_set : w ≡ keyword.Set → IsMissing spell_related EndsLine behind → IsNoLine symbols
-  no_set word_is missing =
-      no_line is.set make_set (keyword_first word_is) (λ p. refl) (λ l. made_of is.set behind l) missing
+  pub no_set : (e : ParseErr) → w ≡ keyword.Set → HasCause spell_related EndsLine behind e → HasLineCause symbols e
+  no_set e word_is cause =
+      line_cause (no_line is.set make_set (keyword_first word_is) (λ p. refl) (λ l. made_of is.set behind l)) e cause
 
   pub is_budget : {p : Numeral × (List (Ranged Share) × Option Ref)} → w ≡ keyword.Budget
       → Found spell_budget EndsLine behind [] p → ReadsLine symbols (budget p.0 p.1.0 p.1.1)
   is_budget word_is found =
       line_read is.budget make_budget (keyword_first word_is) (λ p. refl) (λ l. made_of is.budget behind l) found refl
 
-  pub no_budget : w ≡ keyword.Budget → IsMissing spell_budget EndsLine behind → IsNoLine symbols
-  no_budget word_is missing =
-      no_line is.budget make_budget (keyword_first word_is) (λ p. refl) (λ l. made_of is.budget behind l) missing
+  pub no_budget : (e : ParseErr) → w ≡ keyword.Budget → HasCause spell_budget EndsLine behind e → HasLineCause symbols e
+  no_budget e word_is cause =
+      line_cause
+      (no_line is.budget make_budget (keyword_first word_is) (λ p. refl) (λ l. made_of is.budget behind l)) e cause
 
   pub is_adaptive : {p : Ref × (List (Ranged Ref) × (Option Bounds × List Range))} → w ≡ keyword.Adaptive
       → Found spell_adaptive EndsLine behind [] p → ReadsLine symbols (adaptive p.0 p.1.0 p.1.1.0 p.1.1.1)
@@ -177,9 +190,12 @@ module _ {symbols behind : List Symbol} {w : Keyword} (first : symbols ≡ word 
       line_read is.adaptive make_adaptive (keyword_first word_is) (λ p. refl) (λ l. made_of is.adaptive behind l) found
       refl
 
-  pub no_adaptive : w ≡ keyword.Adaptive → IsMissing spell_adaptive EndsLine behind → IsNoLine symbols
-  no_adaptive word_is missing =
-      no_line is.adaptive make_adaptive (keyword_first word_is) (λ p. refl) (λ l. made_of is.adaptive behind l) missing
+  pub no_adaptive : (e : ParseErr) → w ≡ keyword.Adaptive → HasCause spell_adaptive EndsLine behind e
+      → HasLineCause symbols e
+  no_adaptive e word_is cause =
+      line_cause
+      (no_line is.adaptive make_adaptive (keyword_first word_is) (λ p. refl) (λ l. made_of is.adaptive behind l))
+      e cause
 
   pub is_minimise : {t : Tree} {o : Option Ref} {rs : List Range} → w ≡ keyword.Minimise
       → Reads spell_goal EndsLine tree_goal behind [] (t, (o, rs)) → ReadsLine symbols (goal minimise t o rs)
@@ -188,10 +204,12 @@ module _ {symbols behind : List Symbol} {w : Keyword} (first : symbols ≡ word 
       read.found
       (ap (λ (p : Tree × (Option Ref × List Range)). goal minimise p.0 p.1.0 p.1.1) read.value_is)
 
-  pub no_minimise : w ≡ keyword.Minimise → IsMissing spell_goal EndsLine behind → IsNoLine symbols
-  no_minimise word_is missing =
-      no_line is.minimise (make_goal minimise) (keyword_first word_is) (λ p. refl) (λ l. made_of is.minimise behind l)
-      missing
+  pub no_minimise : (e : ParseErr) → w ≡ keyword.Minimise → HasCause spell_goal EndsLine behind e
+      → HasLineCause symbols e
+  no_minimise e word_is cause =
+      line_cause
+      (no_line is.minimise (make_goal minimise) (keyword_first word_is) (λ p. refl) (λ l. made_of is.minimise behind l))
+      e cause
 
   pub is_maximise : {t : Tree} {o : Option Ref} {rs : List Range} → w ≡ keyword.Maximise
       → Reads spell_goal EndsLine tree_goal behind [] (t, (o, rs)) → ReadsLine symbols (goal maximise t o rs)
@@ -200,10 +218,12 @@ module _ {symbols behind : List Symbol} {w : Keyword} (first : symbols ≡ word 
       read.found
       (ap (λ (p : Tree × (Option Ref × List Range)). goal maximise p.0 p.1.0 p.1.1) read.value_is)
 
-  pub no_maximise : w ≡ keyword.Maximise → IsMissing spell_goal EndsLine behind → IsNoLine symbols
-  no_maximise word_is missing =
-      no_line is.maximise (make_goal maximise) (keyword_first word_is) (λ p. refl) (λ l. made_of is.maximise behind l)
-      missing
+  pub no_maximise : (e : ParseErr) → w ≡ keyword.Maximise → HasCause spell_goal EndsLine behind e
+      → HasLineCause symbols e
+  no_maximise e word_is cause =
+      line_cause
+      (no_line is.maximise (make_goal maximise) (keyword_first word_is) (λ p. refl) (λ l. made_of is.maximise behind l))
+      e cause
 
   pub is_row : {r : Ref} {s : Sides Tree} {rs : List Range} → w ≡ keyword.Row
       → Reads spell_row EndsLine tree_row behind [] (r, (s, rs)) → ReadsLine symbols (row r s rs)
@@ -211,9 +231,9 @@ module _ {symbols behind : List Symbol} {w : Keyword} (first : symbols ≡ word 
       line_read is.row make_row (keyword_first word_is) (λ p. refl) (λ l. made_of is.row behind l) read.found
       (ap (λ (p : Ref × (Sides Tree × List Range)). row p.0 p.1.0 p.1.1) read.value_is)
 
-  pub no_row : w ≡ keyword.Row → IsMissing spell_row EndsLine behind → IsNoLine symbols
-  no_row word_is missing =
-      no_line is.row make_row (keyword_first word_is) (λ p. refl) (λ l. made_of is.row behind l) missing
+  pub no_row : (e : ParseErr) → w ≡ keyword.Row → HasCause spell_row EndsLine behind e → HasLineCause symbols e
+  no_row e word_is cause =
+      line_cause (no_line is.row make_row (keyword_first word_is) (λ p. refl) (λ l. made_of is.row behind l)) e cause
 
   -- other keywords begin no line
   pub no_at : w ≡ keyword.At → IsNoLine symbols
@@ -246,19 +266,14 @@ pub is_goal_of : {symbols : List Symbol} {s t : Sense} {tree : Tree} {o : Option
 is_goal_of {symbols} {s} {t} {tree} {o} {rs} same read =
     subst (λ (v : Sense). ReadsLine symbols (goal v tree o rs)) (sym same) read
 
--- a refusal of what is behind the keyword is one of the line
-line_cause : {A : Type 0} {spell : A → List Symbol} {EndsItem : List Symbol → Type 0} {behind symbols : List Symbol}
-    → (IsMissing spell EndsItem behind → IsNoLine symbols) → (e : ParseErr) → HasCause spell EndsItem behind e
+-- at the exit of a `?`
+pub line_refused : (symbols : List Symbol) (r : Result Seen ParseErr) (e : ParseErr) → IsErrAnd r (λ f. f ≡ e)
     → HasLineCause symbols e
-line_cause up NotAStatement cause = up cause
-line_cause up Memory cause = tt
-
-pub line_refused : {A V : Type 0} {spell : A → List Symbol} {EndsItem : List Symbol → Type 0}
-    {behind symbols : List Symbol} (r : Result V ParseErr) (P : V → Type 0) (e : ParseErr) → IsErrAnd r (λ f. f ≡ e)
-    → (IsMissing spell EndsItem behind → IsNoLine symbols) → HasCause spell EndsItem behind e
-    → MatchResult r P (λ f. HasLineCause symbols f)
-line_refused {symbols} r P e is up cause =
-    refused_with r P (λ (f : ParseErr). HasLineCause symbols f) e is (line_cause up e cause)
+    → record { read : MatchResult r (λ s. ReadsLine symbols (seen_statement s)) (λ f. HasLineCause symbols f) }
+line_refused symbols r e is cause = record {
+  read = refused_with r (λ s. ReadsLine symbols (seen_statement s)) (λ (f : ParseErr). HasLineCause symbols f) e is
+      cause;
+}
 
 -- each line begins with a keyword
 pub no_keyword : {symbols : List Symbol}

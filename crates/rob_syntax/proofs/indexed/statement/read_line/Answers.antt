@@ -1,113 +1,65 @@
-use Rattle.std.proofs.Common.{ap}
-use Rattle.rob_syntax.specs.Seen.{seen_sense}
+use Rattle.std.proofs.Common.{rules}
 use Rattle.rob_syntax.proofs.Fronts.StatementLemmas.{line_refused, no_keyword, is_goal_of, is_uncertain, no_uncertain, is_variable, no_variable, is_over, no_over, is_set, no_set, is_budget, no_budget, is_adaptive, no_adaptive, is_minimise, no_minimise, is_maximise, no_maximise, is_row, no_row, no_within, no_at, no_by, no_sum, no_for, no_to, no_model, no_unused}
 use Rattle.rob_syntax.proofs.indexed.statement.read_line.Goals as goal
 
 pub returns-in_err-declared-in-Uncertain : goal.returns-in_err-declared-in-Uncertain
-returns-in_err-declared-in-Uncertain c = record {
-  read =
-      line_refused _ _ _ c.from_residual.ensures.1
-      (λ missing. no_uncertain c.in-Some.ensures.read c.in-Uncertain.is missing)
-      c.in_err-declared-in-Uncertain.ensures.read;
-}
+returns-in_err-declared-in-Uncertain c = search (rules, line_refused, no_uncertain)
 
 pub returns-in_ok-declared-in-Uncertain : goal.returns-in_ok-declared-in-Uncertain
 returns-in_ok-declared-in-Uncertain c =
     record { read = is_uncertain c.in-Some.ensures.read c.in-Uncertain.is c.in_ok-declared-in-Uncertain.ensures.read }
 
 pub returns-in_err-declared-in-Var : goal.returns-in_err-declared-in-Var
-returns-in_err-declared-in-Var c = record {
-  read =
-      line_refused _ _ _ c.from_residual-in_err-declared-in-Var.ensures.1
-      (λ missing. no_variable c.in-Some.ensures.read c.in-Var.is missing) c.in_err-declared-in-Var.ensures.read;
-}
+returns-in_err-declared-in-Var c = search (rules, line_refused, no_variable)
 
 pub returns-in_ok-declared-in-Var : goal.returns-in_ok-declared-in-Var
 returns-in_ok-declared-in-Var c =
     record { read = is_variable c.in-Some.ensures.read c.in-Var.is c.in_ok-declared-in-Var.ensures.read }
 
 pub returns-in_err-named-in-Over : goal.returns-in_err-named-in-Over
-returns-in_err-named-in-Over c = record {
-  read =
-      line_refused _ _ _ c.from_residual-in_err-named-in-Over.ensures.1
-      (λ missing. no_over c.in-Some.ensures.read c.in-Over.is missing) c.in_err-named-in-Over.ensures.read;
-}
+returns-in_err-named-in-Over c = search (rules, line_refused, no_over)
 
 pub returns-in_ok-named-in-Over : goal.returns-in_ok-named-in-Over
 returns-in_ok-named-in-Over c =
     record { read = is_over c.in-Some.ensures.read c.in-Over.is c.in_ok-named-in-Over.ensures.read }
 
 pub returns-in_err-related-in-Set : goal.returns-in_err-related-in-Set
-returns-in_err-related-in-Set c = record {
-  read =
-      line_refused _ _ _ c.from_residual-in_err-related-in-Set.ensures.1
-      (λ missing. no_set c.in-Some.ensures.read c.in-Set.is missing) c.in_err-related-in-Set.ensures.read;
-}
+returns-in_err-related-in-Set c = search (rules, line_refused, no_set)
 
 pub returns-in_ok-related-in-Set : goal.returns-in_ok-related-in-Set
-returns-in_ok-related-in-Set c =
-    record { read = is_set c.in-Some.ensures.read c.in-Set.is c.in_ok-related-in-Set.ensures.read }
+returns-in_ok-related-in-Set c = search (rules, is_set)
 
 pub returns-in_err-budget-in-Budget : goal.returns-in_err-budget-in-Budget
-returns-in_err-budget-in-Budget c = record {
-  read =
-      line_refused _ _ _ c.from_residual-in_err-budget-in-Budget.ensures.1
-      (λ missing. no_budget c.in-Some.ensures.read c.in-Budget.is missing) c.in_err-budget-in-Budget.ensures.read;
-}
+returns-in_err-budget-in-Budget c = search (rules, line_refused, no_budget)
 
 pub returns-in_ok-budget-in-Budget : goal.returns-in_ok-budget-in-Budget
 returns-in_ok-budget-in-Budget c =
     record { read = is_budget c.in-Some.ensures.read c.in-Budget.is c.in_ok-budget-in-Budget.ensures.read }
 
 pub returns-in_err-policy-in-Adaptive : goal.returns-in_err-policy-in-Adaptive
-returns-in_err-policy-in-Adaptive c = record {
-  read =
-      line_refused _ _ _ c.from_residual-in_err-policy-in-Adaptive.ensures.1
-      (λ missing. no_adaptive c.in-Some.ensures.read c.in-Adaptive.is missing) c.in_err-policy-in-Adaptive.ensures.read;
-}
+returns-in_err-policy-in-Adaptive c = search (rules, line_refused, no_adaptive)
 
 pub returns-in_ok-policy-in-Adaptive : goal.returns-in_ok-policy-in-Adaptive
 returns-in_ok-policy-in-Adaptive c =
     record { read = is_adaptive c.in-Some.ensures.read c.in-Adaptive.is c.in_ok-policy-in-Adaptive.ensures.read }
 
 pub returns-in_err-goal-in-Minimise : goal.returns-in_err-goal-in-Minimise
-returns-in_err-goal-in-Minimise c = record {
-  read =
-      line_refused _ _ _ c.from_residual-in_err-goal-in-Minimise.ensures.1
-      (λ missing. no_minimise c.in-Some.ensures.read c.in-Minimise.is missing) c.in_err-goal-in-Minimise.ensures.read;
-}
+returns-in_err-goal-in-Minimise c = search (rules, line_refused, no_minimise)
 
 pub returns-in_ok-goal-in-Minimise : goal.returns-in_ok-goal-in-Minimise
-returns-in_ok-goal-in-Minimise c = record {
-  read =
-      is_goal_of (ap seen_sense c.in_ok-goal-in-Minimise.ensures.read.1)
-      (is_minimise c.in-Some.ensures.read c.in-Minimise.is c.in_ok-goal-in-Minimise.ensures.read.0);
-}
+returns-in_ok-goal-in-Minimise c = search (rules, is_goal_of, is_minimise)
 
 pub returns-in_err-goal-in-Maximise : goal.returns-in_err-goal-in-Maximise
-returns-in_err-goal-in-Maximise c = record {
-  read =
-      line_refused _ _ _ c.from_residual-in_err-goal-in-Maximise.ensures.1
-      (λ missing. no_maximise c.in-Some.ensures.read c.in-Maximise.is missing) c.in_err-goal-in-Maximise.ensures.read;
-}
+returns-in_err-goal-in-Maximise c = search (rules, line_refused, no_maximise)
 
 pub returns-in_ok-goal-in-Maximise : goal.returns-in_ok-goal-in-Maximise
-returns-in_ok-goal-in-Maximise c = record {
-  read =
-      is_goal_of (ap seen_sense c.in_ok-goal-in-Maximise.ensures.read.1)
-      (is_maximise c.in-Some.ensures.read c.in-Maximise.is c.in_ok-goal-in-Maximise.ensures.read.0);
-}
+returns-in_ok-goal-in-Maximise c = search (rules, is_goal_of, is_maximise)
 
 pub returns-in_err-name-in-Row : goal.returns-in_err-name-in-Row
-returns-in_err-name-in-Row c = record {
-  read =
-      line_refused _ _ _ c.from_residual-in_err-name-in-Row.ensures.1
-      (λ missing. no_row c.in-Some.ensures.read c.in-Row.is missing) c.in_err-name-in-Row.ensures.read;
-}
+returns-in_err-name-in-Row c = search (rules, line_refused, no_row)
 
 pub returns-in_ok-name-in-Row : goal.returns-in_ok-name-in-Row
-returns-in_ok-name-in-Row c =
-    record { read = is_row c.in-Some.ensures.read c.in-Row.is c.in_ok-name-in-Row.ensures.read }
+returns-in_ok-name-in-Row c = search (rules, is_row)
 
 pub returns-in-In : goal.returns-in-In
 returns-in-In c = record { read = no_within c.in-Some.ensures.read c.in-In.is }
