@@ -7,14 +7,12 @@ returns-in-None c = record { words = count_lacks c.args.line.now 4 c.in-None.ens
 
 pub returns-in-None-three_words : goal.returns-in-None-three_words
 returns-in-None-three_words c = record {
-  words = count_split c.args.line.now c.in-Some.split.front.now c.in-Some.split.back.now 3
-      c.in-Some.ensures.cut.0 c.in-Some.ensures.cut.1
-      c.in-None-three_words.ensures.words;
+  words = count_split c.args.line.now c.in-Some.split.front.now c.in-Some.split.back.now 3 c.in-Some.ensures.cut.0
+      c.in-Some.ensures.cut.1 c.in-None-three_words.ensures.words;
 }
 
 pub returns-in-Some-three_words : goal.returns-in-Some-three_words
 returns-in-Some-three_words c = record {
-  words = words_split c.args.line.now c.in-Some.split.front.now c.in-Some.split.back.now _
-      c.in-Some.ensures.cut.0 c.in-Some.ensures.cut.1
-      c.in-Some-three_words.ensures.words;
+  words = words_split c.args.line.now c.in-Some.split.front.now c.in-Some.split.back.now _ c.in-Some.ensures.cut.0
+      c.in-Some.ensures.cut.1 c.in-Some-three_words.ensures.words;
 }

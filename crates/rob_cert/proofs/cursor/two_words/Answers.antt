@@ -7,14 +7,12 @@ returns-in-None c = record { words = count_lacks c.args.line.now 2 c.in-None.ens
 
 pub returns-in-None-split_byte : goal.returns-in-None-split_byte
 returns-in-None-split_byte c = record {
-  words = words_split c.args.line.now c.in-Some.split.front.now c.in-Some.split.back.now _
-      c.in-Some.ensures.cut.0 c.in-Some.ensures.cut.1
-      (words_in-lacks c.in-Some.split.back.now c.in-None-split_byte.ensures.cut);
+  words = words_split c.args.line.now c.in-Some.split.front.now c.in-Some.split.back.now _ c.in-Some.ensures.cut.0
+      c.in-Some.ensures.cut.1 (words_in-lacks c.in-Some.split.back.now c.in-None-split_byte.ensures.cut);
 }
 
 pub returns-in-Some-split_byte : goal.returns-in-Some-split_byte
 returns-in-Some-split_byte c = record {
-  words = count_more c.args.line.now c.in-Some.split.front.now c.in-Some.split.back.now _ _
-      c.in-Some.ensures.cut.0 c.in-Some.ensures.cut.1
-      c.in-Some-split_byte.ensures.cut.0 c.in-Some-split_byte.ensures.cut.1;
+  words = count_more c.args.line.now c.in-Some.split.front.now c.in-Some.split.back.now _ _ c.in-Some.ensures.cut.0
+      c.in-Some.ensures.cut.1 c.in-Some-split_byte.ensures.cut.0 c.in-Some-split_byte.ensures.cut.1;
 }

@@ -14,7 +14,6 @@ returns-in-Err-clause-fault g c names =
 
 pub returns-in-Ok-clause-read : goal.returns-in-Ok-clause-read
 returns-in-Ok-clause-read g c names =
-    front_is names g.N.Exact.limit (status_of c.in-Some.claim.status) c.args.text.now c.in-Some.claim.rest.now
-    c.in-Ok.bounds.at.rest.now c.in-Ok.bounds.at.line
+    front_is names g.N.Exact.limit (status_of c.in-Some.claim.status) c.args.text.now c.in-Some.claim.rest.now _ _
     (g.N.Exact.value c.in-Ok.bounds.value) (g.N.Exact.value c.in-Ok.bounds.scale) c.in-Some.ensures.status
     (g.met.N.Exact.fits c.in-Ok.bounds.value) (g.met.N.Exact.fits c.in-Ok.bounds.scale) (c.in-Ok.ensures.read names)
