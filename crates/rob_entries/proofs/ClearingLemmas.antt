@@ -7,6 +7,7 @@ use Rattle.std.proofs.lemmas.Bool.{cases_eq}
 use Rattle.std.proofs.lemmas.List.{get_or-map, get_or_default, length-map}
 use lib.IntN.{ℤ, pos, ◌-ℤ◌, ◌*ℤ◌, nat_abs}
 use lib.Signed.{◌<ℤ◌}
+use Rattle.rob_algebra.specs.Gcd.{gcd}
 use Rattle.rob_algebra.specs.Integer.{mul_left_comm, mul-zero, *ℤ_comm}
 use Rattle.rob_algebra.specs.IntegerOrder.{mul_cancel_lt, mul_cancel_zero}
 use Rattle.rob_linear.specs.Vectors.{Vector, at}
@@ -18,7 +19,7 @@ use Rattle.rob_rows.proofs.Combinations.{combination-at, length-combination}
 use Rattle.rob_rows.proofs.Contents.{content_zero}
 use Rattle.rob_rows.proofs.Pivots.{pivot_row}
 use Rattle.rob_entries.specs.Entries.{ArePartsOf}
-use Rattle.rob_entries.specs.Updates.{IsNarrowBy, IsBounded, IsWideCleared}
+use Rattle.rob_entries.specs.Updates.{Clearing, CanApply, CanClearRow, IsNarrowBy, IsBounded, IsWideCleared}
 use Rattle.rob_entries.proofs.MappedRows.{number_read}
 
 -- rows with the same entries are cleared alike
@@ -49,7 +50,7 @@ part_multiple row whole part k l =
     ∙ ap (λ t. get_or t k (pos 0)) part.same_direction
 
 -- ---- the factors
-module _ (t e p q : ℤ) (m : ArePartsOf t e p q) where
+module _ {t e p q : ℤ} (m : ArePartsOf t e p q) where
   times_positive : pos 0 <ℤ pos m.times
   times_positive = let h : 0 < m.times = m.positive in omega (arith, ints)
 
@@ -84,18 +85,18 @@ module _ (t e p q : ℤ) (m : ArePartsOf t e p q) where
 module _ (width place : ℕ) (low top : List ℤ) (p q : ℤ) (wl : length low ≡ width) (wt : length top ≡ width)
     (inside : place < width) (positive : pos 0 <ℤ at top place)
     (m : ArePartsOf (at top place) (at low place) p q) where
-  pub cleared_by_factors : (new : List ℤ) → ((k : ℕ) → k < width → at new k ≡ (p *ℤ at low k) -ℤ (q *ℤ at top k))
+  cleared_by_factors : (new : List ℤ) → ((k : ℕ) → k < width → at new k ≡ (p *ℤ at low k) -ℤ (q *ℤ at top k))
       → IsClearedBy width place (at low) (at top) (at new)
   cleared_by_factors new h =
       factors_clear width place (at low) (at top) (at new) p q inside
-      (factor_positive (at top place) (at low place) p q m positive)
-      (factors_meet (at top place) (at low place) p q m) h
+      (factor_positive m positive)
+      (factors_meet m) h
 
   -- the entry goes
   zero_there : (d : ℤ) (new : Vector) → pos 0 <ℤ d
       → d *ℤ new place ≡ (p *ℤ at low place) -ℤ (q *ℤ at top place) → new place ≡ pos 0
   zero_there d new h e =
-      let meet : p *ℤ at low place ≡ q *ℤ at top place = factors_meet (at top place) (at low place) p q m in
+      let meet : p *ℤ at low place ≡ q *ℤ at top place = factors_meet m in
       mul_cancel_zero d (new place) h (omega (arith, ints))
 
   part_length : (new : List ℤ) → IsPrimitivePart new (combination p low q top) → length new ≡ width
@@ -111,7 +112,7 @@ module _ (width place : ℕ) (low top : List ℤ) (p q : ℤ) (wl : length low �
       ∙ ap (λ t. get_or t k (pos 0)) part.same_direction
       ∙ combination-at p low q top k (wl ∙ sym wt) (omega arith)
 
-  pub cleared_by_part : (new : List ℤ) → IsPrimitivePart new (combination p low q top)
+  cleared_by_part : (new : List ℤ) → IsPrimitivePart new (combination p low q top)
       → IsClearedBy width place (at low) (at top) (at new)
   cleared_by_part new part =
       let d : 0 < part.divisor = part.positive in
@@ -121,12 +122,12 @@ module _ (width place : ℕ) (low top : List ℤ) (p q : ℤ) (wl : length low �
         p = p;
         q = q;
         divides = dz;
-        positive = factor_positive (at top place) (at low place) p q m positive;
+        positive = factor_positive m positive;
         entries = part_entries new part;
         cleared = zero_there (pos part.divisor) (at new) dz (part_entries new part place inside);
       }
 
-  pub wide_by_part : (limit : ℕ) → HasWidePart limit (combination p low q top)
+  wide_by_part : (limit : ℕ) → HasWidePart limit (combination p low q top)
       → IsWideCleared limit width place (at low) (at top)
   wide_by_part limit w =
       let part : IsPrimitivePart w.0 (combination p low q top) = w.1 in
@@ -148,7 +149,7 @@ module _ (width place : ℕ) (low top : List ℤ) (p q : ℤ) (wl : length low �
       (at w.0, cleared_by_part w.0 part, subst (λ n. IsPrimitive n (at w.0)) wl c.primitive, (x.0, il, wide))
 
 -- ---- bounds
-pub narrow_by_bounds : (width : ℕ) (row top : List ℤ) (p q : ℤ) (bound other limit sum most : ℕ) → IsWithin bound row
+narrow_by_bounds : (width : ℕ) (row top : List ℤ) (p q : ℤ) (bound other limit sum most : ℕ) → IsWithin bound row
     → IsWithin other top → length row ≡ width → length top ≡ width
     → sum ≡ nat_abs p * bound + nat_abs q * other → sum ≤ limit → limit ≤ most
     → IsNarrowBy most width p q (at row) (at top)
@@ -159,7 +160,7 @@ narrow_by_bounds width row top p q bound other limit sum most h k wr wt e l high
     mul-le-mul (omega arith) (k j (pos 0) (omega arith)) in
     omega arith
 
-pub bounded_by_sum : (width : ℕ) (row top new : List ℤ) (p q : ℤ) (bound other limit sum : ℕ) → IsWithin bound row
+bounded_by_sum : (width : ℕ) (row top new : List ℤ) (p q : ℤ) (bound other limit sum : ℕ) → IsWithin bound row
     → IsWithin other top → length row ≡ width → length top ≡ width → length new ≡ width
     → sum ≡ nat_abs p * bound + nat_abs q * other → sum ≤ limit
     → ((k : ℕ) → k < width → at new k ≡ (p *ℤ at row k) -ℤ (q *ℤ at top k)) → IsBounded limit new sum
@@ -213,18 +214,82 @@ content_one row k l some low = elim (cases_eq (content row) 0) [
   | inr n ↦ omega arith
 ]
 
+-- ---- a row that another one can clear, by the factors of their entries at the place
+module _ {top limit : ℕ} {row : List ℤ} {by : Clearing} {bound place width start marks : ℕ}
+    (a : CanClearRow top limit row by bound place width start marks) (within : IsWithin by.bound by.entries)
+    (n : length row ≡ width) {p q : ℤ} (m : ArePartsOf (at by.entries place) (at row place) p q) where
+  pub first_in : nat_abs p ≤ top
+  first_in =
+      first_low m top
+      (entry_low by.entries place by.bound limit top (omega (arith, a.same_width, a.place_in)) within a.self_low
+      a.limit_low)
+
+  pub second_in : nat_abs q ≤ top
+  second_in =
+      second_low m top
+      (entry_low row place bound limit top (omega (arith, n, a.place_in)) a.bounded.within a.bounded.low a.limit_low)
+
+  -- in lowest terms
+  pub can_apply : gcd (nat_abs p) (nat_abs q) ≤ 1 → CanApply top limit p q row by.entries width start marks
+  can_apply lowest = record {
+    same_width = a.same_width;
+    marks_in = a.marks_in;
+    limit_low = a.limit_low;
+    positive = factor_positive m a.positive;
+    factors = (first_in, second_in);
+    lowest = lowest;
+    within = (
+      within_up row bound limit a.bounded.within a.bounded.low,
+      within_up by.entries by.bound limit within a.self_low,
+    );
+    some = (place, a.place_in, λ z. absurd (let h = a.positive in omega (arith, ints)));
+    own = a.own;
+  }
+
+  pub cleared_in_lowest : (new : List ℤ) → IsPrimitivePart new (combination p row q by.entries)
+      → IsClearedBy width place (at row) (at by.entries) (at new)
+  cleared_in_lowest = cleared_by_part width place row by.entries p q n (sym a.same_width) a.place_in a.positive m
+
+  pub wide_in_lowest : HasWidePart limit (combination p row q by.entries)
+      → IsWideCleared limit width place (at row) (at by.entries)
+  wide_in_lowest = wide_by_part width place row by.entries p q n (sym a.same_width) a.place_in a.positive m limit
+
+  -- as it comes out, where the bounds say that it is narrow
+  pub cleared_as_is : (new : List ℤ)
+      → ((k : ℕ) → k < width → at new k ≡ (p *ℤ at row k) -ℤ (q *ℤ at by.entries k))
+      → IsClearedBy width place (at row) (at by.entries) (at new)
+  cleared_as_is = cleared_by_factors width place row by.entries p q n (sym a.same_width) a.place_in a.positive m
+
+  module _ {sum other : ℕ} (other_is : other ≡ by.bound) (sum_is : sum ≡ nat_abs p * bound + nat_abs q * other)
+      (low : sum ≤ limit) where
+    bound_is : sum ≡ nat_abs p * bound + nat_abs q * by.bound
+    bound_is = sum_is ∙ ap (λ b. nat_abs p * bound + nat_abs q * b) other_is
+
+    pub narrow_as_is : IsNarrowBy top width p q (at row) (at by.entries)
+    narrow_as_is =
+        narrow_by_bounds width row by.entries p q bound by.bound limit sum top a.bounded.within within n
+        (sym a.same_width) bound_is low a.limit_low
+
+    pub bounded_as_is : (new : List ℤ) → length new ≡ width
+        → ((k : ℕ) → k < width → at new k ≡ (p *ℤ at row k) -ℤ (q *ℤ at by.entries k)) → IsBounded limit new sum
+    bounded_as_is new size entries =
+        bounded_by_sum width row by.entries new p q bound by.bound limit sum a.bounded.within within n
+        (sym a.same_width) size bound_is low entries
+
 -- ---- what the code reads
 -- the factors of the two entries at the place
-pub parts_read : {X : Type 0} (value : X → ℤ) (entries row : List X) (top : List ℤ) (place : ℕ) (x y : X) (p q : ℤ)
-    → map value entries ≡ top → place < length entries → place < length row
+pub parts_read : {X : Type 0} (value : X → ℤ) (entries row : List X) {top : List ℤ} (place : ℕ) {x y : X} {p q : ℤ}
+    → map value entries ≡ top → length row ≡ length top → place < length row
     → x ≡ get_or entries place x → y ≡ get_or row place y → ArePartsOf (value x) (value y) p q
     → ArePartsOf (at top place) (at (map value row) place) p q
-parts_read value entries row top place x y p q same xl yl ex ey m = record {
-  times = m.times;
-  positive = m.positive;
-  p_is = sym (number_read value entries place x xl ex ∙ ap (λ (t : List ℤ). at t place) same) ∙ m.p_is;
-  q_is = sym (number_read value row place y yl ey) ∙ m.q_is;
-}
+parts_read value entries row place {x = x} {y = y} same width inside ex ey m =
+    let xl : place < length entries = omega (arith, length-map entries value, ap length same) in
+    record {
+      times = m.times;
+      positive = m.positive;
+      p_is = sym (number_read value entries place x xl ex ∙ ap (λ (t : List ℤ). at t place) same) ∙ m.p_is;
+      q_is = sym (number_read value row place y inside ey) ∙ m.q_is;
+    }
 
 pub read_low : {X : Type 0} (value : X → ℤ) (row : List X) (place : ℕ) (y : X) (bound limit most : ℕ)
     → place < length row → y ≡ get_or row place y → IsWithin bound (map value row) → bound ≤ limit → limit ≤ most

@@ -4,6 +4,7 @@ use Rattle.std.specs.Prelude.{IfOk, IsTrue, IsFalse}
 use Rattle.std.proofs.lemmas.Bool.{cases_eq, cases_lt}
 use Rattle.std.proofs.lemmas.List.{length-set, get_or-set_same, get_or-set_other, map-set, get_or_default, length-map}
 use Rattle.std.proofs.lemmas.Int.{ints}
+use Rattle.std.proofs.lemmas.Result.{on_err_weaker}
 use lib.IntN.{ℤ, pos, ◌*ℤ◌, ◌-ℤ◌}
 use lib.Signed.{◌<ℤ◌}
 use Rattle.rob_algebra.specs.Integer.{mul-zero}
@@ -13,8 +14,9 @@ use Rattle.rob_linear.specs.Multiples.{IsClearedBy}
 use Rattle.rob_linear.proofs.Square.{cases_zero}
 use Rattle.rob_entries.specs.Maps.{IsMapped, AreMarked}
 use Rattle.rob_entries.specs.Updates.{AreListed}
+use Rattle.rob_entries.proofs.ClearingLemmas.{if_ok_more}
 use Rattle.rob_entries.proofs.MappedRows.{number_read}
-use Rattle.rob_entries.proofs.WrittenRows.{part, stored, row_at, stored_here, stored_other, stored_length}
+use Rattle.rob_entries.proofs.WrittenRows.{IsLent, part, stored, row_length, row_at, stored_here, stored_other, stored_length}
 
 -- the negation of a test
 pub negated_test : {X : Type 0} (test : Bool) → (IsTrue test ↔ X) → (IsFalse (not test) ↔ X)
@@ -118,21 +120,21 @@ all_marked start width places row other before after listed h j off = elim (h j 
 ]
 
 -- ---- a row that is written back
-module _ {X : Type 0} (f : X → ℤ) (cells : List ℤ) (items now : List X) (len : ℕ) (is : map f items ≡ cells)
-    (lent : now ≡ items) (sized : len ≡ length items) (a w : ℕ) (inside : a + w ≤ length cells)
-    (s : List X) (kept : length s ≡ length (part now a w)) (marks next : List Bool) (h : IsMapped cells marks) where
+module _ {X : Type 0} {f : X → ℤ} {cells : List ℤ} {items now : List X} {len a w : ℕ}
+    (r : IsLent f cells items now len a w) (s : List X) (kept : length s ≡ length (part now a w)) {marks : List Bool}
+    (next : List Bool) (h : IsMapped cells marks) where
   -- what was 0 stays 0 where the other row is 0
   marked_back : (other : Vector) → length next ≡ length marks → AreMarked a w (at (map f s)) other marks next
       → ((k : ℕ) → k < w → at cells (a + k) ≡ pos 0 → other k ≡ pos 0 → at (map f s) k ≡ pos 0)
-      → IsMapped (map f (stored f cells items now len is lent sized a w inside s kept)) next
+      → IsMapped (map f (stored r s kept)) next
   marked_back other size marked zero =
-      let n : length (map f (stored f cells items now len is lent sized a w inside s kept)) ≡ length cells =
-      stored_length f cells items now len is lent sized a w inside s kept in
+      let n : length (map f (stored r s kept)) ≡ length cells =
+      stored_length r s kept in
       record {
         size = size ∙ h.size ∙ sym n;
         zeros = λ j l off. elim (marked j off) [
-          | inl z ↦ ap (at (map f (stored f cells items now len is lent sized a w inside s kept))) z.2
-              ∙ stored_here f cells items now len is lent sized a w inside s kept z.0 z.1 ∙ z.3
+          | inl z ↦ ap (at (map f (stored r s kept))) z.2
+              ∙ stored_here r s kept z.0 z.1 ∙ z.3
           | inr z ↦ elim (cases_lt j a) [
             | inl b ↦ outside j (inl b) (omega arith) z.0
             | inr b ↦ elim (cases_lt j (a + w)) [
@@ -144,35 +146,35 @@ module _ {X : Type 0} (f : X → ℤ) (cells : List ℤ) (items now : List X) (l
       }
     where
       outside : (j : ℕ) → ((j < a) ⊎ (a + w ≤ j)) → j < length cells → get_or marks j true ≡ false
-          → at (map f (stored f cells items now len is lent sized a w inside s kept)) j ≡ pos 0
-      outside j o l off = stored_other f cells items now len is lent sized a w inside s kept j o ∙ h.zeros j l off
+          → at (map f (stored r s kept)) j ≡ pos 0
+      outside j o l off = stored_other r s kept j o ∙ h.zeros j l off
 
       within : (j : ℕ) → a ≤ j → j < a + w → j < length cells → get_or marks j true ≡ false → other (j - a) ≡ pos 0
-          → at (map f (stored f cells items now len is lent sized a w inside s kept)) j ≡ pos 0
+          → at (map f (stored r s kept)) j ≡ pos 0
       within j b c l off z =
           let e : a + (j - a) ≡ j = omega arith in
-          subst (λ t. at (map f (stored f cells items now len is lent sized a w inside s kept)) t ≡ pos 0) e
-          (stored_here f cells items now len is lent sized a w inside s kept (j - a) (omega arith)
+          subst (λ t. at (map f (stored r s kept)) t ≡ pos 0) e
+          (stored_here r s kept (j - a) (omega arith)
           ∙ zero (j - a) (omega arith) (ap (at cells) e ∙ h.zeros j l off) z)
 
   -- where no mark changes
   pub mapped_back : next ≡ marks → ((k : ℕ) → k < w → at cells (a + k) ≡ pos 0 → at (map f s) k ≡ pos 0)
-      → IsMapped (map f (stored f cells items now len is lent sized a w inside s kept)) next
+      → IsMapped (map f (stored r s kept)) next
   mapped_back same zero =
       marked_back (λ k. pos 0) (ap length same)
       (λ j off. inr (subst (λ (t : List Bool). get_or t j true ≡ false) same off, λ k l e. refl))
       (λ k l z o. zero k l z)
 
   -- where the row is cleared, or all stays
-  pub cleared_back : {T E : Type 0} (r : Result T E) (other : Vector) → length next ≡ length marks
-      → IfOk r (λ x. AreMarked a w (at (map f s)) other marks next) → OnErr r (next ≡ marks)
-      → OnErr r (s ≡ part now a w)
+  cleared_back : {T E : Type 0} (done : Result T E) (other : Vector) → length next ≡ length marks
+      → IfOk done (λ x. AreMarked a w (at (map f s)) other marks next) → OnErr done (next ≡ marks)
+      → OnErr done (s ≡ part now a w)
       → ((k : ℕ) → k < w → at cells (a + k) ≡ pos 0 → other k ≡ pos 0 → at (map f s) k ≡ pos 0)
-      → IsMapped (map f (stored f cells items now len is lent sized a w inside s kept)) next
+      → IsMapped (map f (stored r s kept)) next
   cleared_back (Ok x) other size marked same unchanged zero = marked_back other size marked zero
   cleared_back (Err x) other size marked same unchanged zero =
       mapped_back same (λ k l z. ap (λ (t : List ℤ). at t k) (ap (map f) unchanged)
-      ∙ row_at f cells items now len is lent sized a w inside k l ∙ z)
+      ∙ row_at r k l ∙ z)
 
 -- ---- what stays 0
 -- a row with 0 in a place, and a multiple of it
@@ -189,3 +191,23 @@ cleared_zero (Ok x) width place low top new X c o same k l lz tz =
     let e : c.divisor *ℤ new k ≡ (c.p *ℤ low k) -ℤ (c.q *ℤ top k) = c.entries k l in
     mul_cancel_zero c.divisor (new k) c.divides (omega (arith, ints))
 cleared_zero (Err x) width place low top new X c o same k l lz tz = same o k l ∙ lz
+
+-- ---- a row that another one has cleared, with the marks of its places
+module _ {X : Type 0} {f : X → ℤ} {cells : List ℤ} {items now : List X} {len a w : ℕ}
+    (r : IsLent f cells items now len a w) (s : List X) (kept : length s ≡ length (part now a w))
+    {marks lent next : List Bool} (h : IsMapped cells marks) (lent_is : lent ≡ marks) where
+  pub cleared_mapped : {T E : Type 0} (done : Result T E) (place : ℕ) (top : Vector) → length next ≡ length lent
+      → IfOk done (λ x. AreMarked a (length (part now a w)) (at (map f s)) top lent next)
+      → IfOk done (λ x. IsClearedBy (length (part now a w)) place (at (map f (part now a w))) top (at (map f s)))
+      → OnErr done (next ≡ lent) → OnErr done (s ≡ part now a w) → IsMapped (map f (stored r s kept)) next
+  cleared_mapped done place top size marked cleared same unchanged =
+      let n : length (part now a w) ≡ w = row_length r in
+      cleared_back r s kept next h done top (size ∙ ap length lent_is)
+      (if_ok_more done (λ x. AreMarked a (length (part now a w)) (at (map f s)) top lent next)
+      (λ x. AreMarked a w (at (map f s)) top marks next)
+      (λ x m. subst (λ (t : List Bool). AreMarked a w (at (map f s)) top t next) lent_is
+      (subst (λ k. AreMarked a k (at (map f s)) top lent next) n m)) marked)
+      (on_err_weaker done (λ e. e ∙ lent_is) same) unchanged
+      (λ k l z tz. cleared_zero done (length (part now a w)) place (at (map f (part now a w))) top (at (map f s))
+      (s ≡ part now a w) cleared unchanged (λ e j jl. ap (λ (t : List X). at (map f t) j) e) k (omega (arith, n))
+      (row_at r k l ∙ z) tz)

@@ -17,6 +17,17 @@ pub written_back : {X : Type 0} (new items : List X) (len : ℕ) → length new 
 written_back new items len e =
     ap (λ t. take t (new ++ drop (length new) items)) (sym e) ∙ take_all new (drop (length new) items)
 
+-- ---- a list that was lent, and is written back whole
+pub back_whole : {X : Type 0} {len : ℕ} {new items lent : List X} → len ≡ length items → lent ≡ items
+    → length new ≡ length lent → take len (new ++ drop (length new) items) ≡ new
+back_whole {len = len} {new = new} {items = items} ok value kept =
+    written_back new items len (kept ∙ ap length value ∙ sym ok)
+
+-- its length, where it was made with so many items
+pub lent_length : {X : Type 0} {len n : ℕ} {items lent : List X} → len ≡ length items → lent ≡ items → len ≡ n
+    → length lent ≡ n
+lent_length ok value made = ap length value ∙ sym ok ∙ made
+
 -- ---- a part of a list
 abbrev pub part : {X : Type 0} → List X → ℕ → ℕ → List X
 part items a w = take (a + w - a) (drop a items)
@@ -59,10 +70,21 @@ put_length : (row s : List ℤ) (a w : ℕ) → a + w ≤ length row → length 
 put_length row s a w h e = search (rules, places)
 
 -- ---- a row of the cells
-module _ {X : Type 0} (f : X → ℤ) (cells : List ℤ) (items now : List X) (len : ℕ) (is : map f items ≡ cells)
-    (lent : now ≡ items) (sized : len ≡ length items) (a w : ℕ) (inside : a + w ≤ length cells) where
+-- w of them from place a on, in a vector whose items were lent
+pub record IsLent {X : Type 0} (f : X → ℤ) (cells : List ℤ) (items now : List X) (len a w : ℕ) : Type 0 where
+  pub view : map f items ≡ cells
+  pub lent : now ≡ items
+  pub sized : len ≡ length items
+  pub inside : a + w ≤ length cells
+
+pub lent_row : {X : Type 0} (f : X → ℤ) {cells : List ℤ} {items now : List X} {len : ℕ} → map f items ≡ cells
+    → now ≡ items → len ≡ length items → (a w : ℕ) → a + w ≤ length cells → IsLent f cells items now len a w
+lent_row f view lent sized a w inside = record { view = view; lent = lent; sized = sized; inside = inside }
+
+module _ {X : Type 0} {f : X → ℤ} {cells : List ℤ} {items now : List X} {len a w : ℕ}
+    (r : IsLent f cells items now len a w) where
   numbers : map f now ≡ cells
-  numbers = ap (map f) lent ∙ is
+  numbers = ap (map f) r.lent ∙ r.view
 
   fits : a + w ≤ length now
   fits = let n : length cells ≡ length now = sym (ap length numbers) ∙ length-map now f in omega arith
@@ -110,23 +132,23 @@ module _ {X : Type 0} (f : X → ℤ) (cells : List ℤ) (items now : List X) (l
     pub stored_numbers : map f stored ≡ put cells a w (map f s)
     stored_numbers =
         ap (map f) (written_back (put now a w s) items len
-        (same_len_mid a (a + w - a) now s kept ∙ ap length lent ∙ sym sized)) ∙ put_numbers f now a w s
+        (same_len_mid a (a + w - a) now s kept ∙ ap length r.lent ∙ sym r.sized)) ∙ put_numbers f now a w s
         ∙ ap (λ (t : List ℤ). put t a w (map f s)) numbers
 
     pub stored_here : (k : ℕ) → k < w → at (map f stored) (a + k) ≡ at (map f s) k
     stored_here k l =
-        ap (λ (t : List ℤ). at t (a + k)) stored_numbers ∙ put_here cells (map f s) a w k inside new_length l
+        ap (λ (t : List ℤ). at t (a + k)) stored_numbers ∙ put_here cells (map f s) a w k r.inside new_length l
 
     pub stored_other : (k : ℕ) → (k < a) ⊎ (a + w ≤ k) → at (map f stored) k ≡ at cells k
     stored_other k c =
         ap (λ (t : List ℤ). at t k) stored_numbers
         ∙ elim c [
-          | inl b ↦ put_before cells (map f s) a w k inside new_length b
-          | inr b ↦ put_behind cells (map f s) a w k inside new_length b
+          | inl b ↦ put_before cells (map f s) a w k r.inside new_length b
+          | inr b ↦ put_behind cells (map f s) a w k r.inside new_length b
         ]
 
     pub stored_length : length (map f stored) ≡ length cells
-    stored_length = ap length stored_numbers ∙ put_length cells (map f s) a w inside new_length
+    stored_length = ap length stored_numbers ∙ put_length cells (map f s) a w r.inside new_length
 
     -- where the row is as it was, so are the cells
     pub stored_same : s ≡ part now a w → map f stored ≡ cells

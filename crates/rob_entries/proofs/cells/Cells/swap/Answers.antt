@@ -1,4 +1,4 @@
-use Rattle.std.proofs.Common.{◌≡◌, ◌<◌, ◌∙◌, ap, sym, subst, List, length, set}
+use Rattle.std.proofs.Common.{◌<◌, ◌∙◌, ap, sym, subst, List, length, set}
 use Rattle.std.proofs.lemmas.List.{length-map}
 use lib.IntN.{ℤ}
 use Rattle.rob_linear.specs.Vectors.{at}
