@@ -77,15 +77,24 @@ module _ (d : RobustProgram) (s : Solver) where
       (subst (λ a. OneIsZero a (weight_of (reform d) en.0 (positive_row d i c))) (sym high) one)
 
 -- ---- numbers in a list
-module _ {N : Type 0} (value : N → Fraction) (numbers : List N) (n : ℕ) (f : ℕ → Fraction)
-    (h : map value numbers ≡ tabulate n f) where
+-- they are the first n values of a function
+pub record AreTold {N : Type 0} (value : N → Fraction) (numbers : List N) (n : ℕ) (f : ℕ → Fraction) : Type 0 where
+  pub numbers_are : map value numbers ≡ tabulate n f
+
+-- as the list that was told has them
+pub are_told : {N : Type 0} (value : N → Fraction) {numbers list : List N} {n : ℕ} {f : ℕ → Fraction} → numbers ≡ list
+    → map value list ≡ tabulate n f → AreTold value numbers n f
+are_told value same told = record { numbers_are = ap (map value) same ∙ told }
+
+module _ {N : Type 0} {value : N → Fraction} {numbers : List N} {n : ℕ} {f : ℕ → Fraction}
+    (r : AreTold value numbers n f) where
   pub count_told : length numbers ≡ n
-  count_told = sym (length-map numbers value) ∙ ap length h ∙ length-tabulate n f
+  count_told = sym (length-map numbers value) ∙ ap length r.numbers_are ∙ length-tabulate n f
 
   one_at : (a b : ℕ) → a < n → b < n → OneIsZero (f a) (f b) → OneIsZero (told value numbers a) (told value numbers b)
   one_at a b al bl one =
-      subst (λ y. OneIsZero (told value numbers a) y) (sym (told_at value numbers n f h b bl))
-      (subst (λ x. OneIsZero x (f b)) (sym (told_at value numbers n f h a al)) one)
+      subst (λ y. OneIsZero (told value numbers a) y) (sym (told_at value numbers n f r.numbers_are b bl))
+      (subst (λ x. OneIsZero x (f b)) (sym (told_at value numbers n f r.numbers_are a al)) one)
 
   pub pair_told : (j : ℕ) → suc (j + j) < n → OneIsZero (f (plus j)) (f (minus j))
       → OneIsZero (told value numbers (plus j)) (told value numbers (minus j))
@@ -105,22 +114,22 @@ module _ {N : Type 0} (value : N → Fraction) (numbers : List N) (n : ℕ) (f :
       (subst (λ k. positive_row d i c < k) (sym e) low) (one i c il cl)
 
   pub difference_read : (j : ℕ) → suc (j + j) < n → difference (told value numbers) j ≡ difference f j
-  difference_read j l = ap₂ (λ a b. a -ℚ b) (told_at value numbers n f h (plus j) (omega arith))
-      (told_at value numbers n f h (minus j) l)
+  difference_read j l = ap₂ (λ a b. a -ℚ b) (told_at value numbers n f r.numbers_are (plus j) (omega arith))
+      (told_at value numbers n f r.numbers_are (minus j) l)
 
   pub differences_read : (count : ℕ) → count + count ≤ n → differences count (told value numbers) ≡ differences count f
   differences_read count l = differences_same count (told value numbers) f
-      (λ k kl. told_at value numbers n f h k (omega arith))
+      (λ k kl. told_at value numbers n f r.numbers_are k (omega arith))
 
   pub covers_read : (d : RobustProgram) → n ≡ pairs d + (d.forms * d.set_rows)
       → covers_to d d.forms (told value numbers) ≡ covers_to d d.forms f
   covers_read d e = covers_same d (told value numbers) f d.forms (omega arith)
-      (λ k kl. told_at value numbers n f h k (subst (λ t. k < t) (sym e) kl))
+      (λ k kl. told_at value numbers n f r.numbers_are k (subst (λ t. k < t) (sym e) kl))
 
   pub items_read : (d : RobustProgram) → n ≡ d.forms * block d → d.parameters ≤ d.set_columns
       → items_to d d.forms (told value numbers) ≡ items_to d d.forms f
   items_read d e pl = items_same d (told value numbers) f d.forms (omega arith) pl
-      (λ k kl. told_at value numbers n f h k (subst (λ t. k < t) (sym e) kl))
+      (λ k kl. told_at value numbers n f r.numbers_are k (subst (λ t. k < t) (sym e) kl))
 
 -- ---- certificates part by part
 abbrev pub parts : Status → Fraction → Fraction → List Fraction → List Fraction → List Fraction → Fraction
@@ -138,11 +147,12 @@ parts status value scale inside plan step bound covers holds items = record {
   items = items;
 }
 
-pub parts_same : (status : Status) (v v' s s' : Fraction) (u p p' t t' : List Fraction) (b b' : Fraction)
-    (cs cs' hs hs' : List Cover) (xs xs' : List Item)
+pub parts_same : (status : Status) {v v' s s' : Fraction} {u p p' t t' : List Fraction} {b b' : Fraction}
+    {cs cs' hs hs' : List Cover} {xs xs' : List Item}
     → v ≡ v' → s ≡ s' → p ≡ p' → t ≡ t' → b ≡ b' → cs ≡ cs' → hs ≡ hs' → xs ≡ xs'
     → parts status v s u p t b cs hs xs ≡ parts status v' s' u p' t' b' cs' hs' xs'
-parts_same status v v' s s' u p p' t t' b b' cs cs' hs hs' xs xs' ev es ep et eb ec eh ei =
+parts_same status {v' = v'} {s' = s'} {u = u} {p = p} {p' = p'} {t = t} {t' = t'} {b = b} {b' = b'} {cs = cs}
+    {cs' = cs'} {hs = hs} {hs' = hs'} {xs = xs} ev es ep et eb ec eh ei =
     ap₂ (λ x y. parts status x y u p t b cs hs xs) ev es
     ∙ ap₂ (λ x y. parts status v' s' u x y b cs hs xs) ep et
     ∙ ap₂ (λ x y. parts status v' s' u p' t' x y hs xs) eb ec

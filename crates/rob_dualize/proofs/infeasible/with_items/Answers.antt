@@ -8,7 +8,7 @@ pub returns : goal.returns
 returns g c =
     let value = g.N.Exact.value in
     record {
-      certificate = parts_same infeasible _ _ _ _ _ _ _ _ _ _ _ _ _ _ _ _ _
+      certificate = parts_same infeasible
           c.whole.ensures.value
           c.whole-2.ensures.value
           (ap (map value) c.new.ensures.empty)
