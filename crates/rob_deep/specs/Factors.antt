@@ -23,3 +23,14 @@ pub record CanCombine (limit width : ℕ) (factors : Factors) (top low : List �
   pub low_within : IsWithin limit low
   pub primitive : content low ≡ 1
   pub own_in : IsOwn own top low
+
+-- the entries of p times `top` less q times `low`, rows of so many within the limit, can be formed one by one: neither
+-- the limit nor the factors have more than 126 bits
+pub record CanFill (limit width : ℕ) (factors : Factors) (top low : List ℤ) : Type 0 where
+  pub limit_low : limit < 2 ^ 126
+  pub p_size : nat_abs factors.p < 2 ^ 126
+  pub q_size : nat_abs factors.q < 2 ^ 126
+  pub top_length : length top ≡ width
+  pub low_length : length low ≡ width
+  pub top_within : IsWithin limit top
+  pub low_within : IsWithin limit low
