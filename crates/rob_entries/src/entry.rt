@@ -5,7 +5,7 @@ ghost use Rattle.std.specs.Ordering.{MatchOrdering, int_cmp};
 ghost use Rattle.rob_algebra.specs.Gcd.{gcd};
 ghost use Rattle.rob_linear.specs.Vectors.{at};
 ghost use Rattle.rob_rows.specs.PrimitiveParts.{combination, content, IsPrimitivePart, IsWithin, HasWidePart};
-ghost use Rattle.rob_entries.specs.Entries.{ArePartsOf};
+ghost use Rattle.rob_entries.specs.Entries.{AreFactors, ArePartsOf};
 
 use rob_number::Wide;
 use std::cmp::Ordering;
@@ -109,10 +109,7 @@ pub trait Entry: Copy + Drop {
         low: &[Self],
         limit: u128,
     ) -> Result<(), Wide>
-        requires limit { limit ≤ top }
-        requires pivot { value p ≢ pos 0 }
-        requires factors { (nat_abs (value p) ≤ top) × (nat_abs (value q) ≤ top) }
-        requires lowest { gcd (nat_abs (value p)) (nat_abs (value q)) ≤ 1 }
+        requires factors { AreFactors top limit (value p) (value q) }
         requires lengths { (length upper.now ≡ length out.old) × (length low.now ≡ length out.old) }
         requires within { IsWithin limit (map value upper.now)
             × IsWithin limit (map value low.now) }

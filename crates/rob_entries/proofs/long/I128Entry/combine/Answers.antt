@@ -17,9 +17,9 @@ combine_deep-requires c =
     let ep : read c.args.p ≡ c.args.p = seen c.args.p c.ranges.p in
     let eq : read c.args.q ≡ c.args.q = seen c.args.q c.ranges.q in
     let high : 2 ^ 126 - 1 < 2 ^ 126 = long_high in
-    let limit_in : c.args.limit ≤ 2 ^ 126 - 1 = c.requires.limit in
-    let p_in : nat_abs c.args.p ≤ 2 ^ 126 - 1 = c.requires.factors.0 in
-    let q_in : nat_abs c.args.q ≤ 2 ^ 126 - 1 = c.requires.factors.1 in
+    let limit_in : c.args.limit ≤ 2 ^ 126 - 1 = c.requires.factors.limit_low in
+    let p_in : nat_abs c.args.p ≤ 2 ^ 126 - 1 = c.requires.factors.sizes.0 in
+    let q_in : nat_abs c.args.q ≤ 2 ^ 126 - 1 = c.requires.factors.sizes.1 in
     let some : 0 < length c.args.out.now = c.requires.own.0 in
     let wide : length c.args.upper.now ≡ length c.args.out.now = c.requires.lengths.0 in
     record {
@@ -28,11 +28,11 @@ combine_deep-requires c =
         lowest = record {
           lowest =
               subst (λ t. gcd (nat_abs t) (nat_abs (read q)) ≤ 1) (sym ep)
-              (subst (λ t. gcd (nat_abs p) (nat_abs t) ≤ 1) (sym eq) c.requires.lowest);
+              (subst (λ t. gcd (nat_abs p) (nat_abs t) ≤ 1) (sym eq) c.requires.factors.lowest);
           p_size = subst (λ t. nat_abs t < 2 ^ 126) (sym ep) (omega arith);
           q_size = subst (λ t. nat_abs t < 2 ^ 126) (sym eq) (omega arith);
         };
-        pivot = subst (λ t. t ≢ pos 0) (sym ep) c.requires.pivot;
+        pivot = subst (λ t. t ≢ pos 0) (sym ep) c.requires.factors.pivot;
         top_length = wide;
         low_length = c.requires.lengths.1;
         top_within = subst (IsWithin c.args.limit) (map-id c.args.upper.now) c.requires.within.0;
