@@ -12,6 +12,7 @@ use rob_case::Trouble;
 use rob_case::numbers::{put_all, shown, small};
 use rob_case::text::{keyword, said};
 use rob_cert::{Stop, Worst};
+use rob_dualize::Elaborated;
 use rob_elab::{Forms, elaborate};
 use rob_model::copy::copy_list;
 use rob_model::{Model, Plan};
@@ -268,7 +269,9 @@ fn next_at_plan<N: Exact>(
     {
         return Err(Trouble::Line);
     }
-    let found = finder.at_plan(alloc, forms, &whole.set, form, plan, ledger);
+    let set = &whole.set;
+    let model = Elaborated { forms, set };
+    let found = finder.at_plan(alloc, model, form, plan, ledger);
     told(alloc, &found)
 }
 
@@ -289,7 +292,9 @@ fn next_at_step<N: Exact>(
     if form as usize >= forms.matrices.items().len() || step.len() != forms.columns as usize + 1 {
         return Err(Trouble::Line);
     }
-    let found = finder.at_step(alloc, forms, &whole.set, form, step, &mut Tally::new());
+    let set = &whole.set;
+    let model = Elaborated { forms, set };
+    let found = finder.at_step(alloc, model, form, step, &mut Tally::new());
     told(alloc, &found)
 }
 

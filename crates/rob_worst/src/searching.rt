@@ -7,12 +7,12 @@ ghost use Rattle.rob_meaning.specs.RobustModel.{RobustModel};
 ghost use Rattle.rob_number.specs.Counts.{CountsOnly, NeverFell};
 ghost use Rattle.rob_sets.specs.SetForm.{IsSetForm};
 ghost use Rattle.rob_simplex.specs.Solvers.{positions};
-ghost use Rattle.rob_dualize.specs.SetSolving.{program_of_set, IsFewSet, IsSetOfModel, IsSolved};
+ghost use Rattle.rob_dualize.specs.SetSolving.{program_of_set, IsFewSet, IsSetOfModel};
 ghost use Rattle.rob_dualize.specs.Solving.{CountsStop};
 ghost use Rattle.rob_solver.specs.Depths.{deep_limit};
-ghost use Rattle.rob_worst.specs.Finders.{HasStoppedSearch, TellsTask};
+ghost use Rattle.rob_worst.specs.Finders.{CanGoOn, HasStoppedSearch, TellsTask};
 ghost use Rattle.rob_worst.specs.Finding.{HasConstantWithin, HasSearchCause, Searches};
-ghost use Rattle.rob_worst.specs.Tasks.{FitsSet, IsTaskOf};
+ghost use Rattle.rob_worst.specs.Tasks.{IsTaskOf};
 
 use crate::reading::told;
 use crate::refusal::program;
@@ -25,6 +25,15 @@ use rob_simplex::LpStop;
 use rob_solver::Solver;
 use std::alloc::Global;
 
+/// A search that its rows stopped.
+#[derive(Clone, Copy)]
+pub struct Stopped<'a, N: Exact> {
+    /// Stands where they did.
+    pub solver: &'a Solver<N>,
+    /// The row, or the stage of the objective, that they refuse.
+    pub stop: LpStop,
+}
+
 /// Goes on with the task's cost from the last basis of the set's program, where the solver stands, and tells what is
 /// found there; or the rows stop it. A stop is not counted.
 pub fn go_on<N: Exact, L: Ledger>(
@@ -34,9 +43,7 @@ pub fn go_on<N: Exact, L: Ledger>(
     solver: &mut Solver<N>,
     ledger: &mut L,
 ) -> Result<Result<Worst<N>, LpStop>, Memory>
-    requires few { IsFewSet set.now }
-    requires task { FitsSet N.limit set.now.columns task.now }
-    requires solved { IsSolved (program_of_set set.now) solver.old }
+    requires ready { CanGoOn N.limit set.now task.now solver.old }
     ensures found { IfOk result (λ answer. MatchResult answer (TellsTask N.value set.now task.now)
         (λ stop. HasStoppedSearch N.limit (program_of_set set.now) task.now.cost stop solver.new)) }
     ensures within { IfOk result (λ answer. IfOk answer (HasConstantWithin N.limit)) }
@@ -58,18 +65,15 @@ pub fn go_deeper<N: Exact, L: Ledger>(
     set: &SetForm,
     task: &Task,
     solved: &Solver<N>,
-    search: &Solver<N>,
-    stop: LpStop,
+    stopped: Stopped<N>,
     ledger: &mut L,
 ) -> Result<Worst<N>, Stop>
     requires model { IsSetOfModel N.limit set.now }
-    requires few { IsFewSet set.now }
-    requires task { FitsSet N.limit set.now.columns task.now }
-    requires solved { IsSolved (program_of_set set.now) solved.now }
-    requires rows { length set.now.rows ≡ positions search.now }
-    requires depth { search.now.limit ≡ solved.now.limit }
+    requires ready { CanGoOn N.limit set.now task.now solved.now }
+    requires rows { length set.now.rows ≡ positions stopped.solver.now }
+    requires depth { stopped.solver.now.limit ≡ solved.now.limit }
     requires stopped { HasStoppedSearch N.limit
-        (program_of_set set.now) task.now.cost stop search.now }
+        (program_of_set set.now) task.now.cost stopped.stop stopped.solver.now }
     ensures answer { (m : RobustModel) → IsSetForm m set.now
         → (step : Bool) (i : ℕ) → i < length (matrices m) → (z : List Fraction)
         → length z ≡ form_columns m → IsTaskOf m step i z task.now
@@ -78,12 +82,15 @@ pub fn go_deeper<N: Exact, L: Ledger>(
     ensures counted { NeverFell L.ops L.wides ledger.old ledger.new }
 {
     if solved.is_deep() {
-        return Err(refused(alloc, set, task, search, stop, ledger));
+        return Err(refused(alloc, set, task, stopped, ledger));
     }
     let mut deep = solved.deepened(alloc)?;
     match go_on(alloc, set, task, &mut deep, ledger) {
         Ok(Ok(worst)) => Ok(worst),
-        Ok(Err(stop)) => Err(refused(alloc, set, task, &deep, stop, ledger)),
+        Ok(Err(stop)) => {
+            let solver = &deep;
+            Err(refused(alloc, set, task, Stopped { solver, stop }, ledger))
+        }
         Err(Memory) => Err(Stop::Memory),
     }
 }
@@ -93,15 +100,14 @@ fn refused<N: Exact, L: Ledger>(
     alloc: Global,
     set: &SetForm,
     task: &Task,
-    solver: &Solver<N>,
-    stop: LpStop,
+    stopped: Stopped<N>,
     ledger: &mut L,
 ) -> Stop
     requires few { IsFewSet set.now }
-    requires rows { length set.now.rows ≡ positions solver.now }
-    requires depth { solver.now.limit ≡ deep_limit }
+    requires rows { length set.now.rows ≡ positions stopped.solver.now }
+    requires depth { stopped.solver.now.limit ≡ deep_limit }
     requires stopped { HasStoppedSearch N.limit
-        (program_of_set set.now) task.now.cost stop solver.now }
+        (program_of_set set.now) task.now.cost stopped.stop stopped.solver.now }
     ensures cause { (m : RobustModel) → IsSetForm m set.now → (step : Bool) (i : ℕ)
         → (z : List Fraction)
         → IsTaskOf m step i z task.now → HasSearchCause N.limit m step i z result }
@@ -111,5 +117,5 @@ fn refused<N: Exact, L: Ledger>(
     ledger.wide();
     let rows = set.rows.items().len() as u32;
     let program = program(task.by_step, task.form);
-    wide(alloc, solver, program, rows, position(stop))
+    wide(alloc, stopped.solver, program, rows, position(stopped.stop))
 }

@@ -16,11 +16,18 @@ returns-then-is_deep-clause-answer g c = λ m is step i some z size t.
     (c.refused.ensures.cause m is step i z t) c.refused.ensures.wides
 
 pub deepened-requires-clause-weightless : goal.deepened-requires-clause-weightless
-deepened-requires-clause-weightless g c = weightless (program_of_set c.args.set.now) c.args.solved.now c.requires.solved
+deepened-requires-clause-weightless g c =
+    weightless (program_of_set c.args.set.now) c.args.solved.now c.requires.ready.solved
 
-pub go_on-requires-clause-solved : goal.go_on-requires-clause-solved
-go_on-requires-clause-solved g c = taken_over (program_of_set c.args.set.now) _ c.args.solved.now c.in_ok-deep.deep
-    c.in_ok-deep.ensures.stands c.requires.solved
+pub go_on-requires : goal.go_on-requires
+go_on-requires g c = record {
+  ready = record {
+    few = c.requires.ready.few;
+    task_fits = c.requires.ready.task_fits;
+    solved = taken_over (program_of_set c.args.set.now) _ c.args.solved.now c.in_ok-deep.deep
+        c.in_ok-deep.ensures.stands c.requires.ready.solved;
+  };
+}
 
 pub returns-in-Ok-Ok-clause-answer : goal.returns-in-Ok-Ok-clause-answer
 returns-in-Ok-Ok-clause-answer g c = λ m is step i some z size t.
