@@ -24,6 +24,13 @@ pub enum Taken {
     Item(u32),
 }
 
+/// A vector, and how often each set condition is taken there.
+#[derive(Clone, Copy)]
+struct Point<'a, N> {
+    base: N,
+    vector: &'a [N],
+}
+
 /// The place of a set condition.
 fn place_of(taken: Taken, condition: u32) -> Place
     ensures place { result ≡ taken_place taken condition }
@@ -40,15 +47,16 @@ fn check_bounds<N: Exact, L: Ledger>(
     index: u32,
     k: usize,
     param: &Param<N>,
-    base: N,
-    vector: &[N],
+    point: Point<N>,
     ledger: &mut L,
 ) -> Verdict
     requires small { index ≤ 1000 }
     ensures exact { (m : RobustModel) → result ≡ verdict (bound_tests N.limit m (taken_place taken)
-        (N.value base) (map N.value vector.now) index k (parameter_of N.value param.now)) }
+        (N.value point.entry.base) (map N.value point.entry.vector.now) index k
+        (parameter_of N.value param.now)) }
     ensures counted { Counted L.ops L.wides ledger.old ledger.new result }
 {
+    let Point { base, vector } = point;
     let lower = keeps_lower(k, &param.lower, base, vector, ledger);
     match judge(place_of(taken, index), lower) {
         Verdict::Accepted => {}
@@ -64,18 +72,18 @@ fn check_statements<N: Exact, L: Ledger>(
     taken: Taken,
     first: u32,
     model: &Model<N>,
-    base: N,
-    vector: &[N],
+    point: Point<N>,
     ledger: &mut L,
 ) -> Verdict
     requires valid { IsValid N.value model.now }
     requires small { first ≤ 1000 }
     ensures exact { result ≡ verdict
         (set_tests N.limit (robust N.value model.now) (taken_place taken)
-        (N.value base) (map N.value vector.now) first
+        (N.value point.entry.base) (map N.value point.entry.vector.now) first
         (all_stated (map (set_line_of N.value) model.now.set_lines))) }
     ensures counted { Counted L.ops L.wides ledger.old ledger.new result }
 {
+    let Point { base, vector } = point;
     let mut index = first;
     for line in model.set_lines.items() {
         let test = holds(line, model, base, vector, ledger);
@@ -104,11 +112,11 @@ pub fn check_vector<N: Exact, L: Ledger>(
 {
     let mut index = 0u32;
     for (k, param) in model.params.items().iter().enumerate() {
-        match check_bounds(taken, index, k, param, base, vector, ledger) {
+        match check_bounds(taken, index, k, param, Point { base, vector }, ledger) {
             Verdict::Accepted => {}
             flaw => return flaw,
         }
         index += declared(&param.lower) + declared(&param.upper);
     }
-    check_statements(taken, index, model, base, vector, ledger)
+    check_statements(taken, index, model, Point { base, vector }, ledger)
 }

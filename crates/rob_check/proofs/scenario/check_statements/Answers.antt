@@ -12,7 +12,8 @@ pub returns-in_default-clause-exact : goal.returns-in_default-clause-exact
 returns-in_default-clause-exact g c =
     let value = g.N.Exact.value in
     let m = robust value c.args.model.now in
-    statement_stops g.N.Exact.limit m (taken_place c.args.taken) (value c.args.base) (map value c.args.vector.now) value
+    statement_stops g.N.Exact.limit m (taken_place c.args.taken) (value c.args.point.base)
+    (map value c.args.point.vector.now) value
     c.args.model.now.set_lines c.loop-line.line-index c.loop-line.index c.line-item.result
     (omega (arith, c.loop-line-test.true, ap length c.items-line-items.ensures.list))
     (c.line-item.is ∙ ap (λ xs. get_or xs c.loop-line.line-index c.line-item.result) c.items-line-items.ensures.list)
@@ -30,8 +31,8 @@ loop-line-preserved g c =
     ∙ ap (λ xs. get_or xs c.loop-line.line-index c.line-item.result) c.items-line-items.ensures.list in
     record {
       rest =
-          statement_goes g.N.Exact.limit m (taken_place c.args.taken) (value c.args.base)
-          (map value c.args.vector.now) value
+          statement_goes g.N.Exact.limit m (taken_place c.args.taken) (value c.args.point.base)
+          (map value c.args.point.vector.now) value
           c.args.model.now.set_lines c.loop-line.line-index c.loop-line.index c.line-item.result
           (omega (arith, some, same)) here
           c.place_of.result (result_ok c.holds-test.result) Accepted c.in-Accepted.ensures.exact
