@@ -100,37 +100,38 @@ pub fn first_fault(
         Fault::ZeroDivisor,
     ];
     let names_and_numbers = leaves(alloc, statement)?;
+    let leaves = names_and_numbers.items();
+    let parted = Parted { statement, leaves };
     for fault in IN_ORDER {
-        if has_fault(
-            alloc,
-            limit,
-            before,
-            now,
-            statement,
-            names_and_numbers.items(),
-            fault,
-        )? {
+        if has_fault(alloc, limit, before, now, parted, fault)? {
             return Ok(Some(fault));
         }
     }
     Ok(None)
 }
 
-/// Whether the statement, which has these names and numbers, has the fault.
+/// A statement, and its names and numbers in their order.
+#[derive(Clone, Copy)]
+struct Parted<'a> {
+    statement: &'a Statement,
+    leaves: &'a [Leaf],
+}
+
+/// Whether the statement has the fault.
 fn has_fault(
     alloc: Global,
     limit: u64,
     before: &Scope,
     now: &Scope,
-    statement: &Statement,
-    leaves: &[Leaf],
+    parted: Parted,
     fault: Fault,
 ) -> Result<bool, Memory>
     requires small { IsSmall now.now.sizes }
-    requires leaves { leaves.now ≡ statement_leaves statement.now }
-    ensures holds { IfOk result (λ has. has
-        ≡ spec.has_fault limit (earlier_of before.now) (earlier_of now.now) statement.now fault) }
+    requires leaves { parted.leaves.now ≡ statement_leaves parted.statement.now }
+    ensures holds { IfOk result (λ has. has ≡ spec.has_fault limit
+        (earlier_of before.now) (earlier_of now.now) parted.entry.statement.now fault) }
 {
+    let Parted { statement, leaves } = parted;
     let has = match fault {
         Fault::NameTwice => return name_twice(alloc, now, statement, leaves),
         Fault::NameUnknown => {
