@@ -167,6 +167,13 @@ fn factors(
     Ok(false)
 }
 
+/// The name of an item, inside its ranges, of which the outermost comes first.
+#[derive(Clone, Copy)]
+struct RangedName<'a> {
+    ranges: &'a [Range],
+    name: &'a Ref,
+}
+
 /// An item with its ranges: these, then its name inside them. `asked`: whether much is asked inside the first.
 #[tactic(auto, using(crate::proofs::AroundLemmas::outside_is, rob_ranges::proofs::NestLists::all_but_last_is))]
 fn item(
@@ -174,27 +181,27 @@ fn item(
     task: &Task,
     around: &mut Around,
     asked: bool,
-    own: &[Range],
-    name: &Ref,
+    own: RangedName,
     left: &mut u32,
 ) -> Result<bool, Memory>
     ensures found { IfOk result (λ found. found
         ≡ (walk_item (is_set task.now.declared.now) task.now.test around.old
-        (seen_ranges own.now) (seen_ref name.now) left.old).found) }
+        (seen_ranges own.entry.ranges.now) (seen_ref own.entry.name.now) left.old).found) }
     ensures left { OnOk result (left.new
         ≡ (walk_item (is_set task.now.declared.now) task.now.test around.old
-        (seen_ranges own.now) (seen_ref name.now) left.old).left) }
+        (seen_ranges own.entry.ranges.now) (seen_ref own.entry.name.now) left.old).left) }
     ensures around { OnOk result (around.new ≡ around.old) }
 {
-    match own {
+    let name = own.name;
+    match own.ranges {
         [] => indices(alloc, task.test, around, name.indices.items(), left),
-        [outermost, others @ ..] => {
+        [outermost, ranges @ ..] => {
             if at_range(alloc, task, around, outermost, left)? {
                 return Ok(true);
             }
             around.enter(alloc, asked, outermost)?;
-            let many = asks(task.test) && others.len() > 1;
-            let found = item(alloc, task, around, many, others, name, left)?;
+            let many = asks(task.test) && ranges.len() > 1;
+            let found = item(alloc, task, around, many, RangedName { ranges, name }, left)?;
             around.leave();
             Ok(found)
         }
@@ -217,13 +224,15 @@ fn members(
     ensures around { OnOk result (around.new ≡ around.old) }
 {
     for member in own {
+        let ranges = member.ranges.items();
+        let name = &member.item.name;
+        let asked = asks(task.test);
         if item(
             alloc,
             task,
             around,
-            asks(task.test),
-            member.ranges.items(),
-            &member.item.name,
+            asked,
+            RangedName { ranges, name },
             left,
         )? {
             return Ok(true);
@@ -248,13 +257,15 @@ fn entries(
     ensures around { OnOk result (around.new ≡ around.old) }
 {
     for entry in own {
+        let ranges = entry.ranges.items();
+        let name = &entry.item;
+        let asked = asks(task.test);
         if item(
             alloc,
             task,
             around,
-            asks(task.test),
-            entry.ranges.items(),
-            &entry.item,
+            asked,
+            RangedName { ranges, name },
             left,
         )? {
             return Ok(true);

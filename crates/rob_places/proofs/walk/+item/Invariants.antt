@@ -2,4 +2,4 @@ use Rattle.std.proofs.Common.{length}
 use Rattle.rob_places.proofs.walk.+item.Given as goal
 
 abbrev pub decreases-item : goal.decreases-item
-decreases-item l = length l.own.now
+decreases-item l = length l.own.ranges.now
