@@ -23,27 +23,40 @@ use rob_model::{Model, Plan};
 use rob_number::{Exact, Ledger, List};
 use std::alloc::Global;
 
-/// The line of a record, behind a header with these places.
+/// What a record is replayed with: a model, a plan, and the places of the parameters in the record, as the header tells
+/// them.
+#[derive(Clone, Copy)]
+struct Planned<'a, N> {
+    model: &'a Model<N>,
+    plan: &'a Plan<N>,
+    places: &'a [usize],
+}
+
+/// The line of a record.
 fn replay_record<N: Exact, L: Ledger>(
     alloc: Global,
-    model: &Model<N>,
-    plan: &Plan<N>,
-    places: &[usize],
+    planned: Planned<N>,
     number: u32,
     row: &ByteRecord,
     ledger: &mut L,
 ) -> Result<TableLine<N>, ReplayErr>
-    requires valid { IsValid N.value model.now }
-    requires places { length places.now ≡ length model.now.params }
+    requires valid { IsValid N.value planned.model.now }
+    requires places { length planned.places.now ≡ length planned.model.now.params }
     ensures line { MatchResult result
-        (λ line. record_outcome N.limit (robust N.value model.now)
-        (plan_of N.value plan.now) places.now number
+        (λ line. record_outcome N.limit (robust N.value planned.entry.model.now)
+        (plan_of N.value planned.entry.plan.now) planned.entry.places.now number
         (fields_of row.now) ≡ Ok (line_of N.value line))
-        (Refuses (record_outcome N.limit (robust N.value model.now)
-        (plan_of N.value plan.now) places.now number (fields_of row.now))) }
+        (Refuses (record_outcome N.limit (robust N.value planned.entry.model.now)
+        (plan_of N.value planned.entry.plan.now) planned.entry.places.now number
+        (fields_of row.now))) }
     ensures wide { IfErr result (RoseIfWide (L.wides ledger.old) (L.wides ledger.new)) }
     ensures counted { NeverFell L.ops L.wides ledger.old ledger.new }
 {
+    let Planned {
+        model,
+        plan,
+        places,
+    } = planned;
     if row.len() != places.len() {
         return Err(ReplayErr::Rule(42, number));
     }
@@ -84,7 +97,12 @@ fn replay_records<N: Exact, L: Ledger>(
 {
     let mut lines = List::new(alloc);
     for (i, row) in rows.iter().enumerate() {
-        match replay_record(alloc, model, plan, places, i as u32 + 2, row, ledger) {
+        let planned = Planned {
+            model,
+            plan,
+            places,
+        };
+        match replay_record(alloc, planned, i as u32 + 2, row, ledger) {
             Err(error) => return Err(error),
             Ok(line) => match lines.push(line) {
                 Err(_) => return Err(ReplayErr::Memory),
