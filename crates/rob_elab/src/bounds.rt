@@ -33,15 +33,12 @@ pub fn append_variable_bounds<N: Exact, L: Ledger>(
     let mut number: u32 = 0;
     for variable in model.vars.items() {
         let bounded: Expr<N> = Expr::Var(number);
-        append_bounds(
-            alloc,
-            model,
-            &bounded,
-            &variable.lower,
-            &variable.upper,
-            matrices,
-            ledger,
-        )?;
+        let bounds = Bounds {
+            bounded: &bounded,
+            lower: &variable.lower,
+            upper: &variable.upper,
+        };
+        append_bounds(alloc, model, bounds, matrices, ledger)?;
         number += 1;
     }
     Ok(())
@@ -64,68 +61,96 @@ pub fn append_adaptive_bounds<N: Exact, L: Ledger>(
     let mut number: u32 = 0;
     for rule in model.adaptives.items() {
         let bounded: Expr<N> = Expr::Adaptive(number);
-        append_bounds(
-            alloc,
-            model,
-            &bounded,
-            &rule.lower,
-            &rule.upper,
-            matrices,
-            ledger,
-        )?;
+        let bounds = Bounds {
+            bounded: &bounded,
+            lower: &rule.lower,
+            upper: &rule.upper,
+        };
+        append_bounds(alloc, model, bounds, matrices, ledger)?;
         number += 1;
     }
     Ok(())
+}
+
+/// An expression and its bounds, as far as they are declared.
+#[derive(Clone, Copy)]
+struct Bounds<'a, N> {
+    bounded: &'a Expr<N>,
+    lower: &'a Option<N>,
+    upper: &'a Option<N>,
 }
 
 /// Clears and appends the forms of the declared bounds of an expression, lower before upper.
 fn append_bounds<N: Exact, L: Ledger>(
     alloc: Global,
     model: &Model<N>,
-    bounded: &Expr<N>,
-    lower: &Option<N>,
-    upper: &Option<N>,
+    bounds: Bounds<N>,
     matrices: &mut List<List<List<i64>>>,
     ledger: &mut L,
 ) -> Result<(), ElabErr>
     requires valid { IsValid N.value model.now }
-    requires bounded { IsExpression (robust N.value model.now) (expression_of N.value bounded.now) }
+    requires bounded { IsExpression (robust N.value model.now)
+        (expression_of N.value bounds.bounded.now) }
     requires few { length matrices.old + 2 < 10000 }
     ensures forms { Appends N.limit (robust N.value model.now) (length matrices.old)
-        (bound_forms (expression_of N.value bounded.now) (option_map N.value lower.now)
-        (option_map N.value upper.now))
+        (bound_forms (expression_of N.value bounds.entry.bounded.now)
+        (option_map N.value bounds.entry.lower.now) (option_map N.value bounds.entry.upper.now))
         matrices.old matrices.new (L.wides ledger.old) (L.wides ledger.new) result }
     ensures counted { NeverFell L.ops L.wides ledger.old ledger.new }
 {
-    append_bound(alloc, model, bounded, lower, true, matrices, ledger)?;
-    append_bound(alloc, model, bounded, upper, false, matrices, ledger)
+    let bounded = bounds.bounded;
+    let lower = Bound {
+        bounded,
+        is_lower: true,
+        number: bounds.lower,
+    };
+    append_bound(alloc, model, lower, matrices, ledger)?;
+    let upper = Bound {
+        bounded,
+        is_lower: false,
+        number: bounds.upper,
+    };
+    append_bound(alloc, model, upper, matrices, ledger)
+}
+
+/// One of them: a lower one or an upper one.
+#[derive(Clone, Copy)]
+struct Bound<'a, N> {
+    bounded: &'a Expr<N>,
+    is_lower: bool,
+    number: &'a Option<N>,
 }
 
 /// Clears and appends the form of a declared bound, if there is one: `l - e`, or `e - b`.
 fn append_bound<N: Exact, L: Ledger>(
     alloc: Global,
     model: &Model<N>,
-    bounded: &Expr<N>,
-    bound: &Option<N>,
-    lower: bool,
+    bound: Bound<N>,
     matrices: &mut List<List<List<i64>>>,
     ledger: &mut L,
 ) -> Result<(), ElabErr>
     requires valid { IsValid N.value model.now }
-    requires bounded { IsExpression (robust N.value model.now) (expression_of N.value bounded.now) }
+    requires bounded { IsExpression (robust N.value model.now)
+        (expression_of N.value bound.bounded.now) }
     requires few { length matrices.old < 10000 }
     ensures form { Appends N.limit (robust N.value model.now) (length matrices.old)
-        (if_declared (λ b. if lower then difference (constant b) (expression_of N.value bounded.now)
-        else difference (expression_of N.value bounded.now) (constant b))
-        (option_map N.value bound.now))
+        (if_declared (λ b. if bound.entry.is_lower
+        then difference (constant b) (expression_of N.value bound.entry.bounded.now)
+        else difference (expression_of N.value bound.entry.bounded.now) (constant b))
+        (option_map N.value bound.entry.number.now))
         matrices.old matrices.new (L.wides ledger.old) (L.wides ledger.new) result }
     ensures counted { NeverFell L.ops L.wides ledger.old ledger.new }
 {
-    let Some(value) = bound else {
+    let Bound {
+        bounded,
+        is_lower,
+        number,
+    } = bound;
+    let Some(value) = number else {
         return Ok(());
     };
     let value = Expr::Number(*value);
-    if lower {
+    if is_lower {
         append_difference(alloc, model, &value, bounded, matrices, ledger)
     } else {
         append_difference(alloc, model, bounded, &value, matrices, ledger)

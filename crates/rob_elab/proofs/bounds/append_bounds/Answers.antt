@@ -12,9 +12,9 @@ use Rattle.rob_elab.proofs.bounds.append_bounds.Goals as goal
 pub returns-in_err-append_bound-clause-forms : goal.returns-in_err-append_bound-clause-forms
 returns-in_err-append_bound-clause-forms g c =
     let value = g.N.Exact.value in
-    let e = expression_of value c.args.bounded.now in
-    let lower = if_declared (λ b. difference (number b) e) (option_map value c.args.lower.now) in
-    let upper = if_declared (λ b. difference e (number b)) (option_map value c.args.upper.now) in
+    let e = expression_of value c.args.bounds.bounded.now in
+    let lower = if_declared (λ b. difference (number b) e) (option_map value c.args.bounds.lower.now) in
+    let upper = if_declared (λ b. difference e (number b)) (option_map value c.args.bounds.upper.now) in
     let start : FormProgress g.N.Exact.limit (robust value c.args.model.now) (lower ++ upper) (lower ++ upper)
     c.args.matrices.now c.args.matrices.now =
     begins c.args.matrices.now in
@@ -25,9 +25,9 @@ returns-in_err-append_bound-clause-forms g c =
 pub returns-clause-forms : goal.returns-clause-forms
 returns-clause-forms g c =
     let value = g.N.Exact.value in
-    let e = expression_of value c.args.bounded.now in
-    let lower = if_declared (λ b. difference (number b) e) (option_map value c.args.lower.now) in
-    let upper = if_declared (λ b. difference e (number b)) (option_map value c.args.upper.now) in
+    let e = expression_of value c.args.bounds.bounded.now in
+    let lower = if_declared (λ b. difference (number b) e) (option_map value c.args.bounds.lower.now) in
+    let upper = if_declared (λ b. difference e (number b)) (option_map value c.args.bounds.upper.now) in
     let start : FormProgress g.N.Exact.limit (robust value c.args.model.now) (lower ++ upper) (lower ++ upper)
     c.args.matrices.now c.args.matrices.now =
     begins c.args.matrices.now in
