@@ -7,7 +7,7 @@ ghost use Rattle.rob_rows.specs.PrimitiveParts.{content};
 ghost use Rattle.rob_entries.specs.Choices.{IsLowest};
 ghost use Rattle.rob_entries.specs.Updates.{CanClearCells, IsMultipleOf, IsWideCleared};
 
-use crate::clearing::PivotRow;
+use crate::clearing::{Cell, PivotRow};
 use crate::entry::Entry;
 use crate::rows::{lowest_column, negate};
 use crate::scans::lowest_marked;
@@ -268,9 +268,8 @@ impl<E: Entry> Cells<E> {
         row.clear(
             &mut self.items.as_mut_slice()[start..start + width],
             marks,
-            start,
+            Cell { start, place },
             bound,
-            place,
             limit,
         )
     }

@@ -17,6 +17,20 @@ use rob_number::Wide;
 use std::alloc::{AllocError, Global};
 use std::marker::Model;
 
+/// A cell of rows that lie one behind another: where its row begins, and its place there.
+#[derive(Clone, Copy)]
+pub struct Cell {
+    pub start: usize,
+    pub place: usize,
+}
+
+/// The factors of a row and of the one that clears it of a cell.
+#[derive(Clone, Copy)]
+struct Factors<E> {
+    p: E,
+    q: E,
+}
+
 /// The row that clears others: its entries in lowest terms, the places where they are not 0, and room for one row more.
 /// Contracts see the entries and the number that bounds them.
 pub struct PivotRow<E: Entry> {
@@ -91,19 +105,21 @@ impl<E: Entry> PivotRow<E> {
     }
 
     /// The row, which begins at `start`, p times, less q times this one, with its marks.
-    fn apply(&self, row: &mut [E], marks: &mut [bool], start: usize, p: E, q: E)
+    fn apply(&self, row: &mut [E], marks: &mut [bool], start: usize, factors: Factors<E>)
         requires length { length row.old ≡ length self.now.entries }
         requires marks_in { start + length row.old ≤ length marks.old }
-        requires positive { pos 0 <ℤ E.value p }
-        requires narrow { IsNarrowBy E.top (length row.old) (E.value p) (E.value q)
+        requires positive { pos 0 <ℤ E.value factors.p }
+        requires narrow { IsNarrowBy E.top (length row.old) (E.value factors.p) (E.value factors.q)
             (at (map E.value row.old))
             (at self.now.entries) }
         ensures entries { (k : ℕ) → k < length row.old → at (map E.value row.new) k
-            ≡ (E.value p *ℤ at (map E.value row.old) k) -ℤ (E.value q *ℤ at self.now.entries k) }
+            ≡ (E.value factors.p *ℤ at (map E.value row.old) k)
+            -ℤ (E.value factors.q *ℤ at self.now.entries k) }
         ensures marked { AreMarked start (length row.old) (at (map E.value row.new))
             (at self.now.entries) marks.old
             marks.new }
     {
+        let Factors { p, q } = factors;
         scale(row, p);
         subtract(
             row,
@@ -121,18 +137,20 @@ impl<E: Entry> PivotRow<E> {
         row: &mut [E],
         marks: &mut [bool],
         start: usize,
-        p: E,
-        q: E,
+        factors: Factors<E>,
         limit: u128,
     ) -> Result<u128, Wide>
-        requires ready { CanApply E.top limit (E.value p) (E.value q)
+        requires ready { CanApply E.top limit (E.value factors.p) (E.value factors.q)
             (map E.value row.old) self.old.entries
             (length row.old) start (length marks.old) }
         ensures part { OnOk result (IsPrimitivePart (map E.value row.new)
-            (combination (E.value p) (map E.value row.old) (E.value q) self.old.entries)) }
+            (combination (E.value factors.p) (map E.value row.old)
+            (E.value factors.q) self.old.entries)) }
         ensures bounded { IfOk result (λ sum. IsBounded limit (map E.value row.new) sum) }
         ensures wide { OnErr result
-            (HasWidePart limit (combination (E.value p) (map E.value row.old) (E.value q) self.old.entries)) }
+            (HasWidePart limit
+            (combination (E.value factors.p) (map E.value row.old)
+            (E.value factors.q) self.old.entries)) }
         ensures unchanged { OnErr result (row.new ≡ row.old) }
         ensures marked { IfOk result (λ _. AreMarked start (length row.old)
             (at (map E.value row.new))
@@ -140,6 +158,7 @@ impl<E: Entry> PivotRow<E> {
         ensures kept { OnErr result (marks.new ≡ marks.old) }
         ensures same { self.new ≡ self.old }
     {
+        let Factors { p, q } = factors;
         E::combine(
             self.room.as_mut_slice(),
             p,
@@ -159,41 +178,42 @@ impl<E: Entry> PivotRow<E> {
         Ok(E::largest(row))
     }
 
-    /// Clears the entry at the place of the row, which begins at `start`, marks what it writes, and tells a number that
-    /// bounds the new entries. The row may be a positive multiple of the one in lowest terms. `Wide` where that one has
-    /// an entry over the limit; then the row stays.
+    /// Clears the row of its entry in the cell, marks what it writes, and tells a number that bounds the new entries.
+    /// The row may be a positive multiple of the one in lowest terms. `Wide` where that one has an entry over the
+    /// limit; then the row stays.
     pub fn clear(
         &mut self,
         row: &mut [E],
         marks: &mut [bool],
-        start: usize,
+        cell: Cell,
         bound: u128,
-        place: usize,
         limit: u128,
     ) -> Result<u128, Wide>
-        requires ready { CanClearRow E.top limit (map E.value row.old) self.old bound place
-            (length row.old) start
+        requires ready { CanClearRow E.top limit (map E.value row.old) self.old bound cell.place
+            (length row.old) cell.start
             (length marks.old) }
-        ensures cleared { IfOk result (λ _. IsClearedBy (length row.old) place
+        ensures cleared { IfOk result (λ _. IsClearedBy (length row.old) cell.place
             (at (map E.value row.old))
             (at self.old.entries) (at (map E.value row.new))) }
         ensures bounded { IfOk result (λ sum. IsBounded limit (map E.value row.new) sum) }
         ensures wide { OnErr result
-            (IsWideCleared limit (length row.old) place (at (map E.value row.old)) (at self.old.entries)) }
+            (IsWideCleared limit (length row.old) cell.place
+            (at (map E.value row.old)) (at self.old.entries)) }
         ensures unchanged { OnErr result (row.new ≡ row.old) }
-        ensures marked { IfOk result (λ _. AreMarked start (length row.old)
+        ensures marked { IfOk result (λ _. AreMarked cell.start (length row.old)
             (at (map E.value row.new))
             (at self.old.entries) marks.old marks.new) }
         ensures kept { OnErr result (marks.new ≡ marks.old) }
         ensures same { self.new ≡ self.old }
     {
+        let Cell { start, place } = cell;
         let (p, q) = E::lowest(self.entries[place], row[place]);
         match E::bound_of(p, bound, q, self.bound, limit) {
             Some(sum) => {
-                self.apply(row, marks, start, p, q);
+                self.apply(row, marks, start, Factors { p, q });
                 Ok(sum)
             }
-            None => self.apply_lowest(row, marks, start, p, q, limit),
+            None => self.apply_lowest(row, marks, start, Factors { p, q }, limit),
         }
     }
 }

@@ -12,5 +12,5 @@ mod short;
 mod updates;
 
 pub use cells::Cells;
-pub use clearing::PivotRow;
+pub use clearing::{Cell, PivotRow};
 pub use entry::Entry;

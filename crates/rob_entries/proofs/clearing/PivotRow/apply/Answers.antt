@@ -10,8 +10,8 @@ use Rattle.rob_entries.proofs.clearing.PivotRow.apply.Goals as goal
 pub scale-requires-clause-narrow : goal.scale-requires-clause-narrow
 scale-requires-clause-narrow g c k l =
     let value = g.E.Entry.value in
-    let h : nat_abs (g.E.Entry.value c.args.p) * nat_abs (at (map g.E.Entry.value c.args.row.now) k)
-    + nat_abs (g.E.Entry.value c.args.q) * nat_abs (at c.args.self.now.entries k) ≤ g.E.Entry.top =
+    let h : nat_abs (g.E.Entry.value c.args.factors.p) * nat_abs (at (map g.E.Entry.value c.args.row.now) k)
+    + nat_abs (g.E.Entry.value c.args.factors.q) * nat_abs (at c.args.self.now.entries k) ≤ g.E.Entry.top =
     c.requires.narrow k l in
     omega arith
 
@@ -36,8 +36,8 @@ subtract-requires-clause-narrow g c k l =
     let n : length c.scale.new.row ≡ length c.args.row.now = c.scale.auto.row in
     let inside : k < length c.args.row.now = omega arith in
     subst (λ (t : List ℤ). nat_abs (pos 1) * nat_abs (at (map value c.scale.new.row) k)
-    + nat_abs (value c.args.q) * nat_abs (at t k) ≤ g.E.Entry.top) (sym same)
-    (scaled_narrow g.E.Entry.top (value c.args.p) (value c.args.q) (at (map value c.args.row.now) k)
+    + nat_abs (value c.args.factors.q) * nat_abs (at t k) ≤ g.E.Entry.top) (sym same)
+    (scaled_narrow g.E.Entry.top (value c.args.factors.p) (value c.args.factors.q) (at (map value c.args.row.now) k)
     (at c.args.self.now.entries k) (at (map value c.scale.new.row) k) (c.scale.ensures.entries k inside)
     (c.requires.narrow k inside))
 
@@ -48,8 +48,10 @@ returns-clause-entries g c k l =
     ap (map value) c.as_slice.ensures.value ∙ ap (λ (v : Clearing). v.entries) c.self.view_is in
     let n : length c.scale.new.row ≡ length c.args.row.now = c.scale.auto.row in
     c.subtract.ensures.entries k (omega arith)
-    ∙ ap (λ t. t -ℤ (value c.args.q *ℤ at (map value c.as_slice.result.now) k)) (c.scale.ensures.entries k l)
-    ∙ ap (λ (t : List ℤ). (value c.args.p *ℤ at (map value c.args.row.now) k) -ℤ (value c.args.q *ℤ at t k)) same
+    ∙ ap (λ t. t -ℤ (value c.args.factors.q *ℤ at (map value c.as_slice.result.now) k)) (c.scale.ensures.entries k l)
+    ∙ ap
+    (λ (t : List ℤ). (value c.args.factors.p *ℤ at (map value c.args.row.now) k) -ℤ (value c.args.factors.q *ℤ at t k))
+    same
 
 pub returns-clause-marked : goal.returns-clause-marked
 returns-clause-marked g c =

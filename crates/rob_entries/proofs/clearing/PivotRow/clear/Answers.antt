@@ -17,17 +17,17 @@ within_here g c = subst (λ (v : Clearing). IsWithin v.bound v.entries) c.self.v
 
 -- the factors, of the two entries at the place
 parts_here : (g : Over) (c : After-lowest-p g)
-    → ArePartsOf (at c.args.self.now.entries c.args.place) (at (map g.E.Entry.value c.args.row.now) c.args.place)
-    (g.E.Entry.value c.lowest-p.result.0) (g.E.Entry.value c.lowest-p.result.1)
+    → ArePartsOf (at c.args.self.now.entries c.args.cell.place)
+    (at (map g.E.Entry.value c.args.row.now) c.args.cell.place) (g.E.Entry.value c.lowest-p.result.0) (g.E.Entry.value c.lowest-p.result.1)
 parts_here g c =
-    parts_read g.E.Entry.value c.self.inside.entries.items c.args.row.now c.args.place
+    parts_read g.E.Entry.value c.self.inside.entries.items c.args.row.now c.args.cell.place
     (ap (λ (v : Clearing). v.entries) c.self.view_is) c.requires.ready.same_width c.requires.ready.place_in
     c.index.ensures c.index-row-place.is c.lowest-p.ensures.parts
 
 -- ---- the factors are small
 pub lowest-p-requires-clause-q_size : goal.lowest-p-requires-clause-q_size
 lowest-p-requires-clause-q_size g c =
-    read_low g.E.Entry.value c.args.row.now c.args.place c.index-row-place.result c.args.bound c.args.limit
+    read_low g.E.Entry.value c.args.row.now c.args.cell.place c.index-row-place.result c.args.bound c.args.limit
     g.E.Entry.top c.requires.ready.place_in c.index-row-place.is c.requires.ready.bounded.within
     c.requires.ready.bounded.low c.requires.ready.limit_low
 
@@ -81,7 +81,7 @@ returns-in-None-clause-cleared g c =
     ok_if c.apply_lowest.result
     (IsPrimitivePart new
     (combination (g.E.Entry.value c.lowest-p.result.0) row (g.E.Entry.value c.lowest-p.result.1) top))
-    (IsClearedBy (length c.args.row.now) c.args.place (at row) (at top) (at new))
+    (IsClearedBy (length c.args.row.now) c.args.cell.place (at row) (at top) (at new))
     (cleared_in_lowest c.requires.ready (within_here g here) (length-map c.args.row.now g.E.Entry.value)
     (parts_here g here) new)
     c.apply_lowest.ensures.part
