@@ -11,6 +11,15 @@ use crate::free_slacks::{FIRST, Free};
 use rob_entries::Entry;
 use std::cmp::Ordering;
 
+/// Two rows, each with its divisor: row i with p, row e with q.
+#[derive(Clone, Copy)]
+struct Rivals<E> {
+    i: usize,
+    p: E,
+    e: usize,
+    q: E,
+}
+
 /// Whether a number is above 0.
 #[inline(always)]
 pub fn is_positive<E: Entry>(a: E) -> bool
@@ -89,27 +98,25 @@ impl<E: Entry> Dictionary<E> {
 
     /// The same in the first of the slack columns that decides, if one of the first ones does; their own columns don't
     /// come before them.
-    fn is_less_in_free(
-        &self,
-        free: Free,
-        before: usize,
-        i: usize,
-        p: E,
-        e: usize,
-        q: E,
-    ) -> Option<bool>
+    fn is_less_in_free(&self, free: Free, before: usize, rows: Rivals<E>) -> Option<bool>
         requires free { AreFree self.now free.seen free.slacks.now }
         requires before_in { before ≤ free.seen }
-        requires i_in { i < positions self.now }
-        requires e_in { e < positions self.now }
-        requires not_i { (k : ℕ) → k < before → columns_of self.now.basis i ≢ self.now.columns + k }
-        requires not_e { (k : ℕ) → k < before → columns_of self.now.basis e ≢ self.now.columns + k }
+        requires i_in { rows.i < positions self.now }
+        requires e_in { rows.e < positions self.now }
+        requires not_i { (k : ℕ) → k < before
+            → columns_of self.now.basis rows.i ≢ self.now.columns + k }
+        requires not_e { (k : ℕ) → k < before
+            → columns_of self.now.basis rows.e ≢ self.now.columns + k }
         ensures order { MatchOption result
-            ((j : ℕ) → j < before → lead self.now i (E.value p) e (E.value q) (self.now.columns + j) ≡ pos 0)
+            ((j : ℕ) → j < before → lead self.now rows.i (E.value rows.p) rows.e (E.value rows.q)
+            (self.now.columns + j) ≡ pos 0)
             (λ less. (k : ℕ) × (k < positions self.now)
-            × ((j : ℕ) → j < k → lead self.now i (E.value p) e (E.value q) (self.now.columns + j) ≡ pos 0)
-            × Decided less (lead self.now i (E.value p) e (E.value q) (self.now.columns + k))) }
+            × ((j : ℕ) → j < k → lead self.now rows.i (E.value rows.p) rows.e (E.value rows.q)
+            (self.now.columns + j) ≡ pos 0)
+            × Decided less (lead self.now rows.i (E.value rows.p) rows.e (E.value rows.q)
+            (self.now.columns + k))) }
     {
+        let Rivals { i, p, e, q } = rows;
         let _ = self.basis.len();
         for k in free.slacks {
             if before <= *k {
@@ -137,7 +144,7 @@ impl<E: Entry> Dictionary<E> {
     {
         let m = self.basis.len();
         let before = self.before_own(free.seen, i, e);
-        match self.is_less_in_free(free, before, i, p, e, q) {
+        match self.is_less_in_free(free, before, Rivals { i, p, e, q }) {
             Some(less) => return less,
             None => {}
         }
