@@ -46,30 +46,36 @@ fn bound_table<N: Exact, L: Ledger>(
     Ok(table)
 }
 
+/// A bound of a parameter, as far as it is declared.
+#[derive(Clone, Copy)]
+struct Bound<'a, N> {
+    parameter: u32,
+    is_lower: bool,
+    number: &'a Option<N>,
+}
+
 /// Clears and appends the row of a declared bound, if there is one.
 fn append_bound<N: Exact, L: Ledger>(
     alloc: Global,
     model: &Model<N>,
-    parameter: u32,
-    lower: bool,
-    bound: &Option<N>,
+    bound: Bound<N>,
     rows: &mut List<SetRow>,
     ledger: &mut L,
 ) -> Result<(), ElabErr>
     requires valid { IsValid N.value model.now }
-    requires few_parameters { parameter < 1000 }
+    requires few_parameters { bound.parameter < 1000 }
     requires few { length rows.old < 1000 }
     ensures row { Appends N.limit (robust N.value model.now)
-        (if_declared (if lower then lower_row parameter else upper_row parameter)
-        (option_map N.value bound.now))
+        (if_declared (if bound.entry.is_lower then lower_row bound.entry.parameter
+        else upper_row bound.entry.parameter) (option_map N.value bound.entry.number.now))
         (judged_rows (robust N.value model.now) (length rows.old)
-        (if_declared (if lower then lower_row parameter else upper_row parameter)
-        (option_map N.value bound.now)))
+        (if_declared (if bound.entry.is_lower then lower_row bound.entry.parameter
+        else upper_row bound.entry.parameter) (option_map N.value bound.entry.number.now)))
         rows.old rows.new (L.wides ledger.old) (L.wides ledger.new) result }
     ensures counted { NeverFell L.ops L.wides ledger.old ledger.new }
 {
-    if let Some(number) = bound {
-        let table = bound_table(alloc, parameter, lower, *number, ledger)?;
+    if let Some(number) = bound.number {
+        let table = bound_table(alloc, bound.parameter, bound.is_lower, *number, ledger)?;
         append_row(alloc, model, &table, rows, ledger)?;
     }
     Ok(())
@@ -93,8 +99,18 @@ pub fn append_bounds<N: Exact, L: Ledger>(
 {
     let mut number: u32 = 0;
     for parameter in model.params.items() {
-        append_bound(alloc, model, number, true, &parameter.lower, rows, ledger)?;
-        append_bound(alloc, model, number, false, &parameter.upper, rows, ledger)?;
+        let lower = Bound {
+            parameter: number,
+            is_lower: true,
+            number: &parameter.lower,
+        };
+        append_bound(alloc, model, lower, rows, ledger)?;
+        let upper = Bound {
+            parameter: number,
+            is_lower: false,
+            number: &parameter.upper,
+        };
+        append_bound(alloc, model, upper, rows, ledger)?;
         number += 1;
     }
     Ok(())

@@ -21,22 +21,29 @@ use rob_model::{Member, Model};
 use rob_number::{Exact, Ledger, List, Memory};
 use std::alloc::Global;
 
-/// A member of a budget, as a table that is at most 0: `d - h t - c`, or `-d - h t + c`, where its column `t` has
-/// number `lift`.
+/// A side of a budget's member, whose column `t` has number `lift`: upward, `d - h t - c` is at most 0, else
+/// `-d - h t + c`.
+#[derive(Clone, Copy)]
+struct Side<'a, N> {
+    lift: u32,
+    member: &'a Member<N>,
+    up: bool,
+}
+
+/// The side as a table that is at most 0.
 fn member_table<N: Exact, L: Ledger>(
     alloc: Global,
-    lift: u32,
-    member: &Member<N>,
-    up: bool,
+    side: Side<N>,
     ledger: &mut L,
 ) -> Result<Table<N>, Memory>
-    requires few { member.now.param < 1000 }
-    requires few_lifts { lift < 1000 }
+    requires few { side.member.now.param < 1000 }
+    requires few_lifts { side.lift < 1000 }
     ensures row { IfOk result (λ t. row_of (numbers_of N.value t)
-        ≡ (if up then up_row lift (member_of N.value member.now)
-        else down_row lift (member_of N.value member.now))) }
+        ≡ (if side.entry.up then up_row side.entry.lift (member_of N.value side.entry.member.now)
+        else down_row side.entry.lift (member_of N.value side.entry.member.now))) }
     ensures counted { NeverFell L.ops L.wides ledger.old ledger.new }
 {
+    let Side { lift, member, up } = side;
     let mut table = Table::new(alloc);
     let unit: N = one(ledger);
     table.put(
@@ -90,58 +97,79 @@ fn budget_table<N: Exact, L: Ledger>(
 fn append_member<N: Exact, L: Ledger>(
     alloc: Global,
     model: &Model<N>,
-    lift: u32,
-    member: &Member<N>,
-    up: bool,
+    side: Side<N>,
     rows: &mut List<SetRow>,
     ledger: &mut L,
 ) -> Result<(), ElabErr>
     requires valid { IsValid N.value model.now }
     requires few { length rows.old < 1000 }
-    requires few_parameters { member.now.param < 1000 }
-    requires few_lifts { lift < 1000 }
+    requires few_parameters { side.member.now.param < 1000 }
+    requires few_lifts { side.lift < 1000 }
     ensures row { Appends N.limit (robust N.value model.now)
-        ((if up then up_row lift (member_of N.value member.now)
-        else down_row lift (member_of N.value member.now)) ∷ [])
+        ((if side.entry.up then up_row side.entry.lift (member_of N.value side.entry.member.now)
+        else down_row side.entry.lift (member_of N.value side.entry.member.now)) ∷ [])
         (judged_rows (robust N.value model.now) (length rows.old)
-        ((if up then up_row lift (member_of N.value member.now)
-        else down_row lift (member_of N.value member.now))
+        ((if side.entry.up then up_row side.entry.lift (member_of N.value side.entry.member.now)
+        else down_row side.entry.lift (member_of N.value side.entry.member.now))
         ∷ []))
         rows.old rows.new (L.wides ledger.old) (L.wides ledger.new) result }
     ensures counted { NeverFell L.ops L.wides ledger.old ledger.new }
 {
-    let table = member_table(alloc, lift, member, up, ledger)?;
+    let table = member_table(alloc, side, ledger)?;
     append_row(alloc, model, &table, rows, ledger)
 }
 
-/// Clears and appends the rows of a budget, where the column `t` of its first member has number `lift`.
+/// A budget, where the column `t` of its first member has number `lift`.
+#[derive(Clone, Copy)]
+pub struct Budget<'a, N> {
+    pub lift: u32,
+    pub limit: N,
+    pub members: &'a [Member<N>],
+}
+
+/// Clears and appends the rows of a budget.
 pub fn append_budget<N: Exact, L: Ledger>(
     alloc: Global,
     model: &Model<N>,
-    lift: u32,
-    limit: N,
-    members: &[Member<N>],
+    budget: Budget<N>,
     rows: &mut List<SetRow>,
     ledger: &mut L,
 ) -> Result<(), ElabErr>
     requires valid { IsValid N.value model.now }
     requires members { Each (IsMember (robust N.value model.now))
-        (map (member_of N.value) members.now) }
-    requires few { length rows.old + (2 * length members.now + 1) < 1000 }
-    requires few_lifts { lift + length members.now < 1000 }
+        (map (member_of N.value) budget.members.now) }
+    requires few { length rows.old + (2 * length budget.members.now + 1) < 1000 }
+    requires few_lifts { budget.lift + length budget.members.now < 1000 }
     ensures rows { Appends N.limit (robust N.value model.now)
-        (member_rows lift (map (member_of N.value) members.now)
-        ++ budget_row lift (N.value limit) (map (member_of N.value) members.now) ∷ [])
+        (member_rows budget.entry.lift (map (member_of N.value) budget.entry.members.now)
+        ++ budget_row budget.entry.lift (N.value budget.entry.limit)
+        (map (member_of N.value) budget.entry.members.now) ∷ [])
         (judged_rows (robust N.value model.now) (length rows.old)
-        (member_rows lift (map (member_of N.value) members.now)
-        ++ budget_row lift (N.value limit) (map (member_of N.value) members.now) ∷ []))
+        (member_rows budget.entry.lift (map (member_of N.value) budget.entry.members.now)
+        ++ budget_row budget.entry.lift (N.value budget.entry.limit)
+        (map (member_of N.value) budget.entry.members.now) ∷ []))
         rows.old rows.new (L.wides ledger.old) (L.wides ledger.new) result }
     ensures counted { NeverFell L.ops L.wides ledger.old ledger.new }
 {
+    let Budget {
+        lift,
+        limit,
+        members,
+    } = budget;
     let mut column = lift;
     for member in members {
-        append_member(alloc, model, column, member, true, rows, ledger)?;
-        append_member(alloc, model, column, member, false, rows, ledger)?;
+        let upward = Side {
+            lift: column,
+            member,
+            up: true,
+        };
+        append_member(alloc, model, upward, rows, ledger)?;
+        let downward = Side {
+            lift: column,
+            member,
+            up: false,
+        };
+        append_member(alloc, model, downward, rows, ledger)?;
         column += 1;
     }
     let table = budget_table(alloc, lift, limit, members.len() as u32, ledger)?;

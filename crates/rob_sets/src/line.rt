@@ -73,29 +73,37 @@ pub fn less<N: Exact, L: Ledger>(
     Ok(table)
 }
 
+/// That the left side is at most the right one.
+#[derive(Clone, Copy)]
+struct AtMost<'a, N> {
+    left: &'a Expr<N>,
+    right: &'a Expr<N>,
+}
+
 /// Clears and appends the row that left less right is at most 0, for the statement of that number.
 fn append_side<N: Exact, L: Ledger>(
     alloc: Global,
     model: &Model<N>,
     number: u32,
-    left: &Expr<N>,
-    right: &Expr<N>,
+    sides: AtMost<N>,
     rows: &mut List<SetRow>,
     ledger: &mut L,
 ) -> Result<(), ElabErr>
     requires valid { IsValid N.value model.now }
-    requires left { IsSetSide (robust N.value model.now) (expression_of N.value left.now) }
-    requires right { IsSetSide (robust N.value model.now) (expression_of N.value right.now) }
+    requires left { IsSetSide (robust N.value model.now) (expression_of N.value sides.left.now) }
+    requires right { IsSetSide (robust N.value model.now) (expression_of N.value sides.right.now) }
     requires few { length rows.old < 1000 }
     ensures row { Appends N.limit (robust N.value model.now)
         (map (expression_row (robust N.value model.now))
-        (difference (expression_of N.value left.now) (expression_of N.value right.now) ∷ []))
+        (difference (expression_of N.value sides.entry.left.now)
+        (expression_of N.value sides.entry.right.now) ∷ []))
         (judged_sides (robust N.value model.now) number (length rows.old)
-        (difference (expression_of N.value left.now) (expression_of N.value right.now) ∷ []))
+        (difference (expression_of N.value sides.entry.left.now)
+        (expression_of N.value sides.entry.right.now) ∷ []))
         rows.old rows.new (L.wides ledger.old) (L.wides ledger.new) result }
     ensures counted { NeverFell L.ops L.wides ledger.old ledger.new }
 {
-    match difference_table(alloc, model, left, right, ledger) {
+    match difference_table(alloc, model, sides.left, sides.right, ledger) {
         Ok(table) => append_row(alloc, model, &table, rows, ledger),
         Err(stop) => Err(stopped(stop, Spot::Coefficient(Where::SetLine(number)))),
     }
@@ -125,14 +133,20 @@ pub fn append_line<N: Exact, L: Ledger>(
         rows.old rows.new (L.wides ledger.old) (L.wides ledger.new) result }
     ensures counted { NeverFell L.ops L.wides ledger.old ledger.new }
 {
-    let left = line.left;
-    let right = line.right;
+    let at_most = AtMost {
+        left: line.left,
+        right: line.right,
+    };
+    let at_least = AtMost {
+        left: line.right,
+        right: line.left,
+    };
     match line.rel {
-        Rel::AtMost => append_side(alloc, model, number, left, right, rows, ledger),
-        Rel::AtLeast => append_side(alloc, model, number, right, left, rows, ledger),
+        Rel::AtMost => append_side(alloc, model, number, at_most, rows, ledger),
+        Rel::AtLeast => append_side(alloc, model, number, at_least, rows, ledger),
         Rel::Equal => {
-            append_side(alloc, model, number, left, right, rows, ledger)?;
-            append_side(alloc, model, number, right, left, rows, ledger)
+            append_side(alloc, model, number, at_most, rows, ledger)?;
+            append_side(alloc, model, number, at_least, rows, ledger)
         }
     }
 }

@@ -11,7 +11,7 @@ ghost use Rattle.rob_sets.specs.FirstWide.{HasCause, NothingWide, RoseIfWide};
 ghost use Rattle.rob_sets.specs.SetForm.{IsSetForm, SetFits, judged_set, judged_statements};
 
 use crate::bound::append_bounds;
-use crate::budget::append_budget;
+use crate::budget::{Budget, append_budget};
 use crate::error::ElabErr;
 use crate::line::{Comparison, append_line};
 use crate::row::{lift_count, member_count};
@@ -67,35 +67,45 @@ fn append_statements<N: Exact, L: Ledger>(
     let mut number: u32 = 0;
     let mut lift: u32 = 0;
     for line in model.set_lines.items() {
-        append_statement(alloc, model, number, lift, line, rows, ledger)?;
+        let statement = Statement { number, lift, line };
+        append_statement(alloc, model, statement, rows, ledger)?;
         number += 1;
         lift += member_count(line);
     }
     Ok(())
 }
 
-/// Clears and appends the rows of the statement of that number, where the next column `t` has number `lift`.
+/// The statement of that number, where the next column `t` has number `lift`.
+#[derive(Clone, Copy)]
+struct Statement<'a, N> {
+    number: u32,
+    lift: u32,
+    line: &'a SetLine<N>,
+}
+
+/// Clears and appends the rows of a statement.
 fn append_statement<N: Exact, L: Ledger>(
     alloc: Global,
     model: &Model<N>,
-    number: u32,
-    lift: u32,
-    line: &SetLine<N>,
+    statement: Statement<N>,
     rows: &mut List<SetRow>,
     ledger: &mut L,
 ) -> Result<(), ElabErr>
     requires valid { IsValid N.value model.now }
-    requires line { IsSetLine (robust N.value model.now) (set_line_of N.value line.now) }
-    requires few { length rows.old + (2 * lift_count_of (set_line_of N.value line.now ∷ []) + 2)
-        < 1000 }
-    requires few_lifts { lift + lift_count_of (set_line_of N.value line.now ∷ []) < 1000 }
+    requires line { IsSetLine (robust N.value model.now) (set_line_of N.value statement.line.now) }
+    requires few { length rows.old
+        + (2 * lift_count_of (set_line_of N.value statement.line.now ∷ []) + 2) < 1000 }
+    requires few_lifts { statement.lift
+        + lift_count_of (set_line_of N.value statement.line.now ∷ []) < 1000 }
     ensures rows { Appends N.limit (robust N.value model.now)
-        (statement_rows (robust N.value model.now) lift (set_line_of N.value line.now ∷ []))
-        (judged_statements (robust N.value model.now) number lift (length rows.old)
-        (set_line_of N.value line.now ∷ []))
+        (statement_rows (robust N.value model.now) statement.entry.lift
+        (set_line_of N.value statement.entry.line.now ∷ []))
+        (judged_statements (robust N.value model.now) statement.entry.number statement.entry.lift
+        (length rows.old) (set_line_of N.value statement.entry.line.now ∷ []))
         rows.old rows.new (L.wides ledger.old) (L.wides ledger.new) result }
     ensures counted { NeverFell L.ops L.wides ledger.old ledger.new }
 {
+    let Statement { number, lift, line } = statement;
     match line {
         SetLine::Line { left, rel, right } => {
             let comparison = Comparison {
@@ -106,7 +116,12 @@ fn append_statement<N: Exact, L: Ledger>(
             append_line(alloc, model, number, &comparison, rows, ledger)
         }
         SetLine::Budget { limit, members } => {
-            append_budget(alloc, model, lift, *limit, members.items(), rows, ledger)
+            let budget = Budget {
+                lift,
+                limit: *limit,
+                members: members.items(),
+            };
+            append_budget(alloc, model, budget, rows, ledger)
         }
     }
 }

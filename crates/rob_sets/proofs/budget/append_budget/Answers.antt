@@ -18,8 +18,9 @@ append_member-requires-clause-few g c =
 
 pub append_member-requires-clause-few_parameters : goal.append_member-requires-clause-few_parameters
 append_member-requires-clause-few_parameters g c =
-    member_few g.N.Exact.value (robust g.N.Exact.value c.args.model.now) c.args.members.now c.loop-member.member-index
-    c.member-item.result c.loop-member-test.true c.member-item.is c.requires.members c.requires.valid.limits.parameters
+    member_few g.N.Exact.value (robust g.N.Exact.value c.args.model.now) c.args.budget.members.now
+    c.loop-member.member-index c.member-item.result c.loop-member-test.true c.member-item.is c.requires.members
+    c.requires.valid.limits.parameters
 
 pub append_member-requires-in-loop-member-clause-few : goal.append_member-requires-in-loop-member-clause-few
 append_member-requires-in-loop-member-clause-few g c =
@@ -29,8 +30,9 @@ append_member-requires-in-loop-member-clause-few g c =
 pub append_member-requires-in-loop-member-clause-few_parameters :
     goal.append_member-requires-in-loop-member-clause-few_parameters
 append_member-requires-in-loop-member-clause-few_parameters g c =
-    member_few g.N.Exact.value (robust g.N.Exact.value c.args.model.now) c.args.members.now c.loop-member.member-index
-    c.member-item.result c.loop-member-test.true c.member-item.is c.requires.members c.requires.valid.limits.parameters
+    member_few g.N.Exact.value (robust g.N.Exact.value c.args.model.now) c.args.budget.members.now
+    c.loop-member.member-index c.member-item.result c.loop-member-test.true c.member-item.is c.requires.members
+    c.requires.valid.limits.parameters
 
 pub returns-in_err-append_member-clause-rows : goal.returns-in_err-append_member-clause-rows
 returns-in_err-append_member-clause-rows g c =
@@ -64,7 +66,7 @@ returns-clause-rows g c =
     sum_ends c.loop-member.invariant.so_far c.loop-member-test.false _ c.append_row.new.rows
     (g.L.Ledger.wides c.args.ledger.now) (g.L.Ledger.wides c.budget_table.new.ledger)
     (g.L.Ledger.wides c.append_row.new.ledger) c.append_row.result
-    (c.in_ok-table.ensures.row (map (member_of g.N.Exact.value) c.args.members.now)
-    (length-map c.args.members.now (member_of g.N.Exact.value)))
+    (c.in_ok-table.ensures.row (map (member_of g.N.Exact.value) c.args.budget.members.now)
+    (length-map c.args.budget.members.now (member_of g.N.Exact.value)))
     (omega (arith, c.loop-member.invariant.counted.wides, c.budget_table.ensures.counted.wides))
     c.append_row.ensures.row

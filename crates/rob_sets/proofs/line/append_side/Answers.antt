@@ -21,8 +21,8 @@ pub returns-in-Ok-clause-row : goal.returns-in-Ok-clause-row
 returns-in-Ok-clause-row g c =
     let value = g.N.Exact.value in
     let m = robust value c.args.model.now in
-    let l = expression_of value c.args.left.now in
-    let r = expression_of value c.args.right.now in
+    let l = expression_of value c.args.sides.left.now in
+    let r = expression_of value c.args.sides.right.now in
     let f = numbers_of value c.in-Ok.table in
     appends_then (expression_row m (difference l r) ∷ [])
     (judged_row m (length c.args.rows.now) (expression_row m (difference l r)) ∷ []) c.append_row.new.rows
@@ -44,7 +44,7 @@ pub returns-in-Err-clause-row : goal.returns-in-Err-clause-row
 returns-in-Err-clause-row g c =
     let value = g.N.Exact.value in
     let m = robust value c.args.model.now in
-    let e = difference (expression_of value c.args.left.now) (expression_of value c.args.right.now) in
+    let e = difference (expression_of value c.args.sides.left.now) (expression_of value c.args.sides.right.now) in
     stops_here g.N.Exact.limit m (judge.coefficients (SetLine c.args.number) e)
     (judged_row m (length c.args.rows.now) (expression_row m e) ∷ [])
     c.in-Err.stop c.stopped.result (Coefficient (SetLine c.args.number)) (g.L.Ledger.wides c.args.ledger.now)

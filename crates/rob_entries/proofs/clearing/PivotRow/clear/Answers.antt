@@ -18,7 +18,8 @@ within_here g c = subst (λ (v : Clearing). IsWithin v.bound v.entries) c.self.v
 -- the factors, of the two entries at the place
 parts_here : (g : Over) (c : After-lowest-p g)
     → ArePartsOf (at c.args.self.now.entries c.args.cell.place)
-    (at (map g.E.Entry.value c.args.row.now) c.args.cell.place) (g.E.Entry.value c.lowest-p.result.0) (g.E.Entry.value c.lowest-p.result.1)
+    (at (map g.E.Entry.value c.args.row.now) c.args.cell.place)
+    (g.E.Entry.value c.lowest-p.result.0) (g.E.Entry.value c.lowest-p.result.1)
 parts_here g c =
     parts_read g.E.Entry.value c.self.inside.entries.items c.args.row.now c.args.cell.place
     (ap (λ (v : Clearing). v.entries) c.self.view_is) c.requires.ready.same_width c.requires.ready.place_in
