@@ -13,7 +13,7 @@ ghost use Rattle.rob_cuts.specs.Covered.{covered_plan};
 ghost use Rattle.rob_cuts.specs.Rounds.{RoundFits};
 
 use crate::items::items;
-use crate::kept::Kept;
+use crate::kept::{Covered, Kept};
 use rob_cert::{Cert, Round, Status};
 use rob_dualize::infeasible::with_items;
 use rob_dualize::told::{dual_values, exact_weights, whole};
@@ -28,8 +28,7 @@ pub fn optimal<N: Exact>(
     forms: u32,
     rounds: &[Round],
     solver: &Solver<N>,
-    plan: Plan<N>,
-    kept: Kept<N>,
+    best: Covered<N>,
     inside: Scenario<N>,
 ) -> Result<Cert<N>, Memory>
     requires optimum { HasOptimum solver.now }
@@ -37,9 +36,10 @@ pub fn optimal<N: Exact>(
     requires few { positions solver.now < 2 ^ 31 }
     requires fits { Each (RoundFits N.limit) rounds.now }
     ensures certificate { IfOk result (λ cert. certificate_of N.value cert
-        ≡ optimal_with (scenario_of N.value inside) (covered_plan N.value plan kept)
+        ≡ optimal_with (scenario_of N.value inside) (covered_plan N.value best.plan best.kept)
         (items_told forms rounds.now (dual_of solver.now))) }
 {
+    let Covered { plan, kept } = best;
     let weights = dual_values(alloc, solver, rounds.len() as u32)?;
     let items = items(alloc, forms, rounds, weights.items())?;
     Ok(Cert {

@@ -6,6 +6,7 @@ ghost use Rattle.rob_algebra.specs.Fraction.{of_int, ◌+ℚ◌, ◌≤ℚ◌};
 ghost use Rattle.rob_meaning.specs.Places.{0ℚ};
 
 use rob_cert::Cover;
+use rob_model::Plan;
 use rob_number::{Exact, List};
 use rob_worst::sums::{long_product, long_sum};
 
@@ -14,6 +15,13 @@ use rob_worst::sums::{long_product, long_sum};
 pub struct Kept<N> {
     pub scale: N,
     pub covers: List<Cover<N>>,
+}
+
+/// A plan, and what shows that it keeps all forms.
+#[derive(Debug, Drop)]
+pub struct Covered<N> {
+    pub plan: Plan<N>,
+    pub kept: Kept<N>,
 }
 
 /// Whether a peak and a constant part sum to at most 0.

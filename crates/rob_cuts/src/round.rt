@@ -30,7 +30,7 @@ ghost use Rattle.rob_cuts.specs.declared.round.Outcome.TheVariants as Leads;
 
 use crate::certificate::{infeasible, optimal, unbounded};
 use crate::cut::Cut;
-use crate::kept::Kept;
+use crate::kept::Covered;
 use crate::look::{PlanLook, StepLook, look_at_plan, look_at_step};
 use crate::run::Run;
 use crate::step::whole_step;
@@ -39,7 +39,7 @@ use rob_dualize::Elaborated;
 use rob_dualize::stop::{or_stop, position, wide, wide_at};
 use rob_dualize::told::basis;
 use rob_elab::Forms;
-use rob_model::{Plan, Program, Spot, Where};
+use rob_model::{Program, Spot, Where};
 use rob_number::{Exact, Ledger, List, LpKind, Memory};
 use rob_rows::Lp;
 use rob_sets::error::Stop as Refusal;
@@ -130,7 +130,8 @@ fn best<N: Exact, L: Ledger>(
     match look_at_plan(alloc, model, finder, solver, ledger) {
         Ok(PlanLook::Broken(cut)) => or_stop(best_round(alloc, run, solver, cut)),
         Ok(PlanLook::Kept(plan, kept)) => {
-            or_stop(optimum(alloc, model.forms, finder, run, solver, plan, kept))
+            let best = Covered { plan, kept };
+            or_stop(optimum(alloc, model.forms, finder, run, solver, best))
         }
         Err(stop) => Err(stop),
     }
@@ -195,8 +196,7 @@ fn optimum<N: Exact>(
     finder: &Finder<N>,
     run: &Run,
     solver: &Solver<N>,
-    plan: Plan<N>,
-    kept: Kept<N>,
+    best: Covered<N>,
 ) -> Result<Outcome<N>, Memory>
     requires few { length forms.now.matrices < 2 ^ 32 }
     requires finder { (set : SetRows) × AreElaborated N.limit forms.now set × IsFewSet set
@@ -206,12 +206,12 @@ fn optimum<N: Exact>(
     requires few_rows { positions solver.now < 2 ^ 31 }
     requires fits { Each (RoundFits N.limit) run.now.rounds }
     ensures end { IfOk result (λ outcome. IsEndWith N.value forms.now finder.now
-        (λ inside. optimal_with inside (covered_plan N.value plan kept)
+        (λ inside. optimal_with inside (covered_plan N.value best.plan best.kept)
         (items_told (length forms.now.matrices) run.now.rounds (dual_of solver.now))) outcome) }
 {
     let inside = finder.inside(alloc, forms)?;
     let count = forms.matrices.items().len() as u32;
-    let cert = optimal(alloc, count, run.rounds.items(), solver, plan, kept, inside)?;
+    let cert = optimal(alloc, count, run.rounds.items(), solver, best, inside)?;
     Ok(Outcome::End(cert))
 }
 

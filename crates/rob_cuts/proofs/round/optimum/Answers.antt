@@ -26,7 +26,8 @@ returns g c =
         λ m set model f st is. c.in_ok-inside.ensures.scenario m set model f st is,
         c.in_ok-cert.ensures.certificate
             ∙ ap₂ (λ (n : ℕ) (rounds : List Told).
-            optimal_with (scenario_of value c.in_ok-inside.inside) (covered_plan value c.args.plan c.args.kept)
+            optimal_with (scenario_of value c.in_ok-inside.inside)
+            (covered_plan value c.args.best.plan c.args.best.kept)
             (items_told n rounds (dual_of c.args.solver.now)))
             (ap length c.items.ensures.list) c.items-2.ensures.list,
       );
