@@ -4,6 +4,7 @@ use Rattle.std.proofs.Common.{◌≡◌, ℕ, ◌+◌, ◌≤◌, Bool, true, fa
 use Rattle.std.specs.List.{find}
 use Rattle.std.proofs.lemmas.Bool.{leb-true}
 use Rattle.rob_algebra.specs.Items.{Each}
+use Rattle.rob_algebra.proofs.ListLemmas.{each_append}
 use Rattle.rob_index.specs.Symbols.{Symbol}
 use Rattle.rob_index.specs.Statements.{Name, Statement, Tree, Indexed}
 use Rattle.rob_index.specs.Counting.{lines_tokens}
@@ -14,7 +15,6 @@ use Rattle.rob_index.specs.Reading.{State, later_first, either_first, line_has, 
 use Rattle.rob_index.specs.Rules.{IndexFault, index_unknown, range_too_long, index_out, too_much, no_statement, has_fault, in_order, most_tokens}
 use Rattle.rob_index.specs.Search.{has_room, named}
 use Rattle.rob_index.proofs.SearchLemmas.{named_first, named_some}
-use Rattle.rob_index.proofs.NamingLemmas.{each_join}
 
 lines_tokens-append : (limit : ℕ) (xs ys : List Statement)
     → lines_tokens limit (xs ++ ys) ≡ lines_tokens limit xs + lines_tokens limit ys
@@ -155,6 +155,6 @@ module _ (limit : ℕ) (words : List Name) (Known Later : Type 0) (order : List 
   all_of_lines ([] ∷ lines) e list f h = of_more [] lines list (all_of_lines lines e list f h)
   all_of_lines ((x ∷ xs) ∷ lines) e list f h =
       subst (Each (OfLine ((x ∷ xs) ∷ lines))) (sym h.4)
-      (each_join (OfLine ((x ∷ xs) ∷ lines)) (expand words h.0) h.1
+      (each_append (OfLine ((x ∷ xs) ∷ lines)) (expand words h.0) h.1
       (of_one (x ∷ xs) lines e h.0 h.2 (none_named e h.0 h.3) (expand words h.0) (λ p m. m))
       (of_more (x ∷ xs) lines h.1 (all_of_lines lines (after e h.0) h.1 f h.5)))

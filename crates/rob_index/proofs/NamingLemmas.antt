@@ -4,6 +4,7 @@ use Rattle.std.specs.Prelude.{ℤ, Option, Some, None}
 use Rattle.std.specs.List.{list_any}
 use Rattle.std.proofs.lemmas.Bool.Decides.{nat_tests}
 use Rattle.rob_algebra.specs.Items.{Each}
+use Rattle.rob_algebra.proofs.ListLemmas.{each_append}
 use Rattle.rob_index.specs.Statements.{Name, Plain, Parts, Factors, Member, Statement, Index, Ref, Range, Tree, TreeParts, TreeFactors, Ranged, Sides, Indexed}
 use Rattle.rob_index.specs.Statements as stated
 use Rattle.rob_index.specs.Settings.{Setting, settings, with_value, values}
@@ -28,10 +29,6 @@ pub none_among : {A : Type 0} (p : A → Bool) (xs : List A) (x : A) → list_an
 none_among p xs x h m = not_true (p x) (λ (yes : p x ≡ true). let all = any_from p xs x m yes in cc)
 
 -- ---- items
-pub each_join : {A : Type 0} (P : A → Type 0) (xs ys : List A) → Each P xs → Each P ys → Each P (xs ++ ys)
-each_join P [] ys h k = k
-each_join P (x ∷ xs) ys h k = (h.0, each_join P xs ys h.1 k)
-
 each_mapped : {A B : Type 0} (P : B → Type 0) (f : A → B) (xs : List A) → ((x : A) → Among x xs → P (f x))
     → Each P (map f xs)
 each_mapped P f [] h = tt
@@ -139,7 +136,7 @@ module _ (words : List Name) (Q : Ref → Type 0) where
       let name = ref_places (above ++ x.ranges) (ref x.item) in
       let none = none_both is_out (own ++ name) (each_places ref above xs) h in
       let here_none = (none_both is_out own name none.0).1 in
-      each_join P (map (λ e. make e x.item) (settings x.ranges setting)) (expand_each make setting xs)
+      each_append P (map (λ e. make e x.item) (settings x.ranges setting)) (expand_each make setting xs)
       (each_mapped P (λ e. make e x.item) (settings x.ranges setting)
       (λ e n. to e x.item
       (ref_named (above ++ x.ranges) (ref x.item) q.0 here_none e (inside_more above x.ranges setting e m n))))
