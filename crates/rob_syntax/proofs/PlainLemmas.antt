@@ -9,7 +9,7 @@ use Rattle.rob_syntax.specs.Plain.{is_nothing, is_plain_tree, are_plain_parts, a
 use Rattle.rob_index.proofs.ListLemmas.{both_true, true_both}
 
 -- ---- tests and what they say
-nothing_from : {A : Type 0} (xs : List A) → is_nothing xs ≡ true → xs ≡ []
+pub nothing_from : {A : Type 0} (xs : List A) → is_nothing xs ≡ true → xs ≡ []
 nothing_from [] h = refl
 nothing_from (x ∷ xs) h = cc
 
