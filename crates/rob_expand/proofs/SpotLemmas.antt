@@ -23,6 +23,7 @@ use Rattle.rob_expand.specs.Lines.{entries_tokens, entry_count, items_left}
 use Rattle.rob_expand.specs.Room.{left_of, after}
 use Rattle.rob_expand.specs.Spots.{IsThin, IsThinAt, busy, is_idle, pick, picks}
 use Rattle.rob_ranges.specs.Spans.{Every}
+use Rattle.rob_syntax.proofs.PlainLemmas.{nothing_from}
 use Rattle.rob_expand.proofs.FindingLemmas.{worse_assoc, worst_append}
 use Rattle.rob_expand.proofs.JudgeLemmas.{quiet_item}
 use Rattle.rob_expand.proofs.LineLemmas.{entries_some}
@@ -30,17 +31,13 @@ use Rattle.rob_expand.proofs.RoomLemmas.{left_some, left_none, left_zero}
 use Rattle.rob_expand.proofs.WalkLemmas.{flat_mapped}
 
 -- ---- an idle item
-empty_is : {A : Type 0} (xs : List A) → is_nothing xs ≡ true → xs ≡ []
-empty_is [] h = refl
-empty_is (x ∷ xs) h = cc
-
 not_is : (b : Bool) → not b ≡ true → b ≡ false
 not_is true h = cc
 not_is false h = refl
 
 idle_none : (short : Bool) (x : Item) (vs : List ℤ) → is_idle short x vs ≡ true → extensions x.ranges vs ≡ []
 idle_none short x vs h =
-    empty_is (extensions x.ranges vs)
+    nothing_from (extensions x.ranges vs)
     (both_true (is_nothing (extensions x.ranges vs)) (not (short && is_long_in x.ranges vs)) h).0
 
 idle_short : (x : Item) (vs : List ℤ) → is_idle true x vs ≡ true → is_long_in x.ranges vs ≡ false
