@@ -10,8 +10,8 @@ loop-i-preserved g c =
     let positive : 0 < c.loop-i.greatest = c.loop-i.invariant.positive in
     record {
       positive = omega arith;
-      within = within_next c.loop-i.greatest c.greatest_of_row-greatest.result c.loop-i.i lp from c.loop-i.invariant.within
-          c.greatest_of_row-greatest.ensures.row c.greatest_of_row-greatest.ensures.right;
+      within = within_next c.loop-i.greatest c.greatest_of_row-greatest.result c.loop-i.i lp from
+          c.loop-i.invariant.within c.greatest_of_row-greatest.ensures.row c.greatest_of_row-greatest.ensures.right;
       least = λ h p w. c.greatest_of_row-greatest.ensures.least h (c.loop-i.invariant.least h p w) w;
     }
 

@@ -7,4 +7,6 @@ use Rattle.rob_tests.proofs.simplex.combined.Goals as goal
 pub combined_from-requires-clause-resumable : goal.combined_from-requires-clause-resumable
 combined_from-requires-clause-resumable g c =
     let P = program_of c.args.lp.now in
-    (P, c.in-Ok-Optimal.ensures.resumable P c.requires.made (subst (λ (k : LpKind). HasAnswered k c.solve.new.self) c.in-Ok-Optimal.field-0-is c.in-Ok-Optimal.ensures.answered).1)
+    let answered = subst (λ (k : LpKind). HasAnswered k c.solve.new.self) c.in-Ok-Optimal.field-0-is
+    c.in-Ok-Optimal.ensures.answered in
+    (P, c.in-Ok-Optimal.ensures.resumable P c.requires.made answered.1)
