@@ -31,29 +31,7 @@ use Rattle.rob_rules.specs.Stages.{behind_all}
 use Rattle.rob_round_trip.proofs.Faultless.FaultlessParts.{HasNoFaultBehind}
 use Rattle.rob_round_trip.proofs.Faultless.FaultlessStatements.{answer_of, declared_set_faultless, parameter_faultless, variable_faultless, set_faultless, adaptive_faultless, goal_faultless, row_faultless}
 use Rattle.rob_round_trip.proofs.ReadBack.LinesText.{rows_declarable}
-use Rattle.rob_round_trip.proofs.Faultless.CanonicalParts.{behind_append, goal_later, GoalIs, no_goal_is, any_each, each_place, set_lines_of, goal_line_of, row_lines_of, Parted, joined}
-
--- ---- items beside their sets
-each_beside : {A : Type 0} (P : A → Type 0) (xs : List A) (Ss : List ℕ) → Each P xs
-    → Each (λ (z : A × ℕ). P z.0) (beside xs Ss)
-each_beside P [] Ss h = tt
-each_beside P (x ∷ xs) [] h = (h.0, each_beside P xs [] h.1)
-each_beside P (x ∷ xs) (S ∷ Ss) h = (h.0, each_beside P xs Ss h.1)
-
-numbers_beside : {A : Type 0} (n : ℕ) (xs : List A) (Ss : List ℕ) → length Ss ≡ length xs → Each (λ S. S < n) Ss
-    → Each (λ (z : A × ℕ). z.1 < n) (beside xs Ss)
-numbers_beside n [] Ss same h = tt
-numbers_beside n (x ∷ xs) [] same h = absurd (omega (arith, same))
-numbers_beside n (x ∷ xs) (S ∷ Ss) same h = (h.0, numbers_beside n xs Ss (omega (arith, same)) h.1)
-
-rows_numbered : (words : List (List ℕ)) (q k : ℕ) (rs : List model.Row) (Ss : List ℕ)
-    → numbered words (λ (z : model.Row × ℕ). z.0.name) (λ k z. RowName) k (beside (map (row_written q) rs) Ss)
-    ≡ numbered words (λ (r : model.Row). r.name) (λ k r. RowName) k rs
-rows_numbered words q k [] Ss = refl
-rows_numbered words q k (r ∷ rs) [] =
-    ap (λ (l : List (ℕ × Sort)). (number_of words r.name, RowName) ∷ l) (rows_numbered words q (k + 1) rs [])
-rows_numbered words q k (r ∷ rs) (S ∷ Ss) =
-    ap (λ (l : List (ℕ × Sort)). (number_of words r.name, RowName) ∷ l) (rows_numbered words q (k + 1) rs Ss)
+use Rattle.rob_round_trip.proofs.Faultless.CanonicalParts.{behind_append, goal_later, GoalIs, no_goal_is, any_each, each_place, each_beside, numbers_beside, rows_numbered, set_lines_of, goal_line_of, row_lines_of, Parted, joined}
 
 module _ (limit : ℕ) (words : List (List ℕ)) (m : RobustModel) (d : AreDeclarable words m)
     (spelled : Each IsSpelled (declared_names m)) (named : IsNamed m)

@@ -1,20 +1,25 @@
--- The statements of canonical lines, kind by kind, and what is known behind statements.
-use Rattle.std.proofs.Common.{◌≡◌, ℕ, zero, suc, ◌<◌, false, List, [], ◌∷◌, ◌++◌, length, map, get_or, refl, ap, ◌∙◌, subst, arith}
+-- The statements of canonical lines, kind by kind; items beside their sets; and what is known behind statements.
+use Rattle.std.proofs.Common.{◌≡◌, ℕ, zero, suc, ◌+◌, ◌<◌, false, List, [], ◌∷◌, ◌++◌, length, map, get_or, refl, ap, ◌∙◌, subst, arith}
 use Rattle.rob_meaning.specs.Places.{Each}
+use Rattle.rob_meaning.specs.RobustModel as model
 use Rattle.rob_meaning.specs.RobustModel.{RobustModel, written_parameters}
+use Rattle.rob_rules.specs.declared.sort.Sort.{Sort}
+use Rattle.rob_rules.specs.declared.sort.Sort.TheVariants.{RowName}
 use Rattle.rob_syntax.specs.declared.syntax.Goal.{Goal}
 use Rattle.rob_syntax.specs.declared.syntax.Statement.{Statement}
 use Rattle.rob_syntax.specs.declared.syntax.Statement.TheVariants as parsed
 use Rattle.rob_write.specs.Pages.{Written}
-use Rattle.rob_write.specs.WrittenModel.{written_model}
+use Rattle.rob_write.specs.WrittenModel.{row_written, written_model}
 use Rattle.rob_write.specs.ExpressionWords.{naming_of}
-use Rattle.rob_write.specs.StatementWords.{declared_set_words, lines_over, over_words, parameter_words, variable_words, adaptive_words, set_words, row_words, goal_words}
+use Rattle.rob_write.specs.StatementWords.{beside, declared_set_words, lines_over, over_words, parameter_words, variable_words, adaptive_words, set_words, row_words, goal_words}
 use Rattle.rob_write.specs.Canonical.{lines_of}
 use Rattle.rob_parse.specs.Written.{goal_in}
 use Rattle.rob_round_trip.specs.Pages.{symbols_on}
 use Rattle.rob_round_trip.specs.Readable.{AreStatements}
 use Rattle.rob_rules.specs.Scopes.{Earlier, behind, is_goal}
 use Rattle.rob_syntax.specs.Statements.{IsStatement}
+use Rattle.rob_syntax.specs.Symbols.{number_of}
+use Rattle.rob_round_trip.proofs.Faultless.CanonicalScopes.{numbered}
 use Rattle.rob_round_trip.proofs.Faultless.SaidLines.{goal_said}
 use Rattle.rob_round_trip.proofs.Faultless.CanonicalWalk.{statements_apart}
 use Rattle.rob_rules.specs.Stages.{behind_all}
@@ -57,6 +62,29 @@ each_place P name [] h k inside = absurd (omega arith)
 each_place P name (x ∷ xs) h zero inside = h.0
 each_place P name (x ∷ xs) h (suc k) inside = each_place P name xs h.1 k (omega arith)
 
+-- ---- items beside their sets
+pub each_beside : {A : Type 0} (P : A → Type 0) (xs : List A) (Ss : List ℕ) → Each P xs
+    → Each (λ (z : A × ℕ). P z.0) (beside xs Ss)
+each_beside P [] Ss h = tt
+each_beside P (x ∷ xs) [] h = (h.0, each_beside P xs [] h.1)
+each_beside P (x ∷ xs) (S ∷ Ss) h = (h.0, each_beside P xs Ss h.1)
+
+pub numbers_beside : {A : Type 0} (n : ℕ) (xs : List A) (Ss : List ℕ) → length Ss ≡ length xs → Each (λ S. S < n) Ss
+    → Each (λ (z : A × ℕ). z.1 < n) (beside xs Ss)
+numbers_beside n [] Ss same h = tt
+numbers_beside n (x ∷ xs) [] same h = absurd (omega (arith, same))
+numbers_beside n (x ∷ xs) (S ∷ Ss) same h = (h.0, numbers_beside n xs Ss (omega (arith, same)) h.1)
+
+pub rows_numbered : (words : List (List ℕ)) (q k : ℕ) (rs : List model.Row) (Ss : List ℕ)
+    → numbered words (λ (z : model.Row × ℕ). z.0.name) (λ k z. RowName) k (beside (map (row_written q) rs) Ss)
+    ≡ numbered words (λ (r : model.Row). r.name) (λ k r. RowName) k rs
+rows_numbered words q k [] Ss = refl
+rows_numbered words q k (r ∷ rs) [] =
+    ap (λ (l : List (ℕ × Sort)). (number_of words r.name, RowName) ∷ l) (rows_numbered words q (k + 1) rs [])
+rows_numbered words q k (r ∷ rs) (S ∷ Ss) =
+    ap (λ (l : List (ℕ × Sort)). (number_of words r.name, RowName) ∷ l) (rows_numbered words q (k + 1) rs Ss)
+
+-- ---- kind by kind
 -- the lines of statements on sets, of the goal, and of rows
 abbrev pub set_lines_of : RobustModel → List (List Written)
 set_lines_of m = lines_over (set_words (naming_of m)) m.sets (written_model m).set_lines m.line_sets
