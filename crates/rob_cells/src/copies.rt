@@ -1,6 +1,6 @@
 //! The parameters of a cell, and its copies of the adaptive variables.
 
-ghost use Rattle.std.specs.Prelude.{◌≡◌, ◌++◌, ◌∷◌, IfOk, OnOk, map};
+ghost use Rattle.std.specs.Prelude.{◌≡◌, ◌++◌, IfOk, OnOk, map};
 ghost use Rattle.rob_meaning.specs.RobustModel.{RobustModel, in_set};
 ghost use Rattle.rob_model.specs.View.{adaptive_of, parameter_of};
 ghost use Rattle.rob_pieces.specs.SplitModel as split;

@@ -1,6 +1,6 @@
 //! The split model, built one cell after another.
 
-ghost use Rattle.std.specs.Prelude.{◌≡◌, ◌<◌, ◌≤◌, ◌++◌, ◌∷◌, [], ◌-◌, IfOk, OnOk, List, length, map};
+ghost use Rattle.std.specs.Prelude.{◌≡◌, ◌<◌, ◌≤◌, ◌++◌, [], ◌-◌, IfOk, OnOk, List, length, map};
 ghost use Rattle.rob_cells.specs.Building.{split_over, with_cell};
 ghost use Rattle.rob_cells.specs.View.{cut_of};
 ghost use Rattle.rob_meaning.specs.Places.{tabulate};
