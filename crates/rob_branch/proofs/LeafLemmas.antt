@@ -43,13 +43,6 @@ length-paths front left_open = refl
 
 module _ (limit : ℕ) (claimed : Status) (value : Fraction) where
   -- ---- one leaf
-  pub passed_leaf : (box : RobustModel) (c : Certificate) (n : ℕ) → IsLeafJudged limit claimed value box c check.Passed
-      → IsPassedNode limit claimed value box (leaf c) n (n + 1)
-  passed_leaf box c n h = record { number = refl; passed = (h, tt) }
-
-  pub passed_open : (box : RobustModel) (n : ℕ) → IsPassedNode limit claimed value box left_open n (n + 1)
-  passed_open box n = record { number = refl; passed = (tt, tt) }
-
   pub leaf_stops : (box : RobustModel) (front : List Branch) (c : Certificate) (n : ℕ) (P : Leaf → Type 0)
       → P (record { box = box; certificate = Some c })
       → StopsAt limit claimed value box front (leaf c) n n front P

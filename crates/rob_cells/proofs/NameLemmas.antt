@@ -1,5 +1,5 @@
 -- The names of the split model, part by part.
-use Rattle.std.proofs.Common.{◌≡◌, ℕ, suc, ◌+◌, ◌<◌, ◌≤◌, List, [], ◌∷◌, ◌++◌, map, length, get_or, drop, refl, ap, ap₂, sym, ◌∙◌, append_assoc, arith}
+use Rattle.std.proofs.Common.{◌≡◌, ℕ, suc, ◌+◌, ◌≤◌, List, [], ◌∷◌, ◌++◌, map, length, refl, ap, ap₂, sym, ◌∙◌, append_assoc, arith}
 use Rattle.std.specs.Prelude.{codes, flat_map, Option, Some, None}
 use Rattle.std.proofs.lemmas.List.{map-append}
 use Rattle.rob_algebra.specs.Fraction.{Fraction}
@@ -10,9 +10,7 @@ use Rattle.rob_meaning.specs.Names.{Name}
 use Rattle.rob_meaning.specs.Places.{Each, tabulate}
 use Rattle.rob_meaning.specs.RobustModel.{AdaptiveVariable, Parameter, Relation, RobustModel, Row, Variable, at_least, at_most}
 use Rattle.rob_meaning.specs.SetConditions.{if_declared}
-use Rattle.rob_model.proofs.PartLemmas.{drop_at}
-use Rattle.rob_model.specs.View.{adaptive_of, parameter_of, robust, variable_of}
-use Rattle.rob_model.specs.declared.model.Adaptive.{Adaptive}
+use Rattle.rob_model.specs.View.{parameter_of, robust, variable_of}
 use Rattle.rob_model.specs.declared.model.Model.{Model}
 use Rattle.rob_model.specs.declared.model.Param.{Param}
 use Rattle.rob_model.specs.declared.model.Var.{Var}
@@ -47,18 +45,6 @@ bound_row_names c (y ∷ ys) =
 -- each name has at most 32 bytes
 abbrev pub AreShort : List Name → Type 0
 AreShort names = Each (λ name. length name ≤ 32) names
-
--- ---- one name more
-module _ {X C : Type 0} (of : X → C) (f : C → Name) (xs : List X) (all : List Name) where
-  pub name_more : (i : ℕ) (x : X) (y : Name) (done next : List Name) → i < length xs → x ≡ get_or xs i x
-      → y ≡ f (of x) → next ≡ done ++ y ∷ []
-      → done ++ map f (map of (drop i xs)) ≡ all → next ++ map f (map of (drop (i + 1) xs)) ≡ all
-  name_more i x y done next h e made pushed so_far =
-      ap (λ ns. ns ++ map f (map of (drop (i + 1) xs))) pushed
-      ∙ append_assoc done (y ∷ []) (map f (map of (drop (i + 1) xs)))
-      ∙ ap (λ b. done ++ b ∷ map f (map of (drop (i + 1) xs))) made
-      ∙ ap (λ l. done ++ map f (map of l)) (sym (drop_at xs i x h e))
-      ∙ so_far
 
 -- the names of one cell more
 pub cell_names_more : (f : ℕ → List Name) (old done next : List Name) (i : ℕ) → next ≡ done ++ f (i + 1)
@@ -105,29 +91,6 @@ bound_names_are m c k (y ∷ ys) =
         → map (λ (r : Row). r.name) (if_declared (bound_row m c name k relation) bound) ≡ bound_name c name bound
     one name relation None = refl
     one name relation (Some b) = refl
-
--- one adaptive variable more
-module _ {N : Type 0} (value : N → Fraction) (c : ℕ) (ys : List (Adaptive N)) (all : List Name) where
-  pub bound_name_more : (i : ℕ) (y : Adaptive N) (before between behind : List Name) → i < length ys → y ≡ get_or ys i y
-      → between ≡ before ++ bound_name c (y.name ++ codes "_lower") (adaptive_of value y).lower
-      → behind ≡ between ++ bound_name c (y.name ++ codes "_upper") (adaptive_of value y).upper
-      → before ++ bound_row_names c (map (adaptive_of value) (drop i ys)) ≡ all
-      → behind ++ bound_row_names c (map (adaptive_of value) (drop (i + 1) ys)) ≡ all
-  bound_name_more i y before between behind h e lower upper so_far =
-      ap (λ l. l ++ rest) (upper ∙ ap (λ l. l ++ high) lower)
-      ∙ append_assoc (before ++ low) high rest
-      ∙ append_assoc before low (high ++ rest)
-      ∙ ap (λ l. before ++ bound_row_names c (map (adaptive_of value) l)) (sym (drop_at ys i y h e))
-      ∙ so_far
-    where
-      low : List Name
-      low = bound_name c (y.name ++ codes "_lower") (adaptive_of value y).lower
-
-      high : List Name
-      high = bound_name c (y.name ++ codes "_upper") (adaptive_of value y).upper
-
-      rest : List Name
-      rest = bound_row_names c (map (adaptive_of value) (drop (i + 1) ys))
 
 -- ---- the names of all rows of a cell
 pub cell_row_names : (m : RobustModel) (c : ℕ) (old first own all : List Name) (word cost : Name) → word ≡ codes "cost"

@@ -1,29 +1,11 @@
 -- Blanks, digits and the slash of a field, byte by byte.
 use Rattle.std.proofs.Common.{◌≡◌, ℕ, zero, suc, ◌+◌, ◌*◌, ◌-◌, ◌<◌, ◌≤◌, List, [], ◌∷◌, ◌++◌, length, get_or, take, drop, refl, sym, ap, ◌∙◌, arith, Bool, true, false, le_trans, inl, inr, subst}
-use Rattle.std.specs.Prelude.{Option, Some, None, nat_le, ◌&&◌, ◌==◌, if◌then◌else◌}
+use Rattle.std.specs.Prelude.{Option, Some, None, nat_le, ◌&&◌, if◌then◌else◌}
 use Rattle.std.proofs.lemmas.Bool.{cases_Bool}
-use Rattle.rob_model.proofs.PartLemmas.{drop_at, drop_past}
-use Rattle.rob_replay.specs.Fields.{is_blank, behind_blanks, all_blank, before_blanks, is_digit, all_digits, value_behind, whole_in, numerator_in, denominator_in}
+use Rattle.rob_model.proofs.PartLemmas.{drop_at}
+use Rattle.rob_replay.specs.Fields.{is_blank, all_blank, before_blanks, is_digit, all_digits, value_behind}
 
 -- ---- blanks
-pub blank_goes : (field : List ℕ) (i b : ℕ) → i < length field → b ≡ get_or field i b → is_blank b ≡ true
-    → behind_blanks (drop i field) ≡ behind_blanks (drop (i + 1) field)
-blank_goes field i b inside is one = ap behind_blanks (drop_at field i b inside is) ∙ goes
-  where
-    goes : behind_blanks (b ∷ drop (i + 1) field) ≡ behind_blanks (drop (i + 1) field)
-    goes = rw one refl
-
-pub blank_stops : (field : List ℕ) (i b : ℕ) → i < length field → b ≡ get_or field i b → is_blank b ≡ false
-    → behind_blanks (drop i field) ≡ drop i field
-blank_stops field i b inside is other =
-    ap behind_blanks (drop_at field i b inside is) ∙ stops ∙ sym (drop_at field i b inside is)
-  where
-    stops : behind_blanks (b ∷ drop (i + 1) field) ≡ b ∷ drop (i + 1) field
-    stops = rw other refl
-
-pub blank_ends : (field : List ℕ) (i : ℕ) → length field ≤ i → behind_blanks (drop i field) ≡ drop (length field) field
-blank_ends field i h = ap behind_blanks (drop_past field i h) ∙ sym (drop_past field (length field) (omega arith))
-
 -- blanks behind change nothing
 all_blank_more : (xs : List ℕ) (b : ℕ) → is_blank b ≡ true → all_blank (xs ++ b ∷ []) ≡ all_blank xs
 all_blank_more [] b one = rw one refl
@@ -78,10 +60,6 @@ abbrev pub whole_left : ℕ → ℕ → List ℕ → Option ℕ
 whole_left limit so_far bytes =
     if all_digits bytes && nat_le (value_behind so_far bytes) limit then Some (value_behind so_far bytes) else None
 
-pub whole_begins : (limit : ℕ) (digits : List ℕ) → (digits ≡ [] → ⊥) → whole_left limit 0 digits ≡ whole_in limit digits
-whole_begins limit [] some = absurd (some refl)
-whole_begins limit (b ∷ digits) some = refl
-
 pub value_grows : (so_far : ℕ) (bytes : List ℕ) → so_far ≤ value_behind so_far bytes
 value_grows so_far [] = omega arith
 value_grows so_far (b ∷ bytes) = le_trans (omega arith) (value_grows (so_far * 10 + (b - 48)) bytes)
@@ -89,19 +67,6 @@ value_grows so_far (b ∷ bytes) = le_trans (omega arith) (value_grows (so_far *
 abbrev pub next_digit : ℕ → ℕ → ℕ → Option ℕ
 next_digit limit so_far b =
     if is_digit b && nat_le (so_far * 10 + (b - 48)) limit then Some (so_far * 10 + (b - 48)) else None
-
-pub digit_goes : (limit so_far b next : ℕ) (bytes : List ℕ) → Some next ≡ next_digit limit so_far b
-    → whole_left limit so_far (b ∷ bytes) ≡ whole_left limit next bytes
-digit_goes limit so_far b next bytes h = case (is_digit b) (nat_le (so_far * 10 + (b - 48)) limit) refl refl
-  where
-    case : (d l : Bool) → is_digit b ≡ d → nat_le (so_far * 10 + (b - 48)) limit ≡ l
-        → whole_left limit so_far (b ∷ bytes) ≡ whole_left limit next bytes
-    case true true d l =
-        let e : Some next ≡ Some (so_far * 10 + (b - 48)) = rw (d, l) at h in
-        let is : so_far * 10 + (b - 48) ≡ next = cc in
-        rw d (ap (λ n. whole_left limit n bytes) is)
-    case true false d l = let e : Some next ≡ None = rw (d, l) at h in cc
-    case false l d e = let e : Some next ≡ None = rw d at h in cc
 
 over : (limit value : ℕ) → limit < value → nat_le value limit ≡ false
 over limit value h = grind arith
@@ -123,37 +88,6 @@ digit_stops limit so_far b bytes h = case (is_digit b) (nat_le (so_far * 10 + (b
     case true false d l =
         rw (d, over limit (value_behind (so_far * 10 + (b - 48)) bytes) (big l)) (none (all_digits bytes) _)
     case false l d e = rw d refl
-
-pub digits_end : (limit so_far : ℕ) → so_far ≤ limit → whole_left limit so_far [] ≡ Some so_far
-digits_end limit so_far h = rw within refl
-  where
-    within : nat_le so_far limit ≡ true
-    within = grind arith
-
--- a whole number that was read is within the limit
-pub whole_within : (limit : ℕ) (digits : List ℕ) (n : ℕ) → Some n ≡ whole_in limit digits → n ≤ limit
-whole_within limit [] n h = cc
-whole_within limit (b ∷ digits) n h =
-    case (all_digits (b ∷ digits)) (nat_le (value_behind 0 (b ∷ digits)) limit) refl refl
-  where
-    case : (d l : Bool) → all_digits (b ∷ digits) ≡ d → nat_le (value_behind 0 (b ∷ digits)) limit ≡ l → n ≤ limit
-    case true true d l =
-        let e : Some n ≡ Some (value_behind 0 (b ∷ digits)) = rw (d, l) at h in
-        let is : n ≡ value_behind 0 (b ∷ digits) = cc in
-        grind arith
-    case true false d l = let e : Some n ≡ None = rw (d, l) at h in cc
-    case false l d e = let e : Some n ≡ None = rw d at h in cc
-
--- ---- the slash
-module _ (word : List ℕ) (i b : ℕ) (inside : i < length word) (is : b ≡ get_or word i b) where
-  pub slash_found : (b == 47) ≡ true → (numerator_in (drop i word) ≡ [])
-      × (denominator_in (drop i word) ≡ Some (drop (i + 1) word))
-  slash_found one = rw (drop_at word i b inside is, one) (refl, refl)
-
-  pub slash_later : (b == 47) ≡ false
-      → (numerator_in (drop i word) ≡ b ∷ numerator_in (drop (i + 1) word))
-      × (denominator_in (drop i word) ≡ denominator_in (drop (i + 1) word))
-  slash_later other = rw (drop_at word i b inside is, other) (refl, refl)
 
 -- ---- a digit at its place
 get_or_any : (xs : List ℕ) (i d e : ℕ) → i < length xs → get_or xs i d ≡ get_or xs i e

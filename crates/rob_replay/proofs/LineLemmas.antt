@@ -1,18 +1,17 @@
 -- One adaptive variable more, and the parts of a line together.
-use Rattle.std.proofs.Common.{◌≡◌, ℕ, zero, suc, ◌+◌, ◌<◌, ◌≤◌, List, [], ◌∷◌, ◌++◌, map, length, get_or, drop, refl, sym, ap, ◌∙◌, arith, add-one, ◌^◌}
+use Rattle.std.proofs.Common.{◌≡◌, ℕ, zero, suc, ◌+◌, ◌<◌, ◌≤◌, List, [], ◌∷◌, map, length, drop, refl, sym, ap, ◌∙◌, arith, add-one, ◌^◌}
 use Rattle.std.proofs.lemmas.List.{length-map}
 use Rattle.std.specs.Prelude.{Option, Some, None}
 use Rattle.rob_algebra.specs.Fraction.{Fraction}
 use Rattle.rob_meaning.specs.RobustModel.{RobustModel, AdaptiveVariable, column_from}
 use Rattle.rob_model.proofs.KeptLemmas.{some_is, through}
-use Rattle.rob_model.proofs.PartLemmas.{drop_at, drop_past}
 use Rattle.rob_model.specs.View.{adaptive_of, row_of}
 use Rattle.rob_model.specs.declared.model.RowDef.{RowDef}
 use Rattle.rob_model.specs.Within.{policy_within, value_within}
 use Rattle.rob_model.specs.declared.model.Adaptive.{Adaptive}
-use Rattle.rob_replay.proofs.GatherLemmas.{gathered_next, gathered_stops, gathered_end, gathered_append, gathered_append_stops}
+use Rattle.rob_replay.proofs.GatherLemmas.{gathered_next, gathered_stops}
 use Rattle.rob_replay.specs.Gathering.{all_of, gathered}
-use Rattle.rob_replay.specs.Lines.{policies_within, bound_slacks, variable_slacks, row_slack, slacks_within, inside_within}
+use Rattle.rob_replay.specs.Lines.{policies_within, bound_slacks, row_slack, slacks_within, inside_within}
 use Rattle.rob_model.proofs.NameCountLemmas.{columns_many}
 
 module _ {N : Type 0} (value : N → Fraction) (limit : ℕ) (m : RobustModel) (plan scenario : List Fraction) where
@@ -50,13 +49,6 @@ module _ {N : Type 0} (value : N → Fraction) (limit : ℕ) (m : RobustModel) (
         ∙ gathered_stops so_far (policy_within limit m plan scenario k)
         (policies_within limit m plan scenario (k + 1) (map (adaptive_of value) (drop (k + 1) ys))) h
 
-    pub policies_end : length ys ≤ k
-        → gathered so_far (policies_within limit m plan scenario k (map (adaptive_of value) (drop k ys))) ≡ Some so_far
-    policies_end h =
-        ap (λ (l : List (Adaptive N)).
-        gathered so_far (policies_within limit m plan scenario k (map (adaptive_of value) l))) (drop_past ys k h)
-        ∙ gathered_end so_far
-
 -- the number of values that were gathered
 pub all_count : {A : Type 0} (xs : List (Option A)) (ys : List A) → all_of xs ≡ Some ys → length xs ≡ length ys
 all_count [] [] h = refl
@@ -80,38 +72,6 @@ policies_count limit m plan scenario n ys xs h =
 module _ {N : Type 0} (value : N → Fraction) (limit : ℕ) where
   abbrev pub bounds_left : List (Adaptive N) → List N → ℕ → List (Option Fraction)
   bounds_left ys xs k = bound_slacks limit (map (adaptive_of value) (drop k ys)) (map value (drop k xs))
-
-  module _ (ys : List (Adaptive N)) (xs : List N) (k : ℕ) (y : Adaptive N) (x : N) (so_far : List Fraction)
-      (inside_y : k < length ys) (is_y : y ≡ get_or ys k y) (inside_x : k < length xs) (is_x : x ≡ get_or xs k x) where
-    bounds_split : bounds_left ys xs k ≡ variable_slacks limit (adaptive_of value y) (value x)
-        ++ bounds_left ys xs (k + 1)
-    bounds_split =
-        ap (λ (l : List (Adaptive N)). bound_slacks limit (map (adaptive_of value) l) (map value (drop k xs)))
-        (drop_at ys k y inside_y is_y)
-        ∙ ap (λ (l : List N). bound_slacks limit (map (adaptive_of value) (y ∷ drop (k + 1) ys)) (map value l))
-        (drop_at xs k x inside_x is_x)
-
-    pub bounds_next : (next : List Fraction)
-        → gathered so_far (variable_slacks limit (adaptive_of value y) (value x)) ≡ Some next
-        → gathered so_far (bounds_left ys xs k) ≡ gathered next (bounds_left ys xs (k + 1))
-    bounds_next next h =
-        ap (gathered so_far) bounds_split
-        ∙ gathered_append so_far next (variable_slacks limit (adaptive_of value y) (value x))
-        (bounds_left ys xs (k + 1)) h
-
-    pub bounds_stop : gathered so_far (variable_slacks limit (adaptive_of value y) (value x)) ≡ None
-        → gathered so_far (bounds_left ys xs k) ≡ None
-    bounds_stop h =
-        ap (gathered so_far) bounds_split
-        ∙ gathered_append_stops so_far (variable_slacks limit (adaptive_of value y) (value x))
-        (bounds_left ys xs (k + 1)) h
-
-  pub bounds_end : (ys : List (Adaptive N)) (xs : List N) (k : ℕ) (so_far : List Fraction) → length ys ≤ k
-      → gathered so_far (bounds_left ys xs k) ≡ Some so_far
-  bounds_end ys xs k so_far h =
-      ap (λ (l : List (Adaptive N)).
-      gathered so_far (bound_slacks limit (map (adaptive_of value) l) (map value (drop k xs)))) (drop_past ys k h)
-      ∙ gathered_end so_far
 
 -- the slack of a row as it is stored
 abbrev pub slack_in : {N : Type 0} → (N → Fraction) → ℕ → RobustModel → List Fraction → List Fraction

@@ -1,10 +1,10 @@
 -- Lists that grow, and what stops them.
 use Rattle.std.proofs.Common.{◌≡◌, List, [], ◌++◌, map, sym, ap, ◌∙◌}
-use Rattle.std.specs.Prelude.{Option, Some, None, Result, Ok, Err}
+use Rattle.std.specs.Prelude.{Option, Some, None}
 use Rattle.rob_algebra.specs.Fraction.{Fraction}
 use Rattle.rob_replay.proofs.GatherLemmas.{gathered_all, gathered_append, gathered_append_stops}
 use Rattle.rob_replay.specs.Gathering.{all_of, gathered}
-use Rattle.rob_replay.specs.Stops.{Gathers, StopsAt}
+use Rattle.rob_replay.specs.Stops.{StopsAt}
 use Rattle.rob_replay.specs.declared.line.Stopped.{Stopped}
 use Rattle.rob_replay.specs.declared.line.Stopped.TheVariants.{Wide, Memory}
 
@@ -15,21 +15,6 @@ stops_by part whole Wide f h = f h
 stops_by part whole Memory f h = tt
 
 module _ {N : Type 0} (value : N → Fraction) where
-  pub gathers_then : (old mid new : List N) (xs ys : List (Option Fraction)) (r : Result Unit Stopped)
-      → gathered (map value old) xs ≡ Some (map value mid) → Gathers value mid new ys r
-      → Gathers value old new (xs ++ ys) r
-  gathers_then old mid new xs ys (Ok done) h g = gathered_append (map value old) (map value mid) xs ys h ∙ g
-  gathers_then old mid new xs ys (Err e) h g =
-      stops_by (gathered (map value mid) ys) (gathered (map value old) (xs ++ ys)) e
-      (λ none. gathered_append (map value old) (map value mid) xs ys h ∙ none) g
-
-  pub gathers_not : (old : List N) (xs ys : List (Option Fraction)) (e : Stopped)
-      → StopsAt (gathered (map value old) xs) e
-      → StopsAt (gathered (map value old) (xs ++ ys)) e
-  gathers_not old xs ys e h =
-      stops_by (gathered (map value old) xs) (gathered (map value old) (xs ++ ys)) e
-      (gathered_append_stops (map value old) xs ys) h
-
   -- from the empty list all is gathered
   module _ (old : List N) (empty : old ≡ []) (xs ys : List (Option Fraction)) where
     from_nothing : gathered (map value old) (xs ++ ys) ≡ all_of (xs ++ ys)
