@@ -3,6 +3,7 @@ pub mod ColumnLemmas
 pub mod ConditionLemmas
 pub mod FlatNames
 pub mod FrontLemmas
+pub mod GroupCounts
 pub mod GroupLemmas
 pub mod JudgingLemmas
 pub mod KeptLemmas

@@ -1,43 +1,65 @@
-use Rattle.std.proofs.Common.{◌++◌, arith, [], ◌∷◌, length-append}
-use Rattle.rob_model.specs.GroupNames.{bound_names, statement_row_names, lift_names, condition_names}
-use Rattle.rob_meaning.specs.RobustModel.{Parameter}
-use Rattle.rob_model.specs.NameGroups.{parameter_bound_groups, parameter_groups, lift_groups, condition_groups, groups_by_number}
-use Rattle.rob_model.specs.View.{robust, parameter_of}
-use Rattle.rob_model.proofs.PlaceLemmas.{mapped_length, statement_length}
+use Rattle.rob_model.proofs.GroupCounts.{columns_fit, count_columns, count_forms, count_parameters, count_places, count_set_rows, forms_fit, lines_fit, places_fit, rows_fit, set_rows_fit}
 use Rattle.rob_model.proofs.groups.group_count.Goals as goal
+
+pub overflow_add-result : goal.overflow_add-result
+overflow_add-result g c = columns_fit c.requires.valid c.items-vars.ensures.list c.items-adaptives.ensures.list
+
+pub overflow_add-result-in-Form : goal.overflow_add-result-in-Form
+overflow_add-result-in-Form g c =
+    rows_fit c.requires.valid c.items.ensures.list c.items-vars.ensures.list c.items-adaptives.ensures.list
+
+pub overflow_add-result-in-Form-2 : goal.overflow_add-result-in-Form-2
+overflow_add-result-in-Form-2 g c =
+    forms_fit c.requires.valid c.items.ensures.list c.items-vars.ensures.list c.items-adaptives.ensures.list
+
+pub overflow_add-result-in-Column : goal.overflow_add-result-in-Column
+overflow_add-result-in-Column g c =
+    columns_fit c.requires.valid c.items-vars.ensures.list c.items-adaptives.ensures.list
+
+pub overflow_add-result-in-SetRow : goal.overflow_add-result-in-SetRow
+overflow_add-result-in-SetRow g c =
+    set_rows_fit c.requires.valid c.items-params.ensures.list c.items-lines.ensures.list
+
+pub overflow_add-result-in-SetPlace : goal.overflow_add-result-in-SetPlace
+overflow_add-result-in-SetPlace g c =
+    set_rows_fit c.requires.valid c.items-params.ensures.list c.items-lines.ensures.list
+
+pub overflow_add-result-in-SetPlace-2 : goal.overflow_add-result-in-SetPlace-2
+overflow_add-result-in-SetPlace-2 g c =
+    lines_fit c.requires.valid c.items-params.ensures.list c.items-lines.ensures.list
+
+pub overflow_add-result-in-SetPlace-3 : goal.overflow_add-result-in-SetPlace-3
+overflow_add-result-in-SetPlace-3 g c =
+    places_fit c.requires.valid c.items-params.ensures.list c.items-lines.ensures.list
+
+-- ---- the number is that of the groups
+pub returns-in-Form : goal.returns-in-Form
+returns-in-Form g c =
+    rw c.in-Form.is record {
+      count = count_forms g.N.Exact.value c.args.model.now c.items.ensures.list
+          c.items-vars.ensures.list c.items-adaptives.ensures.list;
+    }
+
+pub returns-in-Column : goal.returns-in-Column
+returns-in-Column g c =
+    rw c.in-Column.is record {
+      count = count_columns g.N.Exact.value c.args.model.now c.items-vars.ensures.list c.items-adaptives.ensures.list;
+    }
 
 pub returns-in-SetRow : goal.returns-in-SetRow
 returns-in-SetRow g c =
-    let value = g.N.Exact.value in
-    let m = robust value c.args.model.now in
     rw c.in-SetRow.is record {
-      count = omega (
-        arith,
-        length-append (parameter_bound_groups m) (groups_by_number (statement_row_names m.parameters) 1 m.set_lines),
-        mapped_length (parameter_of value) (λ (d : Parameter). bound_names d.name d.lower d.upper)
-            c.args.model.now.params c.items-params.result.now c.items-params.ensures.list,
-        statement_length value (statement_row_names m.parameters) c.args.model.now.set_lines c.items-lines.result.now
-            c.items-lines.ensures.list,
-      );
+      count = count_set_rows g.N.Exact.value c.args.model.now c.items-params.ensures.list c.items-lines.ensures.list;
     }
 
 pub returns-in-SetPlace : goal.returns-in-SetPlace
 returns-in-SetPlace g c =
-    let value = g.N.Exact.value in
-    let m = robust value c.args.model.now in
     rw c.in-SetPlace.is record {
-      count = omega (
-        arith,
-        length-append (parameter_bound_groups m) (condition_groups m ++ (parameter_groups m ++ lift_groups m)),
-        length-append (condition_groups m) (parameter_groups m ++ lift_groups m),
-        length-append (parameter_groups m) (lift_groups m),
-        mapped_length (parameter_of value) (λ (d : Parameter). bound_names d.name d.lower d.upper)
-            c.args.model.now.params c.items-params.result.now c.items-params.ensures.list,
-        mapped_length (parameter_of value) (λ (d : Parameter). d.name ∷ []) c.args.model.now.params
-            c.items-params.result.now c.items-params.ensures.list,
-        statement_length value condition_names c.args.model.now.set_lines c.items-lines.result.now
-            c.items-lines.ensures.list,
-        statement_length value (lift_names m.parameters) c.args.model.now.set_lines c.items-lines.result.now
-            c.items-lines.ensures.list,
-      );
+      count = count_places g.N.Exact.value c.args.model.now c.items-params.ensures.list c.items-lines.ensures.list;
+    }
+
+pub returns-in-Parameters : goal.returns-in-Parameters
+returns-in-Parameters g c =
+    rw c.in-Parameters.is record {
+      count = count_parameters g.N.Exact.value c.args.model.now c.items-params.ensures.list;
     }
