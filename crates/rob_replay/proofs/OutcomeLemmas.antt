@@ -1,22 +1,104 @@
 -- One record more, and records past the last that may stand in a file.
-use Rattle.std.proofs.Common.{◌≡◌, ℕ, zero, suc, ◌+◌, ◌-◌, ◌<◌, ◌≤◌, List, [], ◌∷◌, ◌++◌, map, length, get_or, take, drop, refl, sym, ap, ◌∙◌, arith, length-drop, true, false, Bool}
-use Rattle.std.specs.Prelude.{Option, Some, None, Result, Ok, Err, nat_le, ◌==◌, if◌then◌else◌}
+use Rattle.std.proofs.Common.{◌≡◌, ℕ, zero, suc, ◌+◌, ◌-◌, ◌<◌, ◌≤◌, List, [], ◌∷◌, ◌++◌, map, length, get_or, take, drop, refl, sym, ap, ◌∙◌, arith, length-drop, append_assoc, append-nil, true, false, Bool}
+use Rattle.std.specs.Prelude.{Option, Some, None, Result, Ok, Err, nat_le, option_map, ◌==◌, if◌then◌else◌}
 use Rattle.std.proofs.lemmas.List.{length-map}
 use Rattle.rob_algebra.specs.Fraction.{Fraction}
 use Rattle.rob_meaning.specs.RobustModel.{RobustModel}
+use Rattle.rob_model.proofs.PartLemmas.{drop_at, drop_past}
 use Rattle.rob_model.specs.Naming.{parameter_names}
 use Rattle.rob_replay.proofs.LineLemmas.{all_count}
 use Rattle.rob_replay.specs.Files.{IsFile}
 use Rattle.rob_replay.specs.View.{FileRefuses, Refuses}
 use Rattle.rob_replay.specs.declared.error.ReplayErr.{ReplayErr}
 use Rattle.rob_replay.specs.declared.error.ReplayErr.TheVariants.{Rule, Wide, Memory}
-use Rattle.rob_replay.specs.Headers.{header_places, place_from, places_in}
-use Rattle.rob_replay.specs.Lines.{Line}
-use Rattle.rob_replay.specs.Outcome.{Refusal, breaks, ◌then◌, or_refused, records_outcome, table_outcome, outcome}
+use Rattle.rob_replay.specs.Fields.{numbers_in}
+use Rattle.rob_replay.specs.Headers.{header_places, place_from, places_in, scenario_at}
+use Rattle.rob_replay.specs.Lines.{Line, line_within}
+use Rattle.rob_replay.specs.Outcome.{Refusal, breaks, is_wide, ◌then◌, or_refused, record_outcome, records_outcome, table_outcome, outcome}
 
 -- lines behind lines
 abbrev pub behind : List Line → Result (List Line) Refusal → Result (List Line) Refusal
 behind so_far r = r then (λ lines. Ok (so_far ++ lines))
+
+pub behind_nothing : (r : Result (List Line) Refusal) → behind [] r ≡ r
+behind_nothing (Ok lines) = refl
+behind_nothing (Err e) = refl
+
+behind_more : (so_far : List Line) (line : Line) (r : Result (List Line) Refusal)
+    → behind so_far (r then (λ lines. Ok (line ∷ lines))) ≡ behind (so_far ++ line ∷ []) r
+behind_more so_far line (Ok lines) = ap Ok (sym (append_assoc so_far (line ∷ []) lines))
+behind_more so_far line (Err e) = refl
+
+module _ {R : Type 0} (fields : R → List (List ℕ)) (limit : ℕ) (m : RobustModel) (plan : List Fraction)
+    (places : List ℕ) (rows : List R) (i : ℕ) (so_far : List Line) where
+  pub records_end : length rows ≤ i
+      → behind so_far (records_outcome limit m plan places (i + 2) (map fields (drop i rows))) ≡ Ok so_far
+  records_end h =
+      ap (λ (l : List R). behind so_far (records_outcome limit m plan places (i + 2) (map fields l)))
+      (drop_past rows i h)
+      ∙ ap Ok (append-nil so_far)
+
+  module _ (row : R) (inside : i < length rows) (is : row ≡ get_or rows i row) where
+    records_split : (r : Result Line Refusal) → record_outcome limit m plan places (i + 2) (fields row) ≡ r
+        → records_outcome limit m plan places (i + 2) (map fields (drop i rows))
+        ≡ (r then (λ line. records_outcome limit m plan places ((i + 1) + 2)
+        (map fields (drop (i + 1) rows)) then (λ lines. Ok (line ∷ lines))))
+    records_split r e =
+        ap (λ (l : List R). records_outcome limit m plan places (i + 2) (map fields l)) (drop_at rows i row inside is)
+        ∙ ap (λ q. q then (λ line.
+        records_outcome limit m plan places (suc (i + 2))
+        (map fields (drop (i + 1) rows)) then (λ lines. Ok (line ∷ lines)))) e
+        ∙ ap (λ n. r then (λ line.
+        records_outcome limit m plan places n (map fields (drop (i + 1) rows)) then (λ lines. Ok (line ∷ lines))))
+        next
+      where
+        next : suc (i + 2) ≡ (i + 1) + 2
+        next = omega arith
+
+    pub records_next : (line : Line) → record_outcome limit m plan places (i + 2) (fields row) ≡ Ok line
+        → behind so_far (records_outcome limit m plan places (i + 2) (map fields (drop i rows)))
+        ≡ behind (so_far ++ line ∷ [])
+        (records_outcome limit m plan places ((i + 1) + 2) (map fields (drop (i + 1) rows)))
+    records_next line e = ap (behind so_far) (records_split (Ok line) e) ∙ behind_more so_far line _
+
+    records_stop : (e : Refusal) → record_outcome limit m plan places (i + 2) (fields row) ≡ Err e
+        → behind so_far (records_outcome limit m plan places (i + 2) (map fields (drop i rows))) ≡ Err e
+    records_stop e h = ap (behind so_far) (records_split (Err e) h)
+
+    -- what is refused for a record is refused for them all
+    pub records_refuse : (whole : Result (List Line) Refusal)
+        → behind so_far (records_outcome limit m plan places (i + 2) (map fields (drop i rows))) ≡ whole
+        → (error : ReplayErr) → Refuses (record_outcome limit m plan places (i + 2) (fields row)) error
+        → Refuses whole error
+    records_refuse whole rest (Rule r n) h = sym rest ∙ records_stop (breaks r n) h
+    records_refuse whole rest (Wide n) h = sym rest ∙ records_stop (is_wide n) h
+    records_refuse whole rest Memory h = tt
+
+-- ---- one record
+module _ (limit : ℕ) (m : RobustModel) (plan : List Fraction) (places : List ℕ) (number : ℕ)
+    (fields : List (List ℕ)) (n : ℕ) (is : n ≡ length fields) where
+  pub record_unlike : (n ≡ length places → ⊥) → record_outcome limit m plan places number fields ≡ Err (breaks 42 number)
+  record_unlike h = rw unlike refl
+    where
+      unlike : (length fields == length places) ≡ false
+      unlike = grind arith
+
+  -- ---- with as many fields as there are places, of which numbers are read or not
+  module _ (same : n ≡ length places) {A : Type 0} (f : A → List Fraction) (o : Option A)
+      (read : option_map f o ≡ numbers_in limit fields) where
+    alike : (length fields == length places) ≡ true
+    alike = grind arith
+
+    pub record_unread : o ≡ None → record_outcome limit m plan places number fields ≡ Err (breaks 43 number)
+    record_unread none = rw (alike, sym read, none) refl
+
+    pub record_line : (a b : A) (scenario : List Fraction) (line : Option Line) → o ≡ Some a
+        → scenario ≡ scenario_at places (f b) → b ≡ a → line_within limit m plan number scenario ≡ line
+        → record_outcome limit m plan places number fields ≡ or_refused (is_wide number) line
+    record_line a b scenario line some placed e within =
+        rw (alike, sym read, some) (ap (λ (u : List Fraction). or_refused (is_wide number)
+        (line_within limit m plan number u)) (ap (λ (x : A). scenario_at places (f x)) (sym e) ∙ sym placed)
+        ∙ ap (or_refused (is_wide number)) within)
 
 -- ---- the first records decide
 take_short : {A : Type 0} (n : ℕ) (xs : List A) → length xs ≤ n → take n xs ≡ xs
