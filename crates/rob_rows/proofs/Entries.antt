@@ -20,6 +20,9 @@ product_fits p a h =
     fits_signed_from_abs w64 (p *ℤ a) (let e : nat_abs (p *ℤ a) ≡ nat_abs p * nat_abs a =
     unsigned_abs-mul p a in omega arith)
 
+pub entry_fits : (p a : ℤ) → SFits w64 p → SFits w64 a → nat_abs p * nat_abs a < 2 ^ 63 → SFits w64 (read p *ℤ read a)
+entry_fits p a f g h = rw (to_z-of_z w64 p f, to_z-of_z w64 a g) (product_fits p a h)
+
 pub product_read : (p a : ℤ) → SFits w64 p → SFits w64 a → nat_abs p * nat_abs a < 2 ^ 63
     → read (read p *ℤ read a) ≡ p *ℤ a
 product_read p a f g h =
