@@ -15,6 +15,7 @@ pub mod JudgingLemmas
 pub mod LeafLemmas
 pub mod LiftedLemmas
 pub mod ListLemmas
+pub mod MachineProducts
 pub mod NumberLemmas
 pub mod OwnerLemmas
 pub mod PartedLemmas
@@ -26,6 +27,7 @@ pub mod RowLemmas
 pub mod RowSteps
 pub mod RuleLemmas
 pub mod RuleSteps
+pub mod StatementCounts
 pub mod StatementLemmas
 pub mod StepLemmas
 pub mod StopLemmas

@@ -1,14 +1,20 @@
 -- Set rows as lists of numbers.
-use Rattle.std.specs.Prelude.{◌≡◌, ℕ, ◌+◌, List, [], ◌∷◌, ◌++◌, map, length}
-use Rattle.std.proofs.Common.{sym, ◌∙◌, ap, ap₂, add-one, append_assoc}
+use Rattle.std.specs.Prelude.{◌≡◌, ℕ, ◌+◌, ◌≤◌, ℤ, nat_abs, List, [], ◌∷◌, ◌++◌, map, length}
+use Rattle.std.proofs.Common.{sym, ◌∙◌, ap, ap₂, subst, add-one, append_assoc}
 use Rattle.rob_algebra.specs.Fraction.{Fraction}
 use Rattle.std.proofs.lemmas.List.{length-map, map-append}
+use Rattle.rob_meaning.specs.Clearing.{denominator, whole_at}
 use Rattle.rob_meaning.specs.Coefficients.{Table}
-use Rattle.rob_meaning.specs.Places.{tabulate}
-use Rattle.rob_meaning.specs.SetRows.{coefficients, lift_count}
+use Rattle.rob_meaning.specs.Places.{Each, tabulate}
+use Rattle.rob_meaning.specs.RobustModel.{RobustModel}
+use Rattle.rob_meaning.specs.SetRows.{coefficients, lift_count, whole_limit, whole_row}
+use Rattle.rob_meaning.specs.SetRows as lifted
 use Rattle.rob_model.specs.View.{parameter_of, robust}
 use Rattle.rob_model.specs.declared.model.Model.{Model}
-use Rattle.rob_sets.specs.Appending.{row_of}
+use Rattle.rob_sets.specs.Appending.{AppendsLines, row_of}
+use Rattle.rob_sets.specs.FirstWide.{IsWideCleared}
+use Rattle.rob_sets.specs.SetForm.{RowFits, cleared_row, judged_row}
+use Rattle.rob_sets.specs.declared.set_form.SetRow.{SetRow}
 use Rattle.rob_meaning.proofs.TabulateLemmas.{tabulate-more as tabulate-suc}
 
 pub tabulate-more : {A : Type 0} (n : ℕ) (f : ℕ → A) → tabulate (n + 1) f ≡ tabulate n f ++ f n ∷ []
@@ -48,3 +54,31 @@ module _ {N : Type 0} (value : N → Fraction) where
   row_is model f parameters lifts numbers p l h =
       h ∙ ap₂ (λ a b. (row_of f).limit ∷ (tabulate a (row_of f).on_parameters ++ tabulate b (row_of f).on_lifts))
       (p ∙ sym (length-map model.params (parameter_of value))) l
+
+-- ---- a row that is cleared is appended
+abbrev set_row : List ℤ → ℤ → SetRow
+set_row g h = record { g = g; h = h }
+
+module _ (limit : ℕ) (m : RobustModel) (row : lifted.SetRow) (place : ℕ) (numbers : List Fraction) (cleared : List ℤ)
+    (made : SetRow) (old new : List SetRow) (is : numbers ≡ row.limit ∷ coefficients m row)
+    (whole : cleared ≡ map (whole_at (denominator numbers)) numbers) (parts : cleared ≡ made.h ∷ made.g)
+    (fit : Each (λ a. nat_abs a ≤ limit) cleared) (not_wide : IsWideCleared limit numbers → ⊥)
+    (appended : new ≡ old ++ made ∷ []) where
+  made_is : made ≡ cleared_row m row
+  made_is =
+      let all : made.h ∷ made.g ≡ whole_limit m row ∷ whole_row m row
+      = sym parts ∙ whole ∙ ap (λ (qs : List Fraction). map (whole_at (denominator qs)) qs) is in
+      let g : made.g ≡ whole_row m row = cc in
+      let h : made.h ≡ whole_limit m row = cc in
+      ap₂ set_row g h
+
+  pub row_appended : AppendsLines (cleared_row m) (RowFits limit) limit m (row ∷ []) (judged_row m place row ∷ [])
+      old new
+  row_appended =
+      let each : Each (λ a. nat_abs a ≤ limit) (made.h ∷ made.g)
+      = subst (λ (zs : List ℤ). Each (λ a. nat_abs a ≤ limit) zs) parts fit in
+      record {
+        appended = appended ∙ ap (λ (r : SetRow). old ++ r ∷ []) made_is;
+        fit = (subst (RowFits limit) made_is (record { coefficients = each.1; right_side = each.0 }), tt);
+        none_wide = (subst (λ (qs : List Fraction). IsWideCleared limit qs → ⊥) is not_wide, tt);
+      }
