@@ -28,6 +28,7 @@ pub mod JudgingLemmas
 pub mod WeightLemmas
 pub mod ColumnLemmas
 pub mod Told
+pub mod ToldRows
 pub mod Solving
 pub mod FirstTurns
 pub mod ExplicitTurns
