@@ -1,5 +1,5 @@
 -- The numbers of groups of names, by the lengths of a model's lists: they are small, and each kind has so many groups.
-use Rattle.std.proofs.Common.{◌≡◌, ℕ, ◌+◌, ◌≤◌, List, [], ◌∷◌, ◌++◌, map, length, ap, arith, length-append, Fits, w64}
+use Rattle.std.proofs.Common.{◌≡◌, ◌+◌, ◌≤◌, List, [], ◌∷◌, ◌++◌, map, length, ap, arith, length-append, Fits, w64}
 use Rattle.std.proofs.lemmas.List.{length-map}
 use Rattle.rob_algebra.specs.Fraction.{Fraction}
 use Rattle.rob_meaning.specs.RobustModel.{AdaptiveVariable, Parameter, RobustModel, Row, Variable}

@@ -1,7 +1,7 @@
 -- What the row of a position tells, read in the position's own column: where that stands, and what the tests come to.
-use Rattle.std.proofs.Common.{◌≡◌, ◌≢◌, ℕ, ◌+◌, ◌<◌, ◌≤◌, ◌<ℤ◌, pos, length, get_or, sym, subst, arith, inl, inr}
+use Rattle.std.proofs.Common.{◌≡◌, ℕ, ◌+◌, ◌<◌, ◌≤◌, ◌<ℤ◌, pos, length, get_or, sym, subst, arith, inl, inr}
 use Rattle.std.specs.Bool.{OnFalse, OnTrue}
-use Rattle.std.specs.Prelude.{Bool, true, false, Option, Some, None, IfSome, List}
+use Rattle.std.specs.Prelude.{Bool, true, false, Option, Some, None, IfSome}
 use Rattle.rob_algebra.specs.Width.{Fits, IsWide}
 use Rattle.rob_simplex.specs.Dictionaries.{Table, columns_of, positions, right_column, rows_of, width_of}
 use Rattle.rob_simplex.specs.Judging.{HasOwn, TellsAt, TellsWideAt, ratio_of}
