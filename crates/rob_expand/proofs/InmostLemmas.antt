@@ -1,6 +1,6 @@
 -- A sum over a range of one value is the expression inside it, with that value in front.
 use Rattle.std.proofs.Common.{◌≡◌, ℕ, List, [], ◌∷◌, map, refl, sym, ap, ◌∙◌, subst, arith}
-use Rattle.std.specs.Prelude.{ℤ, pos, ◌+ℤ◌, Bool, false, Option, Some, IfSome, Result, MatchResult}
+use Rattle.std.specs.Prelude.{ℤ, pos, ◌+ℤ◌, Bool, false, Some, Result, MatchResult}
 use Rattle.std.proofs.lemmas.Int.{ints}
 use Rattle.rob_index.specs.Statements.{Name}
 use Rattle.rob_index.specs.Expansion.{summed}
@@ -54,12 +54,6 @@ module _ (r : Ends) (vs : List ℤ) (v : ℤ) (from : v ≡ value_of r.from vs) 
         (λ i. worse (none_long i) (worst (λ w. tree_found p (w ∷ vs)) (one_value i)))
         ∙ worse_nothing (tree_found p (v ∷ vs))
 
--- an end that a range is seen to have
-pub end_read : (f : Form) {o : Option ℤ} {v : ℤ} {ws vs : List ℤ} → o ≡ Some v → ws ≡ vs
-    → IfSome o (λ v. v ≡ value_of f ws) → v ≡ value_of f vs
-end_read f {ws = ws} is as_shown given =
-    subst (λ (o : Option ℤ). IfSome o (λ v. v ≡ value_of f ws)) is given ∙ ap (value_of f) as_shown
-
 -- an expression that is no sum over a range of one value
 pub inmost_here : (p : Code) (vs : List ℤ) → IsInmost p vs p vs
 inmost_here p vs = record {
@@ -69,9 +63,9 @@ inmost_here p vs = record {
 }
 
 -- one that is
-module _ (ends : Ends) (inner : _) (whole shown last : Code) (vs us : List ℤ) (v : ℤ) (is : whole ≡ code.Over ends inner)
-    (same : shown ≡ inner.value) (from : v ≡ value_of ends.from vs) (upto : v ≡ value_of ends.upto vs)
-    (inside : IsInmost shown (v ∷ vs) last us) where
+module _ (ends : Ends) (inner : _) (whole shown last : Code) (vs us : List ℤ) (v : ℤ)
+    (is : whole ≡ code.Over ends inner) (same : shown ≡ inner.value) (from : v ≡ value_of ends.from vs)
+    (upto : v ≡ value_of ends.upto vs) (inside : IsInmost shown (v ∷ vs) last us) where
   seen : placed_of whole ≡ over ends (placed_of shown)
   seen = sym (over_seen ends inner whole shown is same)
 
@@ -92,20 +86,19 @@ module _ (ends : Ends) (inner : _) (whole shown last : Code) (vs us : List ℤ) 
   }
 
 -- ---- what is told of the last expression is told of the first
-module _ {first last : Code} {vs us shown : List ℤ} (h : IsInmost first vs last us) where
-  pub counted_inside : shown ≡ us → (limit room : ℕ) (r : Result Counted Stop)
-      → MatchResult r (λ c. tree_left limit (placed_of last) shown room ≡ Some c)
-      (λ e. HasStop (tree_left limit (placed_of last) shown room) e)
+module _ {first last : Code} {vs us : List ℤ} (h : IsInmost first vs last us) where
+  pub counted_inside : (limit room : ℕ) (r : Result Counted Stop)
+      → MatchResult r (λ c. tree_left limit (placed_of last) us room ≡ Some c)
+      (λ e. HasStop (tree_left limit (placed_of last) us room) e)
       → MatchResult r (λ c. tree_left limit (placed_of first) vs room ≡ Some c)
       (λ e. HasStop (tree_left limit (placed_of first) vs room) e)
-  counted_inside is limit room r given =
-      moved r (tree_left limit (placed_of last) shown room) (tree_left limit (placed_of first) vs room)
-      (ap (λ (ws : List ℤ). tree_left limit (placed_of last) ws room) is ∙ sym (h.counted limit room)) given
+  counted_inside limit room r given =
+      moved r (tree_left limit (placed_of last) us room) (tree_left limit (placed_of first) vs room)
+      (sym (h.counted limit room)) given
 
-  module _ {ws : List ℤ} (there : vs ≡ ws) (is : shown ≡ us) where
-    pub printed_inside : (own : List Name) → printed_at own (placed_of last) shown ≡ printed_at own (placed_of first) ws
-    printed_inside own =
-        ap (printed_at own (placed_of last)) is ∙ sym (h.printed own) ∙ ap (printed_at own (placed_of first)) there
+  module _ {ws : List ℤ} (there : vs ≡ ws) where
+    pub printed_inside : (own : List Name) → printed_at own (placed_of last) us ≡ printed_at own (placed_of first) ws
+    printed_inside own = sym (h.printed own) ∙ ap (printed_at own (placed_of first)) there
 
-    pub found_inside : tree_found (placed_of last) shown ≡ tree_found (placed_of first) ws
-    found_inside = ap (tree_found (placed_of last)) is ∙ sym h.found ∙ ap (tree_found (placed_of first)) there
+    pub found_inside : tree_found (placed_of last) us ≡ tree_found (placed_of first) ws
+    found_inside = sym h.found ∙ ap (tree_found (placed_of first)) there

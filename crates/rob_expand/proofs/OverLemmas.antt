@@ -1,6 +1,6 @@
 -- A sum over the values of a range: none, one, or more of them.
 use Rattle.std.proofs.Common.{◌≡◌, ℕ, Bool, true, false, List, [], ◌∷◌, Option, Some, sym, ap, ◌∙◌, subst}
-use Rattle.std.specs.Prelude.{ℤ, set, Result, MatchResult, Err}
+use Rattle.std.specs.Prelude.{ℤ, Result, MatchResult, Err}
 use Rattle.rob_index.specs.Counting.{lead}
 use Rattle.rob_index.specs.Forms.{Ends, values_of}
 use Rattle.rob_expand.specs.declared.count.Counted.{Counted}
@@ -60,31 +60,24 @@ module _ (limit : ℕ) (x : Code) (vs : List ℤ) where
           (ap (λ (l : List ℤ). of_shape Sum (each_left limit at_value true l room)) more.3
           ∙ sym (ap (λ (l : List ℤ). over_left limit at_value l room) more.3)) given
 
--- ---- what is left behind some values, and behind all; and there is a place for a value in front of the others
+-- ---- what is left behind some values, and behind all
 pub record HasEachLeft (limit : ℕ) (x : Code) (vs : List ℤ) (first : Bool) (run : List ℤ) (left : ℕ) (all : List ℤ)
-    (room : ℕ) (inside : List ℤ) : Type 0 where
+    (room : ℕ) : Type 0 where
   pub same : each_left limit (at_value limit x vs) first run left
       ≡ each_left limit (at_value limit x vs) true all room
-  pub before : ℤ
-  pub begun : inside ≡ before ∷ vs
 
-pub each_begun : {limit : ℕ} {x : Code} {vs run all inside : List ℤ} {room : ℕ} {before : ℤ} → run ≡ all
-    → inside ≡ before ∷ vs → HasEachLeft limit x vs true run room all room inside
-each_begun {limit = limit} {x = x} {vs = vs} {room = room} {before = before} is begun = record {
+pub each_begun : {limit : ℕ} {x : Code} {vs run all : List ℤ} {room : ℕ} → run ≡ all
+    → HasEachLeft limit x vs true run room all room
+each_begun {limit = limit} {x = x} {vs = vs} {room = room} is = record {
   same = ap (λ (l : List ℤ). each_left limit (at_value limit x vs) true l room) is;
-  before = before;
-  begun = begun;
 }
 
 module _ {limit : ℕ} {x : Code} {vs : List ℤ} {first : Bool} {run : List ℤ} {left : ℕ} {all : List ℤ} {room : ℕ}
-    {inside : List ℤ} (h : HasEachLeft limit x vs first run left all room inside) where
-  module _ {value : ℤ} {new now shown : List ℤ} {sign : ℕ} (is : run ≡ value ∷ new) (put : now ≡ set inside 0 value)
-      (as_shown : shown ≡ now) (sign_is : sign ≡ lead limit first false) where
+    (h : HasEachLeft limit x vs first run left all room) where
+  module _ {value : ℤ} {new shown : List ℤ} {sign : ℕ} (is : run ≡ value ∷ new) (here : shown ≡ value ∷ vs)
+      (sign_is : sign ≡ lead limit first false) where
     abbrev value_item : Option ℕ
     value_item = item_left limit sign place.Sum (tree_left limit (placed_of x) shown) left
-
-    here : now ≡ value ∷ vs
-    here = put ∙ ap (λ (us : List ℤ). set us 0 value) h.begun
 
     each_on : {o : Option ℕ} → value_item ≡ o
         → each_left limit (at_value limit x vs) true all room
@@ -94,13 +87,12 @@ module _ {limit : ℕ} {x : Code} {vs : List ℤ} {first : Bool} {run : List ℤ
         ∙ ap (λ (l : List ℤ). each_left limit (at_value limit x vs) first l left) is
         ∙ ap (λ (o : Option ℕ). after o (each_left limit (at_value limit x vs) false new))
         (ap (λ (n : ℕ). item_left limit n place.Sum (at_value limit x vs value) left) (sym sign_is)
-        ∙ ap (λ (us : List ℤ). item_left limit sign place.Sum (tree_left limit (placed_of x) us) left)
-        (sym (as_shown ∙ here))
+        ∙ ap (λ (us : List ℤ). item_left limit sign place.Sum (tree_left limit (placed_of x) us) left) (sym here)
         ∙ paid)
 
     -- one value more
-    pub each_more : {behind : ℕ} → value_item ≡ Some behind → HasEachLeft limit x vs false new behind all room now
-    each_more paid = record { same = sym (each_on paid); before = value; begun = here }
+    pub each_more : {behind : ℕ} → value_item ≡ Some behind → HasEachLeft limit x vs false new behind all room
+    each_more paid = record { same = sym (each_on paid) }
 
     -- a value that there is no room for
     pub each_stop : {V : Type 0} {r : Result V Stop} (P : V → Type 0) (e : Stop)
@@ -114,5 +106,4 @@ module _ {limit : ℕ} {x : Code} {vs : List ℤ} {first : Bool} {run : List ℤ
       → of_shape Sum (each_left limit (at_value limit x vs) true all room)
       ≡ Some (record { left = left; shape = Sum })
   each_end none =
-      ap (of_shape Sum)
-      (sym h.same ∙ ap (λ (l : List ℤ). each_left limit (at_value limit x vs) first l left) none)
+      ap (of_shape Sum) (sym h.same ∙ ap (λ (l : List ℤ). each_left limit (at_value limit x vs) first l left) none)

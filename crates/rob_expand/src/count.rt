@@ -10,14 +10,13 @@ ghost use Rattle.rob_expand.specs.Room.{left_of, HasStop};
 ghost use Rattle.rob_expand.specs.Placed.{placed_of, part_of, parts_of, factors_of};
 ghost use Rattle.rob_expand.specs.Count.{AreMany, is_closed, is_compound, is_sum, of_shape, item_left, tree_left, parts_left, factors_left, over_left, each_left};
 
-use crate::inmost::{inmost, values_around};
+use crate::inmost::inmost;
 use crate::placed::{Part, Placed};
 use crate::room::{Stop, spend};
-use crate::setting::{begun_with, put_first};
 use crate::tokens::number_tokens;
 use rob_number::Memory;
 use rob_ranges::run::Run;
-use rob_ranges::{Ends, Whole};
+use rob_ranges::{Ends, Values, Whole};
 use std::alloc::Global;
 
 /// What an expression is, as far as parentheses go.
@@ -89,10 +88,10 @@ fn parens(inside: Inside, shape: Shape) -> u32
 }
 
 /// How many values a range has at some values of those around it.
-fn how_many(alloc: Global, ends: &Ends, values: &[Whole]) -> Result<Many, Memory>
+fn how_many(alloc: Global, ends: &Ends, values: &Values) -> Result<Many, Memory>
     ensures many { IfOk result (AreMany (values_of ends.now values.now)) }
 {
-    let mut run = Run::new(alloc, ends, values)?;
+    let mut run = Run::inside(alloc, ends, values)?;
     let Some(value) = run.next(alloc)? else {
         return Ok(Many::Empty);
     };
@@ -104,12 +103,28 @@ fn how_many(alloc: Global, ends: &Ends, values: &[Whole]) -> Result<Many, Memory
 }
 
 /// What is left behind an expression in a setting.
-#[cycle(count)]
-pub fn count(
+pub fn count_in(
     alloc: Global,
     limit: u64,
     placed: &Placed,
     values: &[Whole],
+    room: u32,
+) -> Result<Counted, Stop>
+    ensures counted { MatchResult result
+        (λ c. tree_left limit (placed_of placed.now) values.now room ≡ Some c)
+        (λ e. HasStop (tree_left limit (placed_of placed.now) values.now room) e) }
+{
+    let values = Values::of(alloc, values);
+    count(alloc, limit, placed, &values, room)
+}
+
+/// The same inside sums.
+#[cycle(count)]
+fn count(
+    alloc: Global,
+    limit: u64,
+    placed: &Placed,
+    values: &Values,
     room: u32,
 ) -> Result<Counted, Stop>
     ensures counted { MatchResult result
@@ -157,7 +172,7 @@ fn count_item(
     limit: u64,
     front: Front,
     inner: &Placed,
-    values: &[Whole],
+    values: &Values,
     room: u32,
 ) -> Result<u32, Stop>
     ensures left { MatchResult result
@@ -177,7 +192,7 @@ fn count_parts(
     alloc: Global,
     limit: u64,
     parts: &[Part],
-    values: &[Whole],
+    values: &Values,
     room: u32,
 ) -> Result<u32, Stop>
     ensures left { MatchResult result
@@ -211,7 +226,7 @@ fn count_factors(
     alloc: Global,
     limit: u64,
     factors: &[Placed],
-    values: &[Whole],
+    values: &Values,
     room: u32,
 ) -> Result<u32, Stop>
     ensures left { MatchResult result
@@ -246,7 +261,7 @@ fn count_over(
     limit: u64,
     ends: &Ends,
     inner: &Placed,
-    values: &[Whole],
+    values: &Values,
     room: u32,
 ) -> Result<Counted, Stop>
     ensures counted { MatchResult result
@@ -259,9 +274,9 @@ fn count_over(
     match many {
         Many::Empty => single(1, room),
         Many::One(value) => {
-            let mut inside = values_around(alloc, inner, &value, values)?;
+            let mut inside = values.with(alloc, &value)?;
             let last = inmost(alloc, inner, &mut inside)?;
-            count(alloc, limit, last, inside.items(), room)
+            count(alloc, limit, last, &inside, room)
         }
         Many::Several => count_each(alloc, limit, ends, inner, values, room),
     }
@@ -274,7 +289,7 @@ fn count_each(
     limit: u64,
     ends: &Ends,
     inner: &Placed,
-    values: &[Whole],
+    values: &Values,
     room: u32,
 ) -> Result<Counted, Stop>
     ensures counted { MatchResult result
@@ -286,16 +301,14 @@ fn count_each(
 {
     let mut left = room;
     let mut first = true;
-    let nothing = Whole::small(alloc, 0);
-    let mut inside = begun_with(alloc, &nothing, values)?;
-    let mut run = Run::new(alloc, ends, values)?;
+    let mut run = Run::inside(alloc, ends, values)?;
     'values: while let Some(value) = run.next(alloc)? {
-        put_first(alloc, &mut inside, &value)?;
+        let inside = values.with(alloc, &value)?;
         let front = Front {
             tokens: lead(first, false),
             inside: Inside::Sum,
         };
-        let behind = count_item(alloc, limit, front, inner, inside.as_slice(), left)?;
+        let behind = count_item(alloc, limit, front, inner, &inside, left)?;
         left = behind;
         first = false;
     }

@@ -14,15 +14,15 @@ ghost use Rattle.rob_expand.specs.Spots.{IsThin, IsThinAt, picks};
 ghost use Rattle.rob_expand.specs.declared.spot.Spot.{Spot as SpecSpot};
 ghost use Rattle.rob_ranges.specs.Spans.{Every};
 
-use crate::inmost::{inmost, values_around};
+use crate::inmost::inmost;
 use crate::line::{Item, Line};
-use crate::name::add_name;
+use crate::name::{add_name, add_name_inside};
 use crate::placed::{Named, Part, Placed};
 use crate::settings::Setting;
 use crate::spot::{Spot, one_at};
 use rob_number::Memory;
 use rob_ranges::run::Run;
-use rob_ranges::{Ends, Whole};
+use rob_ranges::{Ends, Values, Whole};
 use rob_syntax::Words;
 use std::alloc::Global;
 
@@ -121,7 +121,7 @@ fn grow_trees(
 {
     let mut long = false;
     for tree in trees {
-        let here = grow_tree(alloc, own, words, tree, values)?;
+        let here = grow_in(alloc, own, words, tree, values)?;
         long = either(long, here);
     }
     Ok(long)
@@ -193,8 +193,7 @@ fn grow_entries(
 }
 
 /// The names of an expression.
-#[cycle(grow)]
-fn grow_tree(
+fn grow_in(
     alloc: Global,
     own: &Words,
     words: &mut Words,
@@ -206,9 +205,27 @@ fn grow_tree(
     ensures long { IfOk result (λ long. long
         ≡ list_any is_long_name (tree_names (printed_at (texts own.now.keys) (placed_of placed.now) values.now))) }
 {
+    let values = Values::of(alloc, values);
+    grow_tree(alloc, own, words, placed, &values)
+}
+
+/// The same inside sums.
+#[cycle(grow)]
+fn grow_tree(
+    alloc: Global,
+    own: &Words,
+    words: &mut Words,
+    placed: &Placed,
+    values: &Values,
+) -> Result<bool, Memory>
+    ensures words { OnOk result (texts words.new.keys ≡ fold spec.add_name (texts words.old.keys)
+        (tree_names (printed_at (texts own.now.keys) (placed_of placed.now) values.now))) }
+    ensures long { IfOk result (λ long. long
+        ≡ list_any is_long_name (tree_names (printed_at (texts own.now.keys) (placed_of placed.now) values.now))) }
+{
     match placed {
         Placed::Number(_) => Ok(false),
-        Placed::Name(name) => add_name(alloc, own, words, name, values),
+        Placed::Name(name) => add_name_inside(alloc, own, words, name, values),
         Placed::Sum(parts) => grow_parts(alloc, own, words, parts.items(), values),
         Placed::Product(factors) => grow_factors(alloc, own, words, factors.items(), values),
         Placed::Over(ends, inner) => grow_over(alloc, own, words, ends, inner, values),
@@ -222,7 +239,7 @@ fn grow_parts(
     own: &Words,
     words: &mut Words,
     parts: &[Part],
-    values: &[Whole],
+    values: &Values,
 ) -> Result<bool, Memory>
     ensures words { OnOk result (texts words.new.keys ≡ fold spec.add_name (texts words.old.keys)
         (parts_names (texts own.now.keys) values.now parts.now)) }
@@ -244,7 +261,7 @@ fn grow_factors(
     own: &Words,
     words: &mut Words,
     factors: &[Placed],
-    values: &[Whole],
+    values: &Values,
 ) -> Result<bool, Memory>
     ensures words { OnOk result (texts words.new.keys ≡ fold spec.add_name (texts words.old.keys)
         (factors_names (texts own.now.keys) values.now factors.now)) }
@@ -267,7 +284,7 @@ fn grow_over(
     words: &mut Words,
     ends: &Ends,
     inner: &Placed,
-    values: &[Whole],
+    values: &Values,
 ) -> Result<bool, Memory>
     ensures words { OnOk result (texts words.new.keys ≡ fold spec.add_name (texts words.old.keys)
         (each_names (texts own.now.keys) (placed_of inner.now) values.now (values_of ends.now values.now))) }
@@ -275,7 +292,7 @@ fn grow_over(
         (each_names (texts own.now.keys) (placed_of inner.now) values.now (values_of ends.now values.now))) }
 {
     let mut long = false;
-    let mut run = Run::new(alloc, ends, values)?;
+    let mut run = Run::inside(alloc, ends, values)?;
     'values: while let Some(value) = run.next(alloc)? {
         let here = grow_at(alloc, own, words, inner, &value, values)?;
         long = either(long, here);
@@ -291,19 +308,19 @@ fn grow_at(
     words: &mut Words,
     inner: &Placed,
     value: &Whole,
-    values: &[Whole],
+    values: &Values,
 ) -> Result<bool, Memory>
     ensures words { OnOk result (texts words.new.keys ≡ fold spec.add_name (texts words.old.keys)
         (tree_names (printed_at (texts own.now.keys) (placed_of inner.now) (value.now ∷ values.now)))) }
     ensures long { IfOk result (λ long. long ≡ list_any is_long_name
         (tree_names (printed_at (texts own.now.keys) (placed_of inner.now) (value.now ∷ values.now)))) }
 {
-    let mut inside = values_around(alloc, inner, value, values)?;
+    let mut inside = values.with(alloc, value)?;
     match inner {
         Placed::Over(_, _) => {
             let last = inmost(alloc, inner, &mut inside)?;
-            grow_tree(alloc, own, words, last, inside.items())
+            grow_tree(alloc, own, words, last, &inside)
         }
-        _ => grow_tree(alloc, own, words, inner, inside.items()),
+        _ => grow_tree(alloc, own, words, inner, &inside),
     }
 }

@@ -17,7 +17,7 @@ ghost use Rattle.rob_ranges.specs.Spans.{Every};
 
 use crate::line::{Item, Line};
 use crate::lines::nest_in;
-use crate::make::{make, zero};
+use crate::make::{make_in, zero};
 use crate::name::name_number;
 use crate::place::place_name;
 use crate::placed::{Named, Placed};
@@ -289,7 +289,7 @@ fn first_tree(
 {
     match trees {
         [] => Ok(zero()),
-        [first, ..] => make(alloc, own, words, first, values),
+        [first, ..] => make_in(alloc, own, words, first, values),
     }
 }
 

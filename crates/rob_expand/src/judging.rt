@@ -16,7 +16,7 @@ ghost use Rattle.rob_expand.specs.Placed.{factors_of, part_of, parts_of, placed_
 ghost use Rattle.rob_expand.specs.Spots.{IsThinAt, picks};
 ghost use Rattle.rob_ranges.specs.Spans.{Every};
 
-use crate::inmost::{inmost, values_around};
+use crate::inmost::inmost;
 use crate::inner::Inner;
 use crate::line::{Item, Line};
 use crate::lines::line_of;
@@ -28,7 +28,7 @@ use crate::settings::{Setting, all_settings};
 use crate::spot::{middle, one_at, thin_in, thin_places};
 use rob_number::Memory;
 use rob_ranges::run::Run;
-use rob_ranges::{Ends, Form, Whole};
+use rob_ranges::{Ends, Form, Values, Whole};
 use rob_syntax::syntax::Indexed;
 use std::alloc::Global;
 
@@ -194,6 +194,14 @@ fn judge_values(
 fn judge_length(alloc: Global, range: &Ends, values: &[Whole]) -> Result<Finding, Memory>
     ensures found { IfOk result (λ found. found ≡ length_found range.now values.now) }
 {
+    let values = Values::of(alloc, values);
+    judge_length_inside(alloc, range, &values)
+}
+
+/// The same inside sums.
+fn judge_length_inside(alloc: Global, range: &Ends, values: &Values) -> Result<Finding, Memory>
+    ensures found { IfOk result (λ found. found ≡ length_found range.now values.now) }
+{
     let length = length_at(alloc, range, values)?;
     let most = Whole::small(alloc, LONGEST);
     let long = most.is_less(alloc, &length)?;
@@ -201,11 +209,11 @@ fn judge_length(alloc: Global, range: &Ends, values: &[Whole]) -> Result<Finding
 }
 
 /// How far the last value of a range is from the first.
-fn length_at(alloc: Global, range: &Ends, values: &[Whole]) -> Result<Whole, Memory>
+fn length_at(alloc: Global, range: &Ends, values: &Values) -> Result<Whole, Memory>
     ensures length { IfOk result (λ length. length ≡ value_of (length_form range.now) values.now) }
 {
-    let from = range.from().value(alloc, values)?;
-    let upto = range.upto().value(alloc, values)?;
+    let from = values.value_of(alloc, range.from())?;
+    let upto = values.value_of(alloc, range.upto())?;
     let minus_one = Whole::small(alloc, -1);
     upto.plus_times(alloc, &minus_one, &from)
 }
@@ -274,6 +282,14 @@ fn judge_optional(alloc: Global, name: &Option<Named>, values: &[Whole]) -> Resu
 fn judge_indices(alloc: Global, indices: &[Form], values: &[Whole]) -> Result<Finding, Memory>
     ensures found { IfOk result (λ found. found ≡ indices_found indices.now values.now) }
 {
+    let values = Values::of(alloc, values);
+    judge_indices_inside(alloc, indices, &values)
+}
+
+/// The same inside sums.
+fn judge_indices_inside(alloc: Global, indices: &[Form], values: &Values) -> Result<Finding, Memory>
+    ensures found { IfOk result (λ found. found ≡ indices_found indices.now values.now) }
+{
     let mut found = Finding::Nothing;
     for index in indices {
         let here = judge_index(alloc, index, values)?;
@@ -283,10 +299,10 @@ fn judge_indices(alloc: Global, indices: &[Form], values: &[Whole]) -> Result<Fi
 }
 
 /// An index.
-fn judge_index(alloc: Global, index: &Form, values: &[Whole]) -> Result<Finding, Memory>
+fn judge_index(alloc: Global, index: &Form, values: &Values) -> Result<Finding, Memory>
     ensures found { IfOk result (λ found. found ≡ index_found index.now values.now) }
 {
-    let value = index.value(alloc, values)?;
+    let value = values.value_of(alloc, index)?;
     let out = is_outside(alloc, &value)?;
     Ok(found_where(false, out))
 }
@@ -308,7 +324,7 @@ fn judge_trees(alloc: Global, trees: &[Placed], values: &[Whole]) -> Result<Find
 {
     let mut found = Finding::Nothing;
     for tree in trees {
-        let here = judge_tree(alloc, tree, values)?;
+        let here = judge_in(alloc, tree, values)?;
         found = worse(found, here);
     }
     Ok(found)
@@ -390,13 +406,21 @@ fn judge_entries(alloc: Global, indices: &[Form], settings: &[Setting]) -> Resul
 }
 
 /// An expression.
+fn judge_in(alloc: Global, placed: &Placed, values: &[Whole]) -> Result<Finding, Memory>
+    ensures found { IfOk result (λ found. found ≡ tree_found (placed_of placed.now) values.now) }
+{
+    let values = Values::of(alloc, values);
+    judge_tree(alloc, placed, &values)
+}
+
+/// The same inside sums.
 #[cycle(judge_tree)]
-fn judge_tree(alloc: Global, placed: &Placed, values: &[Whole]) -> Result<Finding, Memory>
+fn judge_tree(alloc: Global, placed: &Placed, values: &Values) -> Result<Finding, Memory>
     ensures found { IfOk result (λ found. found ≡ tree_found (placed_of placed.now) values.now) }
 {
     match placed {
         Placed::Number(_) => Ok(Finding::Nothing),
-        Placed::Name(name) => judge_indices(alloc, name.indices.items(), values),
+        Placed::Name(name) => judge_indices_inside(alloc, name.indices.items(), values),
         Placed::Sum(parts) => judge_parts(alloc, parts.items(), values),
         Placed::Product(factors) => judge_factors(alloc, factors.items(), values),
         Placed::Over(ends, inner) => judge_over(alloc, ends, inner, values),
@@ -405,7 +429,7 @@ fn judge_tree(alloc: Global, placed: &Placed, values: &[Whole]) -> Result<Findin
 
 /// The parts of a sum.
 #[cycle(judge_tree)]
-fn judge_parts(alloc: Global, parts: &[Part], values: &[Whole]) -> Result<Finding, Memory>
+fn judge_parts(alloc: Global, parts: &[Part], values: &Values) -> Result<Finding, Memory>
     ensures found { IfOk result (λ found. found
         ≡ parts_found (parts_of (map part_of parts.now)) values.now) }
 {
@@ -419,7 +443,7 @@ fn judge_parts(alloc: Global, parts: &[Part], values: &[Whole]) -> Result<Findin
 
 /// The factors of a product.
 #[cycle(judge_tree)]
-fn judge_factors(alloc: Global, factors: &[Placed], values: &[Whole]) -> Result<Finding, Memory>
+fn judge_factors(alloc: Global, factors: &[Placed], values: &Values) -> Result<Finding, Memory>
     ensures found { IfOk result (λ found.
         found ≡ factors_found (factors_of (map placed_of factors.now)) values.now) }
 {
@@ -437,16 +461,16 @@ fn judge_over(
     alloc: Global,
     ends: &Ends,
     inner: &Placed,
-    values: &[Whole],
+    values: &Values,
 ) -> Result<Finding, Memory>
     ensures found { IfOk result (λ found.
         found ≡ range_found ends.now (tree_found (placed_of inner.now)) values.now) }
 {
-    let mut found = judge_length(alloc, ends, values)?;
+    let mut found = judge_length_inside(alloc, ends, values)?;
     if is_too_long(found) {
         return Ok(found);
     }
-    let mut run = Run::new(alloc, ends, values)?;
+    let mut run = Run::inside(alloc, ends, values)?;
     'values: while let Some(value) = run.next(alloc)? {
         let here = judge_at(alloc, inner, &value, values)?;
         found = worse(found, here);
@@ -460,17 +484,17 @@ fn judge_at(
     alloc: Global,
     inner: &Placed,
     value: &Whole,
-    values: &[Whole],
+    values: &Values,
 ) -> Result<Finding, Memory>
     ensures found { IfOk result (λ found.
         found ≡ tree_found (placed_of inner.now) (value.now ∷ values.now)) }
 {
-    let mut inside = values_around(alloc, inner, value, values)?;
+    let mut inside = values.with(alloc, value)?;
     match inner {
         Placed::Over(_, _) => {
             let last = inmost(alloc, inner, &mut inside)?;
-            judge_tree(alloc, last, inside.items())
+            judge_tree(alloc, last, &inside)
         }
-        _ => judge_tree(alloc, inner, inside.items()),
+        _ => judge_tree(alloc, inner, &inside),
     }
 }

@@ -25,7 +25,6 @@ mod scope;
 mod setting;
 mod settings;
 mod spot;
-mod stack;
 mod tokens;
 
 pub use expansion::expand;

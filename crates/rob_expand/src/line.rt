@@ -8,7 +8,7 @@ ghost use Rattle.rob_expand.specs.Settings.{all_left};
 ghost use Rattle.rob_expand.specs.Spots.{IsThinAt, picks};
 ghost use Rattle.rob_ranges.specs.Spans.{Every};
 
-use crate::count::count;
+use crate::count::count_in;
 use crate::inner::Inner;
 use crate::placed::{Named, Placed};
 use crate::room::{Stop, spend};
@@ -114,7 +114,7 @@ fn spend_trees(
 {
     let mut left = room;
     for tree in trees {
-        let counted = count(alloc, limit, tree, values, left)?;
+        let counted = count_in(alloc, limit, tree, values, left)?;
         left = counted.left;
     }
     Ok(left)

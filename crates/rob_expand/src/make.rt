@@ -9,12 +9,12 @@ ghost use Rattle.rob_expand.specs.Making as spec;
 ghost use Rattle.rob_expand.specs.Making.{made_each, made_factors, made_parts, summed_of};
 ghost use Rattle.rob_expand.specs.Placed.{placed_of};
 
-use crate::inmost::{inmost, values_around};
-use crate::name::name_number;
+use crate::inmost::inmost;
+use crate::name::name_number_inside;
 use crate::placed::{Part, Placed};
 use rob_number::{List, Memory};
 use rob_ranges::run::Run;
-use rob_ranges::{Ends, Whole};
+use rob_ranges::{Ends, Values, Whole};
 use rob_syntax::Words;
 use rob_syntax::syntax::{Numeral, Summand, Syntax};
 use std::alloc::Global;
@@ -30,9 +30,8 @@ pub fn zero() -> Syntax
     })
 }
 
-/// An expression.
-#[cycle(make)]
-pub fn make(
+/// An expression in a setting.
+pub fn make_in(
     alloc: Global,
     own: &Words,
     words: &Words,
@@ -42,9 +41,27 @@ pub fn make(
     ensures made { IfOk result (λ made. made ≡ numbered_tree (texts words.now.keys)
         (printed_at (texts own.now.keys) (placed_of placed.now) values.now)) }
 {
+    let values = Values::of(alloc, values);
+    make(alloc, own, words, placed, &values)
+}
+
+/// The same inside sums.
+#[cycle(make)]
+fn make(
+    alloc: Global,
+    own: &Words,
+    words: &Words,
+    placed: &Placed,
+    values: &Values,
+) -> Result<Syntax, Memory>
+    ensures made { IfOk result (λ made. made ≡ numbered_tree (texts words.now.keys)
+        (printed_at (texts own.now.keys) (placed_of placed.now) values.now)) }
+{
     match placed {
         Placed::Number(number) => Ok(Syntax::Number(*number)),
-        Placed::Name(name) => Ok(Syntax::Name(name_number(alloc, own, words, name, values)?)),
+        Placed::Name(name) => Ok(Syntax::Name(name_number_inside(
+            alloc, own, words, name, values,
+        )?)),
         Placed::Sum(parts) => {
             let parts = make_parts(alloc, own, words, parts.items(), values)?;
             Ok(Syntax::Sum(parts))
@@ -64,7 +81,7 @@ fn make_parts(
     own: &Words,
     words: &Words,
     parts: &[Part],
-    values: &[Whole],
+    values: &Values,
 ) -> Result<List<Summand>, Memory>
     ensures made { IfOk result (λ made.
         made ≡ made_parts (texts own.now.keys) (texts words.now.keys) values.now parts.now) }
@@ -87,7 +104,7 @@ fn make_factors(
     own: &Words,
     words: &Words,
     factors: &[Placed],
-    values: &[Whole],
+    values: &Values,
 ) -> Result<List<Syntax>, Memory>
     ensures made { IfOk result (λ made.
         made ≡ made_factors (texts own.now.keys) (texts words.now.keys) values.now factors.now) }
@@ -107,14 +124,14 @@ fn make_over(
     words: &Words,
     ends: &Ends,
     inner: &Placed,
-    values: &[Whole],
+    values: &Values,
 ) -> Result<Syntax, Memory>
     ensures made { IfOk result (λ made. made
         ≡ summed_of (made_each (texts own.now.keys) (texts words.now.keys)
         (placed_of inner.now) values.now (values_of ends.now values.now))) }
 {
     let mut made = Vec::new(alloc);
-    let mut run = Run::new(alloc, ends, values)?;
+    let mut run = Run::inside(alloc, ends, values)?;
     'values: while let Some(value) = run.next(alloc)? {
         let plain = make_at(alloc, own, words, inner, &value, values)?;
         made.push(Summand {
@@ -133,18 +150,18 @@ fn make_at(
     words: &Words,
     inner: &Placed,
     value: &Whole,
-    values: &[Whole],
+    values: &Values,
 ) -> Result<Syntax, Memory>
     ensures made { IfOk result (λ made. made ≡ numbered_tree (texts words.now.keys)
         (printed_at (texts own.now.keys) (placed_of inner.now) (value.now ∷ values.now))) }
 {
-    let mut inside = values_around(alloc, inner, value, values)?;
+    let mut inside = values.with(alloc, value)?;
     match inner {
         Placed::Over(_, _) => {
             let last = inmost(alloc, inner, &mut inside)?;
-            make(alloc, own, words, last, inside.items())
+            make(alloc, own, words, last, &inside)
         }
-        _ => make(alloc, own, words, inner, inside.items()),
+        _ => make(alloc, own, words, inner, &inside),
     }
 }
 

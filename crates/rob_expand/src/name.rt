@@ -12,7 +12,7 @@ ghost use Rattle.rob_expand.specs.Growing.{index_bytes, named_at};
 use crate::placed::Named;
 use itoa::Buffer;
 use rob_number::Memory;
-use rob_ranges::{Form, Whole};
+use rob_ranges::{Form, Values, Whole};
 use rob_syntax::Words;
 use std::alloc::Global;
 
@@ -47,6 +47,23 @@ pub fn add_name(
     words: &mut Words,
     name: &Named,
     values: &[Whole],
+) -> Result<bool, Memory>
+    ensures words { OnOk result (texts words.new.keys
+        ≡ fold spec.add_name (texts words.old.keys) (named_at (texts own.now.keys) name.now values.now ∷ [])) }
+    ensures long { IfOk result (λ long. long
+        ≡ list_any is_long_name (named_at (texts own.now.keys) name.now values.now ∷ [])) }
+{
+    let values = Values::of(alloc, values);
+    add_name_inside(alloc, own, words, name, &values)
+}
+
+/// The same inside sums.
+pub fn add_name_inside(
+    alloc: Global,
+    own: &Words,
+    words: &mut Words,
+    name: &Named,
+    values: &Values,
 ) -> Result<bool, Memory>
     ensures words { OnOk result (texts words.new.keys
         ≡ fold spec.add_name (texts words.old.keys) (named_at (texts own.now.keys) name.now values.now ∷ [])) }
@@ -92,6 +109,21 @@ pub fn name_number(
     ensures number { IfOk result (λ number. number
         ≡ symbols.number_of (texts words.now.keys) (named_at (texts own.now.keys) name.now values.now)) }
 {
+    let values = Values::of(alloc, values);
+    name_number_inside(alloc, own, words, name, &values)
+}
+
+/// The same inside sums.
+pub fn name_number_inside(
+    alloc: Global,
+    own: &Words,
+    words: &Words,
+    name: &Named,
+    values: &Values,
+) -> Result<usize, Memory>
+    ensures number { IfOk result (λ number. number
+        ≡ symbols.number_of (texts words.now.keys) (named_at (texts own.now.keys) name.now values.now)) }
+{
     let bytes = name_bytes(alloc, own, name, values)?;
     Ok(number_of(words, bytes.as_slice()))
 }
@@ -104,12 +136,23 @@ fn number_of(words: &Words, word: &[u8]) -> usize
 }
 
 /// The bytes of a name: its word, then each index behind `_`.
-fn name_bytes(alloc: Global, own: &Words, name: &Named, values: &[Whole]) -> Result<Vec<u8>, Memory>
+fn name_bytes(alloc: Global, own: &Words, name: &Named, values: &Values) -> Result<Vec<u8>, Memory>
     ensures bytes { IfOk result (λ bytes. bytes.items
         ≡ named_at (texts own.now.keys) name.now values.now) }
 {
-    let mut bytes = Vec::from_slice(alloc, word_at(own, name.word))?;
+    let mut bytes = word_bytes(alloc, own, name)?;
     append_indices(&mut bytes, alloc, name.indices.items(), values)?;
+    Ok(bytes)
+}
+
+/// The bytes of a name's word, with room for `_` and three digits for each index.
+fn word_bytes(alloc: Global, own: &Words, name: &Named) -> Result<Vec<u8>, Memory>
+    ensures bytes { IfOk result (λ bytes. bytes.items ≡ get_or (texts own.now.keys) name.now.word []) }
+{
+    let word = word_at(own, name.word);
+    let room = name.indices.items().len().saturating_mul(4);
+    let mut bytes = Vec::with_capacity(alloc, room.saturating_add(word.len()))?;
+    bytes.extend_from_slice(word)?;
     Ok(bytes)
 }
 
@@ -128,7 +171,7 @@ fn append_indices(
     bytes: &mut Vec<u8>,
     alloc: Global,
     forms: &[Form],
-    values: &[Whole],
+    values: &Values,
 ) -> Result<(), Memory>
     ensures appended { OnOk result (bytes.new.items
         ≡ bytes.old.items ++ flat_map (index_bytes values.now) forms.now) }
@@ -144,12 +187,12 @@ fn append_index(
     bytes: &mut Vec<u8>,
     alloc: Global,
     form: &Form,
-    values: &[Whole],
+    values: &Values,
 ) -> Result<(), Memory>
     ensures appended { OnOk result (bytes.new.items
         ≡ bytes.old.items ++ index_bytes values.now form.now) }
 {
-    let value = form.value(alloc, values)?;
+    let value = values.value_of(alloc, form)?;
     let number = printed(alloc, &value)?;
     bytes.push(b'_')?;
     let mut buffer = Buffer::new();

@@ -6,3 +6,4 @@ pub mod SeekingLemmas
 pub mod ShortLemmas
 pub mod SpanLemmas
 pub mod ProductLemmas
+pub mod ValueLemmas

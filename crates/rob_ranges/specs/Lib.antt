@@ -5,3 +5,4 @@ pub mod Nests
 pub mod Seeking
 pub mod Shorts
 pub mod Spans
+pub mod Values

@@ -13,9 +13,11 @@ pub mod search;
 pub mod short;
 pub mod small;
 pub mod span;
+pub mod values;
 pub mod whole;
 
 pub use form::{Ends, Form};
 pub use nest::Nest;
 pub use search::Purse;
+pub use values::Values;
 pub use whole::Whole;

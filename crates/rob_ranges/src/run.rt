@@ -1,9 +1,10 @@
 //! The values of a range, upwards.
 
-ghost use Rattle.std.specs.Prelude.{◌≡◌, ◌∷◌, ◌+ℤ◌, [], pos, None, IfOk, IfSome, MatchOption};
+ghost use Rattle.std.specs.Prelude.{◌≡◌, ◌∷◌, ◌+ℤ◌, [], pos, false, true, None, IfOk, IfSome, MatchOption};
 ghost use Rattle.rob_index.specs.Forms.{value_of, values_of};
 
 use crate::form::Ends;
+use crate::values::Values;
 use crate::whole::Whole;
 use rob_number::Memory;
 use std::alloc::Global;
@@ -35,6 +36,15 @@ impl Run {
         Ok(Run { next, last })
     }
 
+    /// The same inside sums.
+    pub fn inside(alloc: Global, range: &Ends, values: &Values) -> Result<Run, Memory>
+        ensures values { IfOk result (λ run. run ≡ values_of range.now values.now) }
+    {
+        let next = values.value_of(alloc, range.from())?;
+        let last = values.value_of(alloc, range.upto())?;
+        Ok(Run { next, last })
+    }
+
     /// The next value, if one is left; else none is behind it.
     pub fn next(&mut self, alloc: Global) -> Result<Option<Whole>, Memory>
         ensures next { IfOk result (λ next.
@@ -51,54 +61,80 @@ impl Run {
     }
 }
 
-/// The value of a range at some values of those around it, where it is seen to have no other: both ends are this one.
-#[inline(always)]
-pub fn only_value(alloc: Global, range: &Ends, values: &[Whole]) -> Result<Option<Whole>, Memory>
-    ensures from { IfOk result (λ only. IfSome only (λ v. v ≡ value_of range.now.from values.now)) }
-    ensures upto { IfOk result (λ only. IfSome only (λ v. v ≡ value_of range.now.upto values.now)) }
-{
-    match short_ends(range, values) {
-        Some((from, upto)) if from == upto => Ok(Some(Whole::small(alloc, from))),
-        Some(_) => Ok(None),
-        None => only_long(alloc, range, values),
+impl<'a> Values<'a> {
+    /// Puts the value of a range in front, where it is seen to have one alone; or says that none is put.
+    #[inline(always)]
+    pub fn enter(&mut self, alloc: Global, range: &Ends) -> Result<bool, Memory>
+        ensures from { IfOk result (λ entered. entered ≡ true
+            → self.new ≡ value_of range.now.from self.old ∷ self.old) }
+        ensures upto { IfOk result (λ entered. entered ≡ true
+            → value_of range.now.from self.old ≡ value_of range.now.upto self.old) }
+        ensures same { IfOk result (λ entered. entered ≡ false → self.new ≡ self.old) }
+    {
+        match short_ends(range, self) {
+            Some((from, upto)) if from == upto => {
+                self.put(Whole::small(alloc, from))?;
+                Ok(true)
+            }
+            Some(_) => Ok(false),
+            None => self.enter_long(alloc, range),
+        }
+    }
+
+    /// The same, whatever the ends are kept in.
+    #[inline(never)]
+    fn enter_long(&mut self, alloc: Global, range: &Ends) -> Result<bool, Memory>
+        ensures from { IfOk result (λ entered. entered ≡ true
+            → self.new ≡ value_of range.now.from self.old ∷ self.old) }
+        ensures upto { IfOk result (λ entered. entered ≡ true
+            → value_of range.now.from self.old ≡ value_of range.now.upto self.old) }
+        ensures same { IfOk result (λ entered. entered ≡ false → self.new ≡ self.old) }
+    {
+        match only_long(alloc, range, self)? {
+            Some(value) => {
+                self.put(value)?;
+                Ok(true)
+            }
+            None => Ok(false),
+        }
     }
 }
 
 /// The ends of a range at some values, where all are kept in one digit.
 #[inline(always)]
-fn short_ends(range: &Ends, values: &[Whole]) -> Option<(i64, i64)>
+fn short_ends(range: &Ends, values: &Values) -> Option<(i64, i64)>
     ensures from { IfSome result (λ ends. ends.0 ≡ value_of range.now.from values.now) }
     ensures upto { IfSome result (λ ends. ends.1 ≡ value_of range.now.upto values.now) }
 {
-    let from = range.from().short_value(values)?;
+    let from = values.short_value(range.from())?;
     let upto = short_upto(range, from, values)?;
     Some((from, upto))
 }
 
 /// The last of them, where the first is this.
 #[inline(always)]
-fn short_upto(range: &Ends, from: i64, values: &[Whole]) -> Option<i64>
+fn short_upto(range: &Ends, from: i64, values: &Values) -> Option<i64>
     requires from { from ≡ value_of range.now.from values.now }
     ensures upto { IfSome result (λ upto. upto ≡ value_of range.now.upto values.now) }
 {
     if range.is_single() {
         Some(from)
     } else {
-        range.upto().short_value(values)
+        values.short_value(range.upto())
     }
 }
 
 /// The value that both ends are, whatever they are kept in.
 #[inline(never)]
-fn only_long(alloc: Global, range: &Ends, values: &[Whole]) -> Result<Option<Whole>, Memory>
+fn only_long(alloc: Global, range: &Ends, values: &Values) -> Result<Option<Whole>, Memory>
     ensures from { IfOk result (λ only. IfSome only (λ v. v ≡ value_of range.now.from values.now)) }
     ensures upto { IfOk result (λ only. IfSome only (λ v. v ≡ value_of range.now.upto values.now)) }
 {
-    let from = range.from().value(alloc, values)?;
+    let from = values.value_of(alloc, range.from())?;
     if range.is_single() {
         return Ok(Some(from));
     }
-    let upto = range.upto().value(alloc, values)?;
+    let upto = values.value_of(alloc, range.upto())?;
     if from.is_seen_same(&upto) {
         Ok(Some(from))
     } else {

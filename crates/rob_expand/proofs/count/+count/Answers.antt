@@ -29,8 +29,8 @@ count_item-returns-in_err-counted t c = record {
 
 pub count_item-returns : goal.count_item-returns
 count_item-returns t c = record {
-  left = moved c.spend-2.result _ _ (item_behind c.args.limit c.args.front c.args.inner.now c.args.values.now c.args.room
-      c.in_ok-begun.ensures.left c.in_ok-counted.ensures.counted (c.parens.ensures.parens c.args.limit))
+  left = moved c.spend-2.result _ _ (item_behind c.args.limit c.args.front c.args.inner.now c.args.values.now
+      c.args.room c.in_ok-begun.ensures.left c.in_ok-counted.ensures.counted (c.parens.ensures.parens c.args.limit))
       c.spend-2.ensures.left;
 }
 
@@ -74,7 +74,7 @@ pub count_over-returns-in_ok-last-in-One : goal.count_over-returns-in_ok-last-in
 count_over-returns-in_ok-last-in-One t c = record {
   counted = over_one c.args.limit c.args.inner.now c.args.values.now (values_of c.args.ends.now c.args.values.now)
       c.args.room c.count.result c.in-One.is c.in_ok-many.ensures.many c.in_ok-inside-in-One.ensures.values
-      (counted_inside c.in_ok-last-in-One.ensures.inmost c.items.ensures.list c.args.limit c.args.room c.count.result
+      (counted_inside c.in_ok-last-in-One.ensures.inmost c.args.limit c.args.room c.count.result
       c.count.ensures.counted);
 }
 
@@ -88,14 +88,13 @@ pub count_each-values-preserved : goal.count_each-values-preserved
 count_each-values-preserved t c =
     each_more c.values.invariant
     (next_some c.in_ok-value.field-0 c.in-Some.value _ _ c.in-Some.is c.in_ok-value.ensures.next)
-    c.in_ok-put_first.ensures.first c.as_slice.ensures.value (c.lead.ensures.lead c.args.limit)
-    c.in_ok-behind.ensures.left
+    c.in_ok-inside.ensures.values (c.lead.ensures.lead c.args.limit) c.in_ok-behind.ensures.left
 
 pub count_each-returns-in_err-behind : goal.count_each-returns-in_err-behind
 count_each-returns-in_err-behind t c = record {
   counted = each_stop c.values.invariant
       (next_some c.in_ok-value.field-0 c.in-Some.value _ _ c.in-Some.is c.in_ok-value.ensures.next)
-      c.in_ok-put_first.ensures.first c.as_slice.ensures.value (c.lead.ensures.lead c.args.limit) _
+      c.in_ok-inside.ensures.values (c.lead.ensures.lead c.args.limit) _
       c.in_err-behind.field-0.0
       (err_from_is_err_and c.from_residual-in_err-behind.result c.from_residual-in_err-behind.ensures.1)
       c.in_err-behind.ensures.left;

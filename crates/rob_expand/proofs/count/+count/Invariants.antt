@@ -14,7 +14,7 @@ invariant-count_factors-loop-factor l =
 
 abbrev pub invariant-count_each-values : goal.invariant-count_each-values
 invariant-count_each-values l =
-    HasEachLeft l.limit l.inner l.values l.first l.run l.left (values_of l.ends l.values) l.room l.inside.items
+    HasEachLeft l.limit l.inner l.values l.first l.run l.left (values_of l.ends l.values) l.room
 
 abbrev pub decreases-count_each-values : goal.decreases-count_each-values
 decreases-count_each-values l = length l.run

@@ -99,7 +99,7 @@ grow_over-returns t c =
 pub grow_at-returns-in-Over : goal.grow_at-returns-in-Over
 grow_at-returns-in-Over t c =
     let inside =
-    printed_inside c.in_ok-last-in-Over.ensures.inmost c.in_ok-inside.ensures.values c.items.ensures.list
+    printed_inside c.in_ok-last-in-Over.ensures.inmost c.in_ok-inside.ensures.values
     (texts c.args.own.now.keys) in
     record {
       words =

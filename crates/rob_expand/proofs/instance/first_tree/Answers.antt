@@ -6,7 +6,7 @@ use Rattle.rob_expand.proofs.instance.first_tree.Goals as goal
 pub returns-in-len1-up : goal.returns-in-len1-up
 returns-in-len1-up c = record {
   made =
-      moved_if c.make.result _ _ c.make.ensures.made
+      moved_if c.make_in.result _ _ c.make_in.ensures.made
       (λ s e. e ∙ first_some (texts c.args.own.now.keys) (texts c.args.words.now.keys) c.args.values.now
       c.args.trees.now c.first-item.result c.in-len1-up.len_at_least c.first-item.is);
 }

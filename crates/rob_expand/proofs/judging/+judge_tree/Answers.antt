@@ -84,5 +84,5 @@ pub judge_at-returns-in-Over : goal.judge_at-returns-in-Over
 judge_at-returns-in-Over t c = record {
   found =
       moved_if c.judge_tree.result _ _ c.judge_tree.ensures.found
-      (λ b e. e ∙ found_inside c.in_ok-last-in-Over.ensures.inmost c.in_ok-inside.ensures.values c.items.ensures.list);
+      (λ b e. e ∙ found_inside c.in_ok-last-in-Over.ensures.inmost c.in_ok-inside.ensures.values);
 }

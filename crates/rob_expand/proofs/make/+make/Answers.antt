@@ -104,6 +104,6 @@ make_at-returns-in-Over t c = record {
       moved_if c.make.result _ _ c.make.ensures.made
       (λ s e. e
       ∙ ap (numbered_tree (texts c.args.words.now.keys))
-      (printed_inside c.in_ok-last-in-Over.ensures.inmost c.in_ok-inside.ensures.values c.items.ensures.list
+      (printed_inside c.in_ok-last-in-Over.ensures.inmost c.in_ok-inside.ensures.values
       (texts c.args.own.now.keys)));
 }

@@ -8,6 +8,6 @@ pub returns : goal.returns
 returns c = record {
   bytes =
       c.in_ok-append_indices.ensures.appended
-      ∙ join_both (c.in_ok-bytes.ensures.items ∙ c.word_at.ensures.word)
+      ∙ join_both c.in_ok-bytes.ensures.bytes
       (ap (flat_map (index_bytes c.args.values.now)) c.items.ensures.list);
 }

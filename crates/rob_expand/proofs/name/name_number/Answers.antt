@@ -1,11 +1,17 @@
-use Rattle.std.proofs.Common.{ap, ◌∙◌}
+use Rattle.std.proofs.Common.{ap, ◌∙◌, List}
+use Rattle.std.specs.Prelude.{ℤ}
 use Rattle.rob_syntax.specs.Known.{texts}
 use Rattle.rob_syntax.specs.Symbols.{number_of}
+use Rattle.rob_expand.specs.Growing.{named_at}
+use Rattle.rob_expand.proofs.MakeLemmas.{moved_if}
 use Rattle.rob_expand.proofs.name.name_number.Goals as goal
 
 pub returns : goal.returns
 returns c = record {
   number =
-      c.number_of.ensures.number
-      ∙ ap (number_of (texts c.args.words.now.keys)) (c.as_slice.ensures.value ∙ c.in_ok-bytes.ensures.bytes);
+      moved_if c.name_number_inside.result _ _ c.name_number_inside.ensures.number
+      (λ n e. e
+      ∙ ap (λ (vs : List ℤ). number_of (texts c.args.words.now.keys)
+      (named_at (texts c.args.own.now.keys) c.args.name.now vs))
+      c.of-values.ensures.values);
 }

@@ -1,6 +1,6 @@
 use Rattle.std.proofs.Common.{◌≡◌, drop}
 use Rattle.rob_expand.specs.Judging.{worse, worst, index_found}
-use Rattle.rob_expand.proofs.judging.judge_indices.Given as goal
+use Rattle.rob_expand.proofs.judging.judge_indices_inside.Given as goal
 
 abbrev pub invariant-loop-index : goal.invariant-loop-index
 invariant-loop-index l =

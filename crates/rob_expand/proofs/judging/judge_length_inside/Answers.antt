@@ -1,7 +1,7 @@
 use Rattle.std.proofs.Common.{Bool, false, ap, ◌∙◌}
 use Rattle.std.specs.Prelude.{int_lt}
 use Rattle.rob_expand.specs.Judging.{finding}
-use Rattle.rob_expand.proofs.judging.judge_length.Goals as goal
+use Rattle.rob_expand.proofs.judging.judge_length_inside.Goals as goal
 
 pub returns : goal.returns
 returns c = record {
