@@ -95,8 +95,8 @@ append_values-values-preserved t c =
 pub append_at-returns-in_ok-upto-in-len1 : goal.append_at-returns-in_ok-upto-in-len1
 append_at-returns-in_ok-upto-in-len1 t c =
     let inside = c.args.value.now ∷ c.args.values.now in
-    let same = last_range c.args.inner.now inside c.range-item.result c.in_ok-from-in-len1.from c.in_ok-upto-in-len1.upto
-    c.in-len1.len_at_least c.in-len1.len_below c.range-item.is
+    let same = last_range c.args.inner.now inside c.range-item.result c.in_ok-from-in-len1.from
+    c.in_ok-upto-in-len1.upto c.in-len1.len_at_least c.in-len1.len_below c.range-item.is
     (value_read inside c.in_ok-from-in-len1.ensures.value c.from.ensures.from)
     (value_read inside c.in_ok-upto-in-len1.ensures.value c.upto.ensures.upto) in
     record {
