@@ -1,6 +1,6 @@
 -- The products of factors and values of which those that are 0 are counted.
-use Rattle.std.proofs.Common.{◌≡◌, ◌<◌, ◌≤◌, ◌+◌, ◌-◌, ℕ, zero, suc, get_or, List, [], ◌∷◌, length, take, drop, slice_set, slice_index_or, refl, sym, ap, ◌∙◌, arith}
-use Rattle.std.specs.Prelude.{ℤ, pos, ◌+ℤ◌, ◌*ℤ◌, Result, Ok, Err, OnOk}
+use Rattle.std.proofs.Common.{◌≡◌, ◌<◌, ◌≤◌, ◌+◌, ◌-◌, ℕ, zero, suc, get_or, List, [], ◌∷◌, length, take, drop, slice_set, slice_index_or, refl, sym, ap, ◌∙◌, subst, arith}
+use Rattle.std.specs.Prelude.{ℤ, pos, ◌+ℤ◌, ◌*ℤ◌, Result, IfOk}
 use Rattle.std.proofs.lemmas.Int.{ints}
 use Rattle.std.proofs.lemmas.List.{take_all}
 use Rattle.std.proofs.Math.IntN.{*ℤ-zero}
@@ -87,8 +87,25 @@ module _ (near : List Place) (k : ℕ) (p : Place) (far cs shown : List ℤ) (in
       ap (λ (ps : List Place). weighed cs (spread ps far)) (drop_at near k p inside place_is)
       ∙ place_weighed cs shown p (drop (k + 1) near) far is f (behind_first shown) (first_is shown f more f_is)
 
--- a product is added, and then the others
-pub sum_further : {T E : Type 0} (r : Result T E) (new mid old whole product rest : ℤ) → mid ≡ old +ℤ product
-    → whole ≡ product +ℤ rest → OnOk r (new ≡ mid +ℤ rest) → OnOk r (new ≡ old +ℤ whole)
-sum_further (Ok x) new mid old whole product rest first all given = omega (arith, ints, first, all, given)
-sum_further (Err e) new mid old whole product rest first all given = tt
+-- the same sum, written in another way
+pub same_if : {E : Type 0} (r : Result ℤ E) (a b : ℤ) → a ≡ b → IfOk r (λ s. s ≡ a) → IfOk r (λ s. s ≡ b)
+same_if r a b is given = subst (λ (z : ℤ). IfOk r (λ s. s ≡ z)) is given
+
+-- ---- a number, a short one and the products of the places
+pub all_far : (near : List Place) (far : List ℤ) → length near < 1 → far ≡ spread near far
+all_far [] far h = refl
+all_far (p ∷ ps) far h = absurd (omega (arith, h))
+
+pub none_added : (n whole : ℤ) → whole ≡ pos 0 → n ≡ n +ℤ whole
+none_added n whole none = omega (arith, ints, none)
+
+pub plus_nothing : (n whole : ℤ) → (n +ℤ pos 0) +ℤ whole ≡ n +ℤ whole
+plus_nothing n whole = omega (arith, ints)
+
+pub short_added : (n next short product rest whole : ℤ) → next ≡ short +ℤ product → whole ≡ product +ℤ rest
+    → (n +ℤ next) +ℤ rest ≡ (n +ℤ short) +ℤ whole
+short_added n next short product rest whole is all = omega (arith, ints, is, all)
+
+pub long_added : (n next short passed product rest whole : ℤ) → next ≡ n +ℤ product → passed ≡ short
+    → whole ≡ product +ℤ rest → (next +ℤ passed) +ℤ rest ≡ (n +ℤ short) +ℤ whole
+long_added n next short passed product rest whole is same all = omega (arith, ints, is, same, all)

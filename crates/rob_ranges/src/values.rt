@@ -6,7 +6,7 @@ ghost use Rattle.rob_index.specs.Forms.{value_of, weighed};
 ghost use Rattle.rob_ranges.specs.Values.{spread};
 
 use crate::form::Form;
-use crate::products::{add_some, add_weighed, short_weighed};
+use crate::products::{add_weighed, short_weighed};
 use crate::whole::Whole;
 use rob_number::Memory;
 use std::alloc::Global;
@@ -98,10 +98,8 @@ impl<'a> Values<'a> {
     fn long_value(&self, alloc: Global, form: &Form) -> Result<Whole, Memory>
         ensures value { IfOk result (λ value. value ≡ value_of form.now self.now) }
     {
-        let mut value = form.constant().copy(alloc)?;
         let near = self.near.as_slice();
-        add_spread(&mut value, alloc, form.factors(), near, self.far)?;
-        Ok(value)
+        long_spread(alloc, form.constant(), 0, form.factors(), near, self.far)
     }
 }
 
@@ -172,25 +170,55 @@ fn short_spread(number: i64, factors: &[Whole], near: &[Place], far: &[Whole]) -
     short_weighed(sum, rest, far)
 }
 
-/// Adds the products of factors and values.
-fn add_spread(
-    sum: &mut Whole,
+/// A number, a short one, and the products of factors and values, whatever they are kept in. As long as a product is
+/// short, it is added to the short number.
+fn long_spread(
     alloc: Global,
+    number: &Whole,
+    short: i64,
     factors: &[Whole],
     near: &[Place],
     far: &[Whole],
-) -> Result<(), Memory>
-    ensures sum { OnOk result (sum.new
-        ≡ sum.old +ℤ weighed factors.now (spread near.now far.now)) }
+) -> Result<Whole, Memory>
+    ensures sum { IfOk result (λ sum. sum
+        ≡ (number.now +ℤ short) +ℤ weighed factors.now (spread near.now far.now)) }
 {
     match near {
-        [] => add_weighed(sum, alloc, factors, far),
+        [] => long_weighed(alloc, number, short, factors, far),
         [place, others @ ..] => match behind(factors, place.zeros) {
-            [] => Ok(()),
-            [factor, factors @ ..] => {
-                add_some(sum, alloc, factor, &place.value)?;
-                add_spread(sum, alloc, factors, others, far)
-            }
+            [] => plus_short(alloc, number, short),
+            [factor, factors @ ..] => match factor.short_product(&place.value, short) {
+                Some(next) => long_spread(alloc, number, next, factors, others, far),
+                None => {
+                    let next = number.plus_times(alloc, factor, &place.value)?;
+                    long_spread(alloc, &next, short, factors, others, far)
+                }
+            },
         },
     }
+}
+
+/// The same of values that all are kept.
+fn long_weighed(
+    alloc: Global,
+    number: &Whole,
+    short: i64,
+    factors: &[Whole],
+    values: &[Whole],
+) -> Result<Whole, Memory>
+    ensures sum { IfOk result (λ sum. sum
+        ≡ (number.now +ℤ short) +ℤ weighed factors.now values.now) }
+{
+    let mut sum = plus_short(alloc, number, short)?;
+    add_weighed(&mut sum, alloc, factors, values)?;
+    Ok(sum)
+}
+
+/// The sum of a number and a short one.
+fn plus_short(alloc: Global, number: &Whole, short: i64) -> Result<Whole, Memory>
+    ensures sum { IfOk result (λ sum. sum ≡ number.now +ℤ short) }
+{
+    let one = Whole::small(alloc, 1);
+    let other = Whole::small(alloc, short);
+    number.plus_times(alloc, &one, &other)
 }

@@ -1,5 +1,0 @@
-use Rattle.std.proofs.Common.{length}
-use Rattle.rob_ranges.proofs.values.+add_spread.Given as goal
-
-abbrev pub decreases-add_spread : goal.decreases-add_spread
-decreases-add_spread l = length l.near.now
