@@ -1,11 +1,11 @@
-use Rattle.std.proofs.Common.{◌≡◌, ◌∙◌, ap, arith, rules}
+use Rattle.std.proofs.Common.{◌∙◌, ap, rules}
 use Rattle.std.specs.Prelude.{ℤ, ◌+ℤ◌, ◌*ℤ◌}
 use mir.Syntax.{w64}
-use mir.Val.{SFits, to_z, of_z}
-use Rattle.std.proofs.lemmas.Int.{ints, to_z-of_z}
+use mir.Val.{SFits}
+use Rattle.std.proofs.lemmas.Int.{to_z-of_z}
 use Rattle.rob_index.specs.Forms.{weighed}
 use Rattle.rob_ranges.specs.Values.{spread}
-use Rattle.rob_ranges.proofs.ValueLemmas.{all_far, behind_first, long_added, none_added, none_first, place_first, same_if, short_added}
+use Rattle.rob_ranges.proofs.ValueLemmas.{all_far, long_added, none_added, none_first, place_first, same_if, short_added}
 use Rattle.rob_ranges.proofs.values.+long_spread.Goals as goal
 
 pub returns-in-empty : goal.returns-in-empty

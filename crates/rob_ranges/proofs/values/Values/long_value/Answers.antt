@@ -1,6 +1,5 @@
-use Rattle.std.proofs.Common.{◌≡◌, ◌∙◌, ap, List, arith}
+use Rattle.std.proofs.Common.{◌∙◌, ap, List}
 use Rattle.std.specs.Prelude.{ℤ, pos, ◌+ℤ◌}
-use Rattle.std.proofs.lemmas.Int.{ints}
 use Rattle.rob_index.specs.Forms.{weighed}
 use Rattle.rob_ranges.specs.Values.{spread}
 use Rattle.rob_ranges.proofs.ValueLemmas.{plus_nothing, same_if}
