@@ -9,7 +9,7 @@ use Rattle.rob_algebra.proofs.ListLemmas.{map_map}
 use Rattle.rob_index.specs.Statements as stated
 use Rattle.rob_index.specs.Statements.{Name, Tree}
 use Rattle.rob_index.specs.Expansion.{summed}
-use Rattle.rob_index.specs.Forms.{Form, Ends, value_of, values_of, length_form, minus}
+use Rattle.rob_index.specs.Forms.{Form, Ends, value_of, values_of, length_form}
 use Rattle.rob_index.specs.Fast.{nothing}
 use Rattle.rob_index.specs.Settings.{count, natural, upwards}
 use Rattle.rob_index.proofs.FormLemmas.{minus_is}
@@ -165,10 +165,13 @@ module _ (bound : List Binding) where
     }
 
   -- ---- a sum over a range, whose ends are these forms over the values that a setting has
-  module _ (whole : Ends) (from upto length : Form) (from_is : IsPutIn bound from whole.from)
-      (upto_is : IsPutIn bound upto whole.upto) (length_is : length ≡ minus upto from) (p inner : Placed) where
-    length_at : (ws : List ℤ) → value_of length ws ≡ value_of upto ws -ℤ value_of from ws
-    length_at ws = ap (λ (f : Form). value_of f ws) length_is ∙ minus_is upto from ws
+  module _ (whole : Ends) (from length : Form) (from_is : IsPutIn bound from whole.from)
+      (length_is : IsPutIn bound length (length_form whole)) (p inner : Placed) where
+    -- the last value of the range
+    upto_at : (ws : List ℤ) → value_of whole.upto (values_in bound ws) ≡ value_of from ws +ℤ value_of length ws
+    upto_at ws =
+        let far = length_is ws ∙ minus_is whole.upto whole.from (values_in bound ws) in
+        omega (arith, ints, far, from_is ws)
 
     -- the range from 0 up by its length
     abbrev moving : Ends
@@ -181,14 +184,13 @@ module _ (bound : List Binding) where
         → values_of whole (values_in bound ws) ≡ map (λ w. value_of from ws +ℤ w) (values_of moving ws)
     values_moved ws =
         let s = value_of from ws in
-        let u = value_of upto ws in
+        let u = s +ℤ value_of length ws in
         let zero = nothing_at ws in
-        let far = length_at ws in
         let reach : (u +ℤ pos 1) -ℤ s ≡ (value_of length ws +ℤ pos 1) -ℤ value_of nothing ws =
-        omega (arith, ints, zero, far) in
+        omega (arith, ints, zero) in
         let many : count s u ≡ count (value_of nothing ws) (value_of length ws) = ap natural reach in
         let start : s ≡ s +ℤ pos 0 = omega (arith, ints) in
-        (λ i. upwards (sym (from_is ws) i) (count (sym (from_is ws) i) (sym (upto_is ws) i)))
+        (λ i. upwards (sym (from_is ws) i) (count (sym (from_is ws) i) (upto_at ws i)))
         ∙ ap (λ (a : ℤ). upwards a (count s u)) start
         ∙ upwards_moved s (pos 0) (count s u)
         ∙ (λ i. map (λ w. s +ℤ w) (upwards (sym zero i) (many i)))
@@ -196,10 +198,9 @@ module _ (bound : List Binding) where
     length_alike : (ws : List ℤ) → value_of (length_form moving) ws ≡ value_of (length_form whole) (values_in bound ws)
     length_alike ws =
         let zero = nothing_at ws in
-        let far = length_at ws in
         let a = minus_is length nothing ws in
-        let b = minus_is whole.upto whole.from (values_in bound ws) in
-        omega (arith, ints, zero, far, a, b, from_is ws, upto_is ws)
+        let own : value_of (length_form moving) ws ≡ value_of length ws = omega (arith, ints, zero, a) in
+        own ∙ length_is ws
 
     pub over_alike : IsAlike (record { moves = true; start = from } ∷ bound) p inner
         → IsAlike bound (over moving p) (over whole inner)
@@ -237,20 +238,20 @@ module _ (bound : List Binding) where
     pub single_alike : IsNothing length → IsAlike (record { moves = false; start = from } ∷ bound) p inner
         → IsAlike bound p (over whole inner)
     single_alike none alike =
-        let from_at : (ws : List ℤ) → value_of from ws +ℤ pos 0 ≡ value_of whole.from (values_in bound ws) =
+        let first : (ws : List ℤ) → value_of from ws +ℤ pos 0 ≡ value_of whole.from (values_in bound ws) =
         λ ws. let a = from_is ws in omega (arith, ints, a) in
-        let upto_at : (ws : List ℤ) → value_of from ws +ℤ pos 0 ≡ value_of whole.upto (values_in bound ws) =
-        λ ws. let a = upto_is ws in let b = length_at ws in let d = none ws in omega (arith, ints, a, b, d) in
+        let last : (ws : List ℤ) → value_of from ws +ℤ pos 0 ≡ value_of whole.upto (values_in bound ws) =
+        λ ws. let a = upto_at ws in let b = none ws in omega (arith, ints, a, b) in
         record {
           counted = λ limit room ws.
               alike.counted limit room ws
-              ∙ sym (one_counted whole (values_in bound ws) (value_of from ws +ℤ pos 0) (from_at ws) (upto_at ws) inner
+              ∙ sym (one_counted whole (values_in bound ws) (value_of from ws +ℤ pos 0) (first ws) (last ws) inner
               limit room);
           printed = λ own ws.
               alike.printed own ws
-              ∙ sym (one_printed whole (values_in bound ws) (value_of from ws +ℤ pos 0) (from_at ws) (upto_at ws) inner
+              ∙ sym (one_printed whole (values_in bound ws) (value_of from ws +ℤ pos 0) (first ws) (last ws) inner
               own);
           found = λ ws.
               alike.found ws
-              ∙ sym (one_found whole (values_in bound ws) (value_of from ws +ℤ pos 0) (from_at ws) (upto_at ws) inner);
+              ∙ sym (one_found whole (values_in bound ws) (value_of from ws +ℤ pos 0) (first ws) (last ws) inner);
         }

@@ -1,10 +1,11 @@
 -- What is placed of the code's trees, level by level; lists that are placed item by item.
 use Rattle.std.proofs.Common.{◌≡◌, ℕ, Bool, true, false, ◌+◌, ◌<◌, ◌≤◌, List, [], ◌∷◌, ◌++◌, length, map, take, get_or, rules, sym, ap, ◌∙◌, subst}
+use Rattle.std.specs.Prelude.{Result, Ok, Err, OnOk}
 use Rattle.std.specs.declared.alloc.Global.{Global}
 use Rattle.std.specs.declared.boxed.Box.{Box}
 use Rattle.std.proofs.lemmas.List.{take_all, take_more}
 use Rattle.rob_index.specs.Fast.{index_form, ends_of, nothing}
-use Rattle.rob_index.specs.Forms.{Form, minus}
+use Rattle.rob_index.specs.Forms.{Form, length_form}
 use Rattle.rob_index.specs.Statements as stated
 use Rattle.rob_syntax.specs.declared.syntax.Index.{Index}
 use Rattle.rob_syntax.specs.declared.syntax.Numeral.{Numeral}
@@ -22,9 +23,19 @@ use Rattle.rob_expand.specs.declared.placed.Placed.TheVariants as code
 use Rattle.rob_expand.specs.declared.scope.Binding.{Binding}
 use Rattle.rob_expand.specs.Placed.{Placed, Part, number, name, sum, product, over, placed_of, part_of, parts_of, factors_of}
 use Rattle.rob_expand.specs.Placing.{placed_tree}
-use Rattle.rob_expand.specs.Scopes.{IsAlike, IsIndex, IsNothing, IsPart, IsPlaced, IsPutIn, Pairwise}
+use Rattle.rob_expand.specs.Scopes.{Scope, IsAlike, IsIndex, IsNothing, IsPart, IsPlaced, IsPutIn, Pairwise}
 use Rattle.rob_expand.proofs.AlikeLemmas.{number_alike, name_alike, sum_alike, product_alike, over_alike, single_alike}
 use Rattle.rob_expand.proofs.StepLemmas.{part_is}
+
+-- ---- what holds whether a call succeeds or not
+pub either_way : {T E P : Type 0} (r : Result T E) → P → OnOk r P
+either_way (Ok x) h = h
+either_way (Err e) h = tt
+
+-- ---- names that another place shows
+pub placed_as : {shown : Scope} (names : Scope) (p : Code) (t : stated.Tree) → shown ≡ names
+    → IsPlaced shown.bound shown.names p t → IsPlaced names.bound names.names p t
+placed_as names p t same h = subst (λ (s : Scope). IsPlaced s.bound s.names p t) same h
 
 -- ---- item by item
 pairs_with : {A B : Type 0} (Holds : A → B → Type 0) (xs : List A) (ys : List B) (x : A) (y : B)
@@ -148,32 +159,30 @@ module _ (bound : List Binding) (names : List ℕ) where
       (ap (λ (t : GivenTree). stated.ranged (seen_range r) (seen_tree t)) same ∙ sym (shown.ranged_is r b)
       ∙ sym (ap seen_tree is)) h
 
-  module _ (from upto length : Form) (r : Range) (t : GivenTree)
-      (from_is : IsIndex bound names from (seen_index r.from))
-      (upto_is : IsIndex bound names upto (seen_index r.upto)) (length_is : length ≡ minus upto from)
-      (inside : List Binding) (within : List ℕ) (within_is : within ≡ r.name ∷ names) (p : Code)
-      (placed : IsPlaced inside within p (seen_tree t)) where
+  module _ (from length : Form) (r : Range) (t : GivenTree) (from_is : IsIndex bound names from (seen_index r.from))
+      (length_is : IsPutIn bound length (length_form (ends_of names (seen_range r)))) (moves : Bool) (within : Scope)
+      (within_is : within
+      ≡ record { names = r.name ∷ names; bound = record { moves = moves; start = from } ∷ bound })
+      (p : Code) (placed : IsPlaced within.bound within.names p (seen_tree t)) where
     abbrev inner : Placed
     inner = placed_tree (r.name ∷ names) (seen_tree t)
 
-    alike_in : (moves : Bool) → inside ≡ record { moves = moves; start = from } ∷ bound
-        → IsAlike (record { moves = moves; start = from } ∷ bound) (placed_of p) inner
-    alike_in moves is =
-        subst (λ (l : List Binding). IsAlike l (placed_of p) inner) is
-        (subst (λ (ns : List ℕ). IsAlike inside (placed_of p) (placed_tree ns (seen_tree t))) within_is placed)
+    alike_in : (m : Bool) → moves ≡ m → IsAlike (record { moves = m; start = from } ∷ bound) (placed_of p) inner
+    alike_in m is =
+        subst (λ (x : Bool). IsAlike (record { moves = x; start = from } ∷ bound) (placed_of p) inner) is
+        (subst (λ (s : Scope). IsAlike s.bound (placed_of p) (placed_tree s.names (seen_tree t))) within_is placed)
 
     -- that has one value
-    pub single_placed : IsNothing length → inside ≡ record { moves = false; start = from } ∷ bound
-        → IsAlike bound (placed_of p) (whole_of r t)
+    pub single_placed : IsNothing length → moves ≡ false → IsAlike bound (placed_of p) (whole_of r t)
     single_placed none is =
-        single_alike bound (ends_of names (seen_range r)) from upto length from_is upto_is length_is (placed_of p) inner
-        none (alike_in false is)
+        single_alike bound (ends_of names (seen_range r)) from length from_is length_is (placed_of p) inner none
+        (alike_in false is)
 
     -- or may have more
-    pub over_is_placed : inside ≡ record { moves = true; start = from } ∷ bound → (whole : Code)
+    pub over_is_placed : moves ≡ true → (whole : Code)
         → placed_of whole ≡ over (record { from = nothing; upto = length }) (placed_of p)
         → IsAlike bound (placed_of whole) (whole_of r t)
     over_is_placed is whole whole_is =
         subst (λ (q : Placed). IsAlike bound q (whole_of r t)) (sym whole_is)
-        (over_alike bound (ends_of names (seen_range r)) from upto length from_is upto_is length_is (placed_of p) inner
+        (over_alike bound (ends_of names (seen_range r)) from length from_is length_is (placed_of p) inner
         (alike_in true is))

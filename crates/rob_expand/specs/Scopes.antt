@@ -1,7 +1,7 @@
 -- Forms that stand for the values around an expression: that of a name which a sum binds is the start of its range, a
 -- form over the values further out, and how far it is from there. A setting has only how far it is, and nothing of a
 -- name whose range has one value.
-use Rattle.std.specs.Prelude.{◌≡◌, ℕ, ℤ, pos, ◌+ℤ◌, Bool, true, false, List, [], ◌∷◌}
+use Rattle.std.specs.Prelude.{◌≡◌, ℕ, ℤ, pos, ◌+ℤ◌, Bool, true, false, List, [], ◌∷◌, drop}
 use Rattle.rob_index.specs.Forms.{Form, value_of, weighed, first_factor, other_factors, plus_times}
 use Rattle.rob_index.specs.Fast.{index_form}
 use Rattle.rob_index.specs.Statements.{Name, Index, Tree}
@@ -13,6 +13,20 @@ use Rattle.rob_expand.specs.Growing.{printed_at}
 use Rattle.rob_expand.specs.Judging.{tree_found}
 use Rattle.rob_expand.specs.Placed.{Placed, Part, placed_of}
 use Rattle.rob_expand.specs.Placing.{placed_tree}
+
+-- ---- the names around an expression
+-- the names, the innermost first, and what stands for the first of them
+pub record Scope : Type 0 where
+  pub names : List ℕ
+  pub bound : List Binding
+
+-- one name more, inside the others
+abbrev pub inside : Scope → ℕ → Binding → Scope
+inside s name b = record { names = name ∷ s.names; bound = b ∷ s.bound }
+
+-- one name fewer
+abbrev pub outside : Scope → Scope
+outside s = record { names = drop 1 s.names; bound = drop 1 s.bound }
 
 -- ---- the values that a setting has: the first belongs to the innermost name that moves; one that is missing is 0
 -- how far the name's value is from its start
@@ -39,6 +53,10 @@ in_front true c f = record { constant = f.constant; factors = c ∷ f.factors }
 -- a form over the values further out with so many times the name's value
 abbrev pub with_first : Binding → ℤ → Form → Form
 with_first b c f = in_front b.moves c (plus_times f c b.start)
+
+-- two forms have the same value everywhere
+abbrev pub AreEqual : Form → Form → Type 0
+AreEqual f g = (ws : List ℤ) → value_of f ws ≡ value_of g ws
 
 -- a form is another one into which these are put
 abbrev pub IsPutIn : List Binding → Form → Form → Type 0

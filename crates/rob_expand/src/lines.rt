@@ -143,9 +143,9 @@ fn two_trees(alloc: Global, names: &[usize], sides: &Sides) -> Result<List<Place
     ensures trees { IfOk result (λ trees. Pairwise (IsPlaced [] names.now) trees
         (seen_tree sides.now.left ∷ seen_tree sides.now.right ∷ [])) }
 {
-    let scope = Scope::within(alloc, names)?;
-    let left = place(alloc, &scope, &sides.left)?;
-    let right = place(alloc, &scope, &sides.right)?;
+    let mut scope = Scope::within(alloc, names)?;
+    let left = place(alloc, &mut scope, &sides.left)?;
+    let right = place(alloc, &mut scope, &sides.right)?;
     let mut trees = List::new(alloc);
     trees.push(left)?;
     trees.push(right)?;
@@ -159,8 +159,8 @@ fn goal(alloc: Global, limit: u64, target: &Target) -> Result<(List<Ends>, Line)
         (seen_over target.now.over) p.0 p.1) }
 {
     let nest = nest_in(alloc, &[], target.ranges.items())?;
-    let scope = Scope::within(alloc, nest.names.items())?;
-    let tree = place(alloc, &scope, &target.objective)?;
+    let mut scope = Scope::within(alloc, nest.names.items())?;
+    let tree = place(alloc, &mut scope, &target.objective)?;
     let mut trees = List::new(alloc);
     trees.push(tree)?;
     let over = place_over(alloc, nest.names.items(), &target.over)?;

@@ -1,6 +1,6 @@
 //! Expressions with their indices and ranges as forms.
 
-ghost use Rattle.std.specs.Prelude.{◌≡◌, ◌∷◌, map, IfOk};
+ghost use Rattle.std.specs.Prelude.{◌≡◌, ◌∷◌, map, IfOk, OnOk};
 ghost use Rattle.rob_index.specs.Fast as fast;
 ghost use Rattle.rob_index.specs.Fast.{nothing};
 ghost use Rattle.std.specs.Option.{option_map};
@@ -22,9 +22,10 @@ use std::alloc::Global;
 /// setting has how far the value is from there. Where the range is seen to have one value everywhere, what is placed is
 /// the expression inside.
 #[cycle(place)]
-pub fn place(alloc: Global, scope: &Scope, tree: &Tree) -> Result<Placed, Memory>
+pub fn place(alloc: Global, scope: &mut Scope, tree: &Tree) -> Result<Placed, Memory>
     ensures placed { IfOk result
-        (λ placed. IsPlaced scope.now.bound scope.now.names placed (seen_tree tree.now)) }
+        (λ placed. IsPlaced scope.old.bound scope.old.names placed (seen_tree tree.now)) }
+    ensures around { OnOk result (scope.new ≡ scope.old) }
 {
     match tree {
         Tree::Number(number) => Ok(Placed::Number(*number)),
@@ -40,20 +41,26 @@ pub fn place(alloc: Global, scope: &Scope, tree: &Tree) -> Result<Placed, Memory
 
 /// A sum over a range.
 #[cycle(place)]
-fn place_ranged(alloc: Global, scope: &Scope, range: &Range, inner: &Tree) -> Result<Placed, Memory>
-    ensures placed { IfOk result (λ placed. IsAlike scope.now.bound (placed_of placed)
-        (over (fast.ends_of scope.now.names (seen_range range.now))
-        (placed_tree (range.now.name ∷ scope.now.names) (seen_tree inner.now)))) }
+fn place_ranged(
+    alloc: Global,
+    scope: &mut Scope,
+    range: &Range,
+    inner: &Tree,
+) -> Result<Placed, Memory>
+    ensures placed { IfOk result (λ placed. IsAlike scope.old.bound (placed_of placed)
+        (over (fast.ends_of scope.old.names (seen_range range.now))
+        (placed_tree (range.now.name ∷ scope.old.names) (seen_tree inner.now)))) }
+    ensures around { OnOk result (scope.new ≡ scope.old) }
 {
+    let length = scope.length(alloc, range)?;
+    let single = is_nothing(&length);
     let from = scope.index(alloc, &range.from)?;
-    let upto = scope.index(alloc, &range.upto)?;
-    let length = upto.minus(alloc, &from)?;
-    if is_nothing(&length) {
-        let inside = scope.with(alloc, range.name, false, from)?;
-        return place(alloc, &inside, inner);
+    scope.enter(range.name, !single, from)?;
+    let inner = place(alloc, scope, inner)?;
+    scope.leave();
+    if single {
+        return Ok(inner);
     }
-    let inside = scope.with(alloc, range.name, true, from)?;
-    let inner = place(alloc, &inside, inner)?;
     sum_over(alloc, length, inner)
 }
 
@@ -68,9 +75,14 @@ fn sum_over(alloc: Global, length: Form, inner: Placed) -> Result<Placed, Memory
 
 /// The parts of a sum.
 #[cycle(place)]
-fn place_parts(alloc: Global, scope: &Scope, parts: &[syntax::Part]) -> Result<List<Part>, Memory>
+fn place_parts(
+    alloc: Global,
+    scope: &mut Scope,
+    parts: &[syntax::Part],
+) -> Result<List<Part>, Memory>
     ensures placed { IfOk result (λ placed.
-        Pairwise (λ p x. IsPart scope.now.bound scope.now.names (part_of p) (seen_part x)) placed parts.now) }
+        Pairwise (λ p x. IsPart scope.old.bound scope.old.names (part_of p) (seen_part x)) placed parts.now) }
+    ensures around { OnOk result (scope.new ≡ scope.old) }
 {
     let mut placed = List::new(alloc);
     for part in parts {
@@ -85,9 +97,10 @@ fn place_parts(alloc: Global, scope: &Scope, parts: &[syntax::Part]) -> Result<L
 
 /// The factors of a product.
 #[cycle(place)]
-fn place_factors(alloc: Global, scope: &Scope, factors: &[Tree]) -> Result<List<Placed>, Memory>
+fn place_factors(alloc: Global, scope: &mut Scope, factors: &[Tree]) -> Result<List<Placed>, Memory>
     ensures placed { IfOk result (λ placed.
-        Pairwise (λ p x. IsPlaced scope.now.bound scope.now.names p (seen_tree x)) placed factors.now) }
+        Pairwise (λ p x. IsPlaced scope.old.bound scope.old.names p (seen_tree x)) placed factors.now) }
+    ensures around { OnOk result (scope.new ≡ scope.old) }
 {
     let mut placed = List::new(alloc);
     for factor in factors {

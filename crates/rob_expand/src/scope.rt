@@ -1,15 +1,17 @@
 //! The names of the ranges around a place in an expression, and the forms that stand for their values.
 
-ghost use Rattle.std.specs.Prelude.{◌≡◌, [], ◌∷◌, ◌++◌, pos, true, IfOk, OnOk};
-ghost use Rattle.rob_syntax.specs.Seen.{seen_index};
-ghost use Rattle.rob_expand.specs.Scopes.{AddNothing, IsIndex, IsNothing, IsPutIn, with_first};
+ghost use Rattle.std.specs.Prelude.{◌≡◌, [], drop, pos, true, IfOk, OnOk};
+ghost use Rattle.rob_index.specs.Fast as fast;
+ghost use Rattle.rob_index.specs.Forms.{length_form, plus_times};
+ghost use Rattle.rob_syntax.specs.Seen.{seen_index, seen_range};
+ghost use Rattle.rob_expand.specs.Scopes.{AddNothing, AreEqual, inside, IsIndex, IsNothing, IsPutIn, outside, with_first};
 
-use crate::around::{copied, with_name};
-use rob_number::{List, Memory};
-use rob_ranges::index::index_form;
+use rob_number::Memory;
+use rob_ranges::index::{ends_of, index_form};
 use rob_ranges::{Form, Whole};
-use rob_syntax::syntax::Index;
+use rob_syntax::syntax::{Index, Range};
 use std::alloc::Global;
+use std::marker::Model;
 
 /// What stands for the value of a name that a sum binds: the start of its range, and where it moves, how far it is from
 /// there, which is a value of the setting.
@@ -19,11 +21,20 @@ pub struct Binding {
     start: Form,
 }
 
-/// Names, the innermost first, and what stands for the first of them. The others have values of their own.
+/// Names, the innermost first, and what stands for the first of them. The others have values of their own. Contracts
+/// see both lists.
 #[derive(Drop)]
 pub struct Scope {
-    names: List<usize>,
-    bound: List<Binding>,
+    names: Vec<usize>,
+    bound: Vec<Binding>,
+}
+
+impl Model for Scope {
+    ghost use Rattle.rob_expand.specs.Scopes as spec;
+
+    ghost Value = { spec.Scope };
+
+    ghost view = { λ scope. record { names = scope.names.items; bound = scope.bound.items } };
 }
 
 impl Scope {
@@ -32,28 +43,27 @@ impl Scope {
         ensures names { IfOk result (λ scope. scope.names ≡ names.now) }
         ensures bound { IfOk result (λ scope. scope.bound ≡ []) }
     {
-        let names = copied(alloc, names)?;
-        let bound = List::new(alloc);
+        let names = Vec::from_slice(alloc, names)?;
+        let bound = Vec::new(alloc);
         Ok(Scope { names, bound })
     }
 
-    /// A name inside the others, whose range starts there.
-    pub fn with(
-        &self,
-        alloc: Global,
-        name: usize,
-        moves: bool,
-        start: Form,
-    ) -> Result<Scope, Memory>
-        ensures names { IfOk result (λ scope. scope.names ≡ name ∷ self.now.names) }
-        ensures bound { IfOk result (λ scope. scope.bound
-            ≡ record { moves = moves; start = start } ∷ self.now.bound) }
+    /// One name more, inside the others, whose range starts there.
+    pub fn enter(&mut self, name: usize, moves: bool, start: Form) -> Result<(), Memory>
+        ensures entered { OnOk result (self.new
+            ≡ inside self.old name (record { moves = moves; start = start })) }
     {
-        let names = with_name(alloc, name, self.names.items())?;
-        let mut bound = List::new(alloc);
-        bound.push(Binding { moves, start })?;
-        append_bound(&mut bound, alloc, self.bound.items())?;
-        Ok(Scope { names, bound })
+        self.names.insert(0, name)?;
+        self.bound.insert(0, Binding { moves, start })?;
+        Ok(())
+    }
+
+    /// One name fewer.
+    pub fn leave(&mut self)
+        ensures left { self.new ≡ outside self.old }
+    {
+        remove_first(&mut self.names);
+        remove_first(&mut self.bound);
     }
 
     /// The form of an index.
@@ -61,24 +71,31 @@ impl Scope {
         ensures form { IfOk result
             (λ form. IsIndex self.now.bound self.now.names form (seen_index index.now)) }
     {
-        let mut form = index_form(alloc, self.names.items(), index)?;
-        put_starts(&mut form, alloc, self.bound.items())?;
+        let mut form = index_form(alloc, self.names.as_slice(), index)?;
+        put_starts(&mut form, alloc, self.bound.as_slice())?;
+        Ok(form)
+    }
+
+    /// How far the last value of a range is from its first.
+    pub fn length(&self, alloc: Global, range: &Range) -> Result<Form, Memory>
+        ensures length { IfOk result (λ form. IsPutIn self.now.bound form
+            (length_form (fast.ends_of self.now.names (seen_range range.now)))) }
+    {
+        let ends = ends_of(alloc, self.names.as_slice(), range)?;
+        let mut form = ends.length(alloc)?;
+        put_starts(&mut form, alloc, self.bound.as_slice())?;
         Ok(form)
     }
 }
 
-/// Appends copies.
-fn append_bound(list: &mut List<Binding>, alloc: Global, bound: &[Binding]) -> Result<(), Memory>
-    ensures appended { OnOk result (list.new ≡ list.old ++ bound.now) }
+/// Removes the first item, if there is one.
+fn remove_first<T: Drop>(items: &mut Vec<T>)
+    ensures left { items.new.items ≡ drop 1 items.old.items }
 {
-    for binding in bound {
-        let start = binding.start.copy(alloc)?;
-        list.push(Binding {
-            moves: binding.moves,
-            start,
-        })?;
+    if items.is_empty() {
+        return;
     }
-    Ok(())
+    items.remove(0);
 }
 
 /// Puts in what stands for the innermost values.
@@ -100,20 +117,35 @@ fn put_starts(form: &mut Form, alloc: Global, bound: &[Binding]) -> Result<(), M
 
 /// Adds so many times what stands for a value to a form over the values further out.
 fn put_start(form: &mut Form, alloc: Global, binding: &Binding, factor: Whole) -> Result<(), Memory>
-    ensures put { OnOk result (form.new ≡ with_first binding.now factor form.old) }
+    ensures put { OnOk result (AreEqual form.new (with_first binding.now factor form.old)) }
 {
-    form.add(alloc, &factor, &binding.start)?;
+    add_times(form, alloc, &factor, &binding.start)?;
     if binding.moves {
         form.put_first(factor)?;
     }
     Ok(())
 }
 
+/// Adds `factor` times another form. 0 times a form is nothing; and a form that has no factors is added to a copy of
+/// the other, which takes fewer steps than products with 1.
+fn add_times(form: &mut Form, alloc: Global, factor: &Whole, other: &Form) -> Result<(), Memory>
+    ensures sum { OnOk result (AreEqual form.new (plus_times form.old factor.now other.now)) }
+{
+    if is_seen(factor, 0) {
+        return Ok(());
+    }
+    if is_seen(factor, 1) && form.factors().is_empty() {
+        *form = other.plus_times(alloc, factor, form)?;
+        return Ok(());
+    }
+    form.add(alloc, factor, other)
+}
+
 /// Whether the form is seen to be 0 everywhere.
 pub fn is_nothing(form: &Form) -> bool
     ensures nothing { result ≡ true → IsNothing form.now }
 {
-    if !is_zero(form.constant()) {
+    if !is_seen(form.constant(), 0) {
         return false;
     }
     add_nothing(form.factors())
@@ -126,7 +158,7 @@ fn add_nothing(factors: &[Whole]) -> bool
     match factors {
         [] => true,
         [factor, others @ ..] => {
-            if !is_zero(factor) {
+            if !is_seen(factor, 0) {
                 return false;
             }
             add_nothing(others)
@@ -134,12 +166,12 @@ fn add_nothing(factors: &[Whole]) -> bool
     }
 }
 
-/// Whether a number is seen to be 0.
-fn is_zero(number: &Whole) -> bool
-    ensures zero { result ≡ true → number.now ≡ pos 0 }
+/// Whether a number is seen to be this one.
+fn is_seen(number: &Whole, one: i64) -> bool
+    ensures seen { result ≡ true → number.now ≡ one }
 {
     match number.single() {
-        Some(number) => number == 0,
+        Some(number) => number == one,
         None => false,
     }
 }

@@ -1,5 +1,6 @@
 use Rattle.rob_syntax.specs.Seen.{seen_tree}
 use Rattle.rob_expand.proofs.TreesLemmas.{both_trees, placed_within}
+use Rattle.rob_expand.proofs.PlaceLemmas.{placed_as}
 use Rattle.rob_expand.proofs.lines.two_trees.Goals as goal
 
 pub returns : goal.returns
@@ -15,5 +16,5 @@ returns c = record {
       (placed_within scope.bound scope.names names c.in_ok-left.left left own.bound own.names
       c.in_ok-left.ensures.placed)
       (placed_within scope.bound scope.names names c.in_ok-right.right right own.bound own.names
-      c.in_ok-right.ensures.placed);
+      (placed_as scope c.in_ok-right.right right c.in_ok-left.ensures.around c.in_ok-right.ensures.placed));
 }
