@@ -110,10 +110,10 @@ module _ (limit : ℕ) (m : RobustModel) {N : Type 0} (value : N → Fraction) (
     step_count = sym (length-map step value) ∙ ap length e ∙ length-tabulate (suc forms.columns) (difference r)
 
 -- a direction that was looked at has a number for each decision column, and one for the bound
-pub look_count : {N : Type 0} (value : N → Fraction) (m : RobustModel) (forms : Forms) → IsForms m forms
+pub look_count : {N : Type 0} (value : N → Fraction) {m : RobustModel} {forms : Forms} → IsForms m forms
     → (numbers : List N) (r : ℕ → Fraction)
     → map value numbers ≡ differences (suc (column_count m)) r → length numbers ≡ suc forms.columns
-look_count value m forms f numbers r e =
+look_count value {m = m} f numbers r e =
     sym (length-map numbers value) ∙ ap length e ∙ length-tabulate (suc (column_count m)) (difference r)
     ∙ ap (λ (n : ℕ). suc n) (sym f.columns)
 

@@ -47,7 +47,7 @@ cut_added forms cuts c before now h a = record {
 }
 
 -- ---- the shape
-module _ (forms : Forms) (cuts : List Cut) (lp : Lp) (h : IsMasterList forms cuts lp) where
+module _ {forms : Forms} {cuts : List Cut} {lp : Lp} (h : IsMasterList forms cuts lp) where
   pub rights_count : length lp.b ≡ length cuts
   rights_count = ap length h.b ∙ length-map cuts (cut_right forms)
 
@@ -70,7 +70,7 @@ module _ (forms : Forms) (cuts : List Cut) (lp : Lp) (h : IsMasterList forms cut
   }
 
   -- ---- the program
-  module _ (m : RobustModel) (f : IsForms m forms) where
+  module _ {m : RobustModel} (f : IsForms m forms) where
     number_same : (c : Cut) (j : ℕ) → cut_number forms c j ≡ sum_to (form_rows m) (cut_term m c j)
     number_same c j =
         ap₂ (λ (all : List (List (List ℤ))) (n : ℕ). sum_to (suc n)

@@ -22,13 +22,12 @@ use Rattle.rob_number.specs.declared.memory.Memory.{Memory as NoMemory}
 use Rattle.rob_sets.specs.SetForm.{IsSetForm}
 use Rattle.rob_sets.specs.declared.set_form.SetForm.{SetForm}
 use Rattle.rob_counterpart.specs.ReadCertificates.{plan_read, bound_read}
-use Rattle.rob_rows.specs.LinearPrograms.{program_of}
 use Rattle.rob_rows.specs.declared.program.Lp.{Lp}
 use Rattle.rob_sets.specs.Stops.{StopsFor}
 use Rattle.rob_sets.specs.declared.error.Stop.{Stop as Refusal}
-use Rattle.rob_simplex.specs.Solvers.{Solver, column_of}
+use Rattle.rob_simplex.specs.Solvers.{Solver, column_of, positions}
 use Rattle.rob_simplex.specs.Solutions.{point_of, dual_of, ray_of, weights_of}
-use Rattle.rob_dualize.specs.Ending.{HasEnded, infeasible_with}
+use Rattle.rob_dualize.specs.Ending.{infeasible_with}
 use Rattle.rob_dualize.specs.Solving.{IsLastScenario}
 use Rattle.rob_runs.specs.Readings.{AreKept, covers_of_amounts, cleared_by}
 use Rattle.rob_runs.specs.Runs.{plan_at, direction_at, best, boundless}
@@ -44,15 +43,15 @@ use Rattle.rob_cuts.specs.Certificates.{optimal_with, unbounded_with, items_told
 use Rattle.rob_cuts.specs.Covered.{covered_plan}
 use Rattle.rob_cuts.specs.Looks.{IsPlanLook, IsStepLook}
 use Rattle.rob_cuts.specs.Made.{cut_made}
-use Rattle.rob_cuts.specs.Master.{IsMasterList}
 use Rattle.rob_cuts.specs.Rounds.{cuts_told, round_told, TellsRun}
+use Rattle.rob_cuts.specs.Scans.{IsScanStopped}
 use Rattle.rob_cuts.specs.Steps.{SomeWideProduct}
 use Rattle.rob_cuts.specs.Stops.{IsRefused}
 use Rattle.rob_cuts.specs.Outcomes.{IsEnd, IsNext, IsOutcome, IsWideNext, IsEndWith}
 use Rattle.rob_cuts.proofs.CertificateLemmas.{IsCoveredAt}
 use Rattle.rob_cuts.proofs.CutLemmas.{refused_at}
 use Rattle.rob_cuts.proofs.LookLemmas.{step_columns, step_bound_is, step_wide}
-use Rattle.rob_cuts.proofs.RoundLemmas.{best_next, best_end, empty_end, step_next, step_looks, point_next, boundless_end}
+use Rattle.rob_cuts.proofs.RoundLemmas.{IsRoundOf, few_rounds, best_next, best_end, empty_end, step_looks, step_next, point_stopped, point_next, boundless_end}
 use Rattle.rob_cuts.proofs.SolvingLemmas.{or_stopped}
 use Rattle.rob_cuts.proofs.StopLemmas.{IsWideThere, step_place}
 
@@ -102,51 +101,93 @@ pub covered_at : {N : Type 0} (value : N → Fraction) (m : RobustModel) (x : �
 covered_at value m x amounts plan kept ep eb h ec es = record
     { kept = h; plan = ep; bound = eb; scale_is = es; covers = ec }
 
--- ---- what follows the ending of a master
-module _ {N : Type 0} (value : N → Fraction) (limit : ℕ) (m : RobustModel) (forms : Forms) (f : IsForms m forms)
-    (rounds : List Told) (master : Lp)
-    (list : IsMasterList forms (cuts_told rounds) master) (s : Solver) where
-  -- ---- a further round
-  abbrev IsAnswer : Told → Result (Outcome N) NoMemory → Type 0
-  IsAnswer round answer = IfOk answer (λ t. t ≡ outcome.Cut round)
+-- a round more
+further : {N : Type 0} (value : N → Fraction) (limit : ℕ) (m : RobustModel) (rounds : List Told) (round : Told)
+    → IsNext limit m rounds round → (answer : Result (Outcome N) NoMemory) → IfOk answer (λ t. t ≡ outcome.Cut round)
+    → (result : Result (Outcome N) Stop)
+    → MatchResult result (λ x. answer ≡ Ok x) (λ stop. stop ≡ Memory)
+    → MatchResult result (IsOutcome value limit m rounds) (IsWideNext limit m rounds)
+further value limit m rounds round next answer is result e =
+    leads_or_stops value limit m rounds answer (answer_leads_on value limit m rounds round next answer is) result e
 
-  further : (round : Told) → IsNext limit m rounds round → (answer : Result (Outcome N) NoMemory)
-      → IsAnswer round answer → (result : Result (Outcome N) Stop)
-      → MatchResult result (λ x. answer ≡ Ok x) (λ stop. stop ≡ Memory)
-      → MatchResult result (IsOutcome value limit m rounds) (IsWideNext limit m rounds)
-  further round next answer is result e = leads_or_stops value limit m rounds answer
-      (answer_leads_on value limit m rounds round next answer is) result e
-
-  -- a best plan is cut off
-  pub best_cut_off : HasEnded (program_of master) kind.Optimal s → (cut : Made)
-      → IsPlanLook limit m value (point_of s) (of_plan.Broken cut)
+-- ---- a master with a best plan
+module _ {N : Type 0} (value : N → Fraction) (limit : ℕ) {m : RobustModel} {forms : Forms} {rounds : List Told}
+    {master : Lp} {s : Solver} (r : IsRoundOf m forms rounds master kind.Optimal s) where
+  -- it is cut off
+  pub best_cut_off : (cut : Made) → IsPlanLook limit m value (point_of s) (of_plan.Broken cut)
       → (answer : Result (Outcome N) NoMemory)
       → IfOk answer (λ t. t ≡ outcome.Cut (round_told (record
       { kind = best; by_step = false; basis = s.basis; cut = cut_made cut })))
       → (result : Result (Outcome N) Stop) → MatchResult result (λ x. answer ≡ Ok x) (λ stop. stop ≡ Memory)
       → MatchResult result (IsOutcome value limit m rounds) (IsWideNext limit m rounds)
-  best_cut_off h cut look answer is result e =
-      further (round_told (record { kind = best; by_step = false; basis = s.basis; cut = cut_made cut }))
-      (best_next m forms f rounds master list s h limit (cut_made cut) look.0 look.1
+  best_cut_off cut look answer is result e =
+      further value limit m rounds
+      (round_told (record { kind = best; by_step = false; basis = s.basis; cut = cut_made cut }))
+      (best_next r limit (cut_made cut) look.0 look.1
       (round_told (record { kind = best; by_step = false; basis = s.basis; cut = cut_made cut })) refl) answer is
       result e
 
-  -- a direction is
-  pub step_cut_off : HasEnded (program_of master) kind.Unbounded s → (cut : Made)
-      → IsStepLook limit m value (ray_of s) (of_step.Broken cut)
+  -- it is the optimum
+  pub optimum_out : IsModel m → TellsRun m rounds → positions s < 2 ^ 31 → {set : SetForm} → IsSetForm m set
+      → (finder : Finder N) → IsFinder set finder → (plan : Plan N) (kept : Kept N)
+      → IsPlanLook limit m value (point_of s) (of_plan.Kept plan kept)
+      → (answer : Result (Outcome N) NoMemory)
+      → IfOk answer (IsEndWith value forms finder
+      (λ inside. optimal_with inside (covered_plan value plan kept)
+      (items_told (length forms.matrices) rounds (dual_of s))))
+      → (result : Result (Outcome N) Stop) → MatchResult result (λ x. answer ≡ Ok x) (λ stop. stop ≡ Memory)
+      → MatchResult result (IsOutcome value limit m rounds) (IsWideNext limit m rounds)
+  optimum_out model t few {set = set} st finder is plan kept look answer ended result e =
+      leads_or_stops value limit m rounds answer
+      (answer_leads_out value limit m rounds model forms r.are_forms set st finder is
+      (λ inside. optimal_with inside (covered_plan value plan kept)
+      (items_told (length forms.matrices) rounds (dual_of s)))
+      (λ inside admitted last.
+      subst (λ (n : ℕ). IsEnd m (cuts_told rounds) (optimal_with inside (covered_plan value plan kept)
+      (items_told n rounds (dual_of s)))) (sym (ap length r.are_forms.matrices))
+      (best_end r t (few_rounds r few) inside admitted last look.2.0 (covered_plan value plan kept)
+      (covered_at value m (point_of s) look.2.0 plan kept look.0 look.1 look.2.1 look.2.2 look.2.3)))
+      answer ended)
+      result e
+
+-- ---- a master of which no plan keeps the cuts
+module _ {N : Type 0} (value : N → Fraction) (limit : ℕ) {m : RobustModel} {forms : Forms} {rounds : List Told}
+    {master : Lp} {s : Solver} (r : IsRoundOf m forms rounds master kind.Infeasible s) where
+  pub infeasible_out : IsModel m → TellsRun m rounds → positions s < 2 ^ 31 → {set : SetForm} → IsSetForm m set
+      → (finder : Finder N) → IsFinder set finder → (answer : Result (Outcome N) NoMemory)
+      → IfOk answer (IsEndWith value forms finder (λ inside. infeasible_with inside
+      (items_told (length forms.matrices) rounds (λ q. of_int (weights_of s q)))))
+      → (result : Result (Outcome N) Stop) → MatchResult result (λ x. answer ≡ Ok x) (λ stop. stop ≡ Memory)
+      → MatchResult result (IsOutcome value limit m rounds) (IsWideNext limit m rounds)
+  infeasible_out model t few {set = set} st finder is answer ended result e =
+      leads_or_stops value limit m rounds answer
+      (answer_leads_out value limit m rounds model forms r.are_forms set st finder is
+      (λ inside. infeasible_with inside (items_told (length forms.matrices) rounds (λ q. of_int (weights_of s q))))
+      (λ inside admitted last.
+      subst (λ (n : ℕ). IsEnd m (cuts_told rounds) (infeasible_with inside
+      (items_told n rounds (λ q. of_int (weights_of s q))))) (sym (ap length r.are_forms.matrices))
+      (empty_end r t (few_rounds r few) inside admitted last))
+      answer ended)
+      result e
+
+-- ---- a master without a best plan
+module _ {N : Type 0} (value : N → Fraction) (limit : ℕ) {m : RobustModel} {forms : Forms} {rounds : List Told}
+    {master : Lp} {s : Solver} (r : IsRoundOf m forms rounds master kind.Unbounded s) where
+  -- its direction is cut off
+  pub step_cut_off : (cut : Made) → IsStepLook limit m value (ray_of s) (of_step.Broken cut)
       → (answer : Result (Outcome N) NoMemory)
       → IfOk answer (λ t. t ≡ outcome.Cut (round_told (record
       { kind = boundless (column_of s.state); by_step = true; basis = s.basis; cut = cut_made cut })))
       → (result : Result (Outcome N) Stop) → MatchResult result (λ x. answer ≡ Ok x) (λ stop. stop ≡ Memory)
       → MatchResult result (IsOutcome value limit m rounds) (IsWideNext limit m rounds)
-  step_cut_off h cut look answer is result e =
-      further (round_told (record {
+  step_cut_off cut look answer is result e =
+      further value limit m rounds (round_told (record {
         kind = boundless (column_of s.state);
         by_step = true;
         basis = s.basis;
         cut = cut_made cut;
       }))
-      (step_next m forms f rounds master list s h limit (cut_made cut) look.0 look.1
+      (step_next r limit (cut_made cut) look.0 look.1
       (round_told (record {
         kind = boundless (column_of s.state);
         by_step = true;
@@ -154,107 +195,67 @@ module _ {N : Type 0} (value : N → Fraction) (limit : ℕ) (m : RobustModel) (
         cut = cut_made cut;
       })) refl) answer is result e
 
-  -- a plan is, whose direction keeps all forms
-  pub point_cut_off : (h : HasEnded (program_of master) kind.Unbounded s) → IsModel m → (step : List N) (held : Kept N)
-      → IsStepLook limit m value (ray_of s) (of_step.Kept step held) → (cut : Made)
-      → IsPlanLook limit m value (point_of s) (of_plan.Broken cut)
-      → (answer : Result (Outcome N) NoMemory)
-      → IfOk answer (λ t. t ≡ outcome.Cut (round_told (record
-      { kind = boundless (column_of s.state); by_step = false; basis = s.basis; cut = cut_made cut })))
-      → (result : Result (Outcome N) Stop) → MatchResult result (λ x. answer ≡ Ok x) (λ stop. stop ≡ Memory)
-      → MatchResult result (IsOutcome value limit m rounds) (IsWideNext limit m rounds)
-  point_cut_off h model step held kept cut look answer is result e =
-      further (round_told (record {
-        kind = boundless (column_of s.state);
-        by_step = false;
-        basis = s.basis;
-        cut = cut_made cut;
-      }))
-      (point_next m forms f rounds master list s h model kept.1.0 kept.1.1 limit (cut_made cut) look.0 look.1
-      (round_told (record {
-        kind = boundless (column_of s.state);
-        by_step = false;
-        basis = s.basis;
-        cut = cut_made cut;
-      })) refl) answer is result e
-
-  -- ---- the end
-  module _ (model : IsModel m) (t : TellsRun m rounds) (few : length rounds < 2 ^ 32) (set : SetForm)
-      (st : IsSetForm m set) (finder : Finder N) (is : IsFinder set finder) where
-    -- the optimum
-    pub optimum_out : HasEnded (program_of master) kind.Optimal s → (plan : Plan N) (kept : Kept N)
-        → IsPlanLook limit m value (point_of s) (of_plan.Kept plan kept)
-        → (answer : Result (Outcome N) NoMemory)
-        → IfOk answer (IsEndWith value forms finder
-        (λ inside. optimal_with inside (covered_plan value plan kept)
-        (items_told (length forms.matrices) rounds (dual_of s))))
-        → (result : Result (Outcome N) Stop) → MatchResult result (λ x. answer ≡ Ok x) (λ stop. stop ≡ Memory)
-        → MatchResult result (IsOutcome value limit m rounds) (IsWideNext limit m rounds)
-    optimum_out h plan kept look answer ended result e =
-        leads_or_stops value limit m rounds answer
-        (answer_leads_out value limit m rounds model forms f set st finder is
-        (λ inside. optimal_with inside (covered_plan value plan kept)
-        (items_told (length forms.matrices) rounds (dual_of s)))
-        (λ inside admitted last.
-        subst (λ (n : ℕ). IsEnd m (cuts_told rounds) (optimal_with inside (covered_plan value plan kept)
-        (items_told n rounds (dual_of s)))) (sym (ap length f.matrices))
-        (best_end m forms f rounds master list s h t few inside admitted last look.2.0 (covered_plan value plan kept)
-        (covered_at value m (point_of s) look.2.0 plan kept look.0 look.1 look.2.1 look.2.2 look.2.3)))
-        answer ended)
-        result e
-
-    -- no plan keeps the cuts
-    pub infeasible_out : HasEnded (program_of master) kind.Infeasible s → (answer : Result (Outcome N) NoMemory)
-        → IfOk answer (IsEndWith value forms finder (λ inside. infeasible_with inside
-        (items_told (length forms.matrices) rounds (λ q. of_int (weights_of s q)))))
-        → (result : Result (Outcome N) Stop) → MatchResult result (λ x. answer ≡ Ok x) (λ stop. stop ≡ Memory)
-        → MatchResult result (IsOutcome value limit m rounds) (IsWideNext limit m rounds)
-    infeasible_out h answer ended result e =
-        leads_or_stops value limit m rounds answer
-        (answer_leads_out value limit m rounds model forms f set st finder is
-        (λ inside. infeasible_with inside (items_told (length forms.matrices) rounds (λ q. of_int (weights_of s q))))
-        (λ inside admitted last.
-        subst (λ (n : ℕ). IsEnd m (cuts_told rounds) (infeasible_with inside
-        (items_told n rounds (λ q. of_int (weights_of s q))))) (sym (ap length f.matrices))
-        (empty_end m forms f rounds master list s h t few inside admitted last))
-        answer ended)
-        result e
-
-    -- the model is unbounded
-    pub unbounded_out : HasEnded (program_of master) kind.Unbounded s → (numbers : List N) (held : Kept N)
-        → IsStepLook limit m value (ray_of s) (of_step.Kept numbers held)
-        → (plan : Plan N) (kept : Kept N) → IsPlanLook limit m value (point_of s) (of_plan.Kept plan kept)
-        → (step : Plan N) (items : List N) → items ≡ numbers
-        → map value step.columns ≡ tabulate forms.columns (λ j. value held.scale *ℚ at (map value items) j)
-        → value step.bound ≡ value held.scale *ℚ at (map value items) forms.columns
-        → (inside : List Fraction) → Admits m inside → IsLastScenario m inside
-        → IsEnd m (cuts_told rounds) (unbounded_with inside (covered_plan value plan kept) (map value step.columns)
-        (value step.bound) (map (cover_of value) held.covers))
-    unbounded_out h numbers held away plan kept look step items same ec eb inside admitted last =
-        let read = ap (map value) same ∙ away.0 in
-        boundless_end m forms f rounds master list s h model away.1.0 away.1.1 t few inside admitted last look.2.0
-        (covered_plan value plan kept) (map value step.columns)
-        (value step.bound) (map (cover_of value) held.covers)
-        (covered_at value m (point_of s) look.2.0 plan kept look.0 look.1 look.2.1 look.2.2 look.2.3)
-        away.1.2
-        (ec ∙ ap (λ (n : ℕ). tabulate n (λ j. value held.scale *ℚ at (map value items) j)) f.columns
-        ∙ step_columns m (ray_of s) (value held.scale) (map value items) read
-        ∙ ap (λ (c : Fraction). scale c (plan_read m (ray_of s))) away.1.3)
-        (eb ∙ ap (λ (n : ℕ). value held.scale *ℚ at (map value items) n) f.columns
-        ∙ step_bound_is m (ray_of s) (value held.scale) (map value items) read
-        ∙ ap (λ (c : Fraction). c *ℚ bound_read m (ray_of s)) away.1.3)
-
-  -- a number of the direction is wide where it is made whole
-  pub step_refused : HasEnded (program_of master) kind.Unbounded s → (numbers : List N) (held : Kept N)
+  -- where it is kept, a number of it is wide as it is made whole
+  pub step_refused : (numbers : List N) (held : Kept N)
       → IsStepLook limit m value (ray_of s) (of_step.Kept numbers held)
-      → (items : List N) → items ≡ numbers → 1 ≤ limit → (refusal : Refusal)
+      → {items : List N} → items ≡ numbers → 1 ≤ limit → (refusal : Refusal)
       → StopsFor (SomeWideProduct limit (value held.scale) (map value items)) refusal
       → (stop : Stop) → IsRefused (spot.Clearing of.Move) refusal stop → IsWideNext limit m rounds stop
-  step_refused h numbers held away items same one refusal wide stop e =
+  step_refused numbers held away {items = items} same one refusal wide stop e =
       refused_at (IsWideThere limit m (cuts_told rounds)) (spot.Clearing of.Move)
       (SomeWideProduct limit (value held.scale) (map value items))
-      (λ w. step_place limit m (cuts_told rounds) (spot.Clearing of.Move) (direction_at m (ray_of s))
-      (step_looks m forms f rounds master list s h)
+      (λ w. step_place limit m (cuts_told rounds) (spot.Clearing of.Move) (direction_at m (ray_of s)) (step_looks r)
       (step_wide m (ray_of s) (value held.scale) (map value items) (ap (map value) same ∙ away.0) limit one away.1.3
       w) refl)
       refusal wide stop e
+
+  module _ (model : IsModel m) (numbers : List N) (held : Kept N)
+      (away : IsStepLook limit m value (ray_of s) (of_step.Kept numbers held)) where
+    -- its plan is cut off
+    pub point_cut_off : (cut : Made) → IsPlanLook limit m value (point_of s) (of_plan.Broken cut)
+        → (answer : Result (Outcome N) NoMemory)
+        → IfOk answer (λ t. t ≡ outcome.Cut (round_told (record
+        { kind = boundless (column_of s.state); by_step = false; basis = s.basis; cut = cut_made cut })))
+        → (result : Result (Outcome N) Stop) → MatchResult result (λ x. answer ≡ Ok x) (λ stop. stop ≡ Memory)
+        → MatchResult result (IsOutcome value limit m rounds) (IsWideNext limit m rounds)
+    point_cut_off cut look answer is result e =
+        further value limit m rounds (round_told (record {
+          kind = boundless (column_of s.state);
+          by_step = false;
+          basis = s.basis;
+          cut = cut_made cut;
+        }))
+        (point_next r model away.1.0 away.1.1 limit (cut_made cut) look.0 look.1
+        (round_told (record {
+          kind = boundless (column_of s.state);
+          by_step = false;
+          basis = s.basis;
+          cut = cut_made cut;
+        })) refl) answer is result e
+
+    pub plan_stopped : (stop : Stop) → IsScanStopped limit m false (plan_at m (point_of s)) stop
+        → IsWideNext limit m rounds stop
+    plan_stopped = point_stopped r model away.1.0 away.1.1 limit
+
+    -- the model is unbounded
+    pub unbounded_out : TellsRun m rounds → positions s < 2 ^ 31 → (plan : Plan N) (kept : Kept N)
+        → IsPlanLook limit m value (point_of s) (of_plan.Kept plan kept)
+        → (step : Plan N) {items : List N} → items ≡ numbers
+        → map value step.columns ≡ tabulate forms.columns (λ j. value held.scale *ℚ at (map value items) j)
+        → value step.bound ≡ value held.scale *ℚ at (map value items) forms.columns
+        → (inside : List Fraction) → Admits m inside × IsLastScenario m inside → {cert : Certificate}
+        → cert ≡ unbounded_with inside (covered_plan value plan kept) (map value step.columns) (value step.bound)
+        (map (cover_of value) held.covers) → IsEnd m (cuts_told rounds) cert
+    unbounded_out t few plan kept look step {items = items} same ec eb inside found is =
+        let read = ap (map value) same ∙ away.0 in
+        subst (IsEnd m (cuts_told rounds)) (sym is)
+        (boundless_end r model away.1.0 away.1.1 t (few_rounds r few) inside found.0 found.1 look.2.0
+        (covered_plan value plan kept) (map value step.columns) (value step.bound) (map (cover_of value) held.covers)
+        (covered_at value m (point_of s) look.2.0 plan kept look.0 look.1 look.2.1 look.2.2 look.2.3)
+        away.1.2
+        (ec ∙ ap (λ (n : ℕ). tabulate n (λ j. value held.scale *ℚ at (map value items) j)) r.are_forms.columns
+        ∙ step_columns m (ray_of s) (value held.scale) (map value items) read
+        ∙ ap (λ (c : Fraction). scale c (plan_read m (ray_of s))) away.1.3)
+        (eb ∙ ap (λ (n : ℕ). value held.scale *ℚ at (map value items) n) r.are_forms.columns
+        ∙ step_bound_is m (ray_of s) (value held.scale) (map value items) read
+        ∙ ap (λ (c : Fraction). c *ℚ bound_read m (ray_of s)) away.1.3))

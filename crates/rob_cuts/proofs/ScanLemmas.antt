@@ -13,22 +13,30 @@ use Rattle.rob_cert.specs.View.{cover_of}
 use Rattle.rob_cert.specs.declared.certificate.Cover.{Cover as TheCover}
 use Rattle.rob_counterpart.specs.ReadNumbers.{covers_kept}
 use Rattle.rob_counterpart.proofs.TabulateLemmas.{length-tabulate}
+use Rattle.rob_elab.specs.Forms.{IsForms}
+use Rattle.rob_elab.specs.declared.forms.Forms.{Forms}
+use Rattle.rob_sets.specs.SetForm.{IsSetForm}
+use Rattle.rob_sets.specs.declared.set_form.SetForm.{SetForm}
+use Rattle.rob_dualize.specs.SetSolving.{IsFewSet}
 use Rattle.rob_runs.specs.Readings.{IsKept, form_covers, covers_up_to, cleared_by}
+use Rattle.rob_cert.specs.declared.ending.Worst.{Worst}
 use Rattle.rob_cert.specs.declared.ending.Stop.{Stop}
 use Rattle.rob_cert.specs.declared.ending.Stop.TheVariants.{EmptySet, Wide, Memory}
 use Rattle.rob_runs.specs.Runs.{KeepsForm}
 use Rattle.rob_runs.specs.Spots.{ComesTo}
 use Rattle.rob_runs.proofs.FoundLemmas.{found_keeps}
 use Rattle.rob_runs.proofs.StepLemmas.{covers_up_to-more, covers_up_to-same}
-use Rattle.rob_worst.specs.Finding.{IsWideAt, HasSearchCause}
+use Rattle.rob_worst.specs.Finding.{IsWideAt, HasSearchCause, Tells}
 use Rattle.rob_worst.proofs.VectorLemmas.{plan_count, step_count}
 use Rattle.rob_cuts.specs.declared.cut.Cut.{Cut as Made}
 use Rattle.rob_cuts.specs.declared.scan.Target.{Target}
 use Rattle.rob_cuts.specs.declared.scan.Target.TheVariants.{Plan, Step}
 use Rattle.rob_cuts.specs.declared.scan.Scan.TheVariants as found
+use Rattle.rob_cuts.specs.declared.scan.Verdict.{Verdict}
 use Rattle.rob_cuts.specs.declared.scan.Verdict.TheVariants as verdict
 use Rattle.rob_cuts.specs.Items.{covers_of_form, cover_of_amount}
-use Rattle.rob_cuts.specs.Scans.{KeptUpTo, vector_of, FitsTarget, IsWideCut, IsStoppedAt, IsScanStopped, IsJudged, IsScanned}
+use Rattle.rob_cuts.specs.Scans.{KeptUpTo, vector_of, FitsTarget, TellsFew, IsWideCut, IsStoppedAt, IsScanStopped, IsJudged, IsScanned}
+use Rattle.rob_cuts.proofs.JudgeLemmas.{tells_few}
 use Rattle.rob_cuts.proofs.StopLemmas.{stops_also}
 
 -- the amounts with those of a form more
@@ -67,6 +75,16 @@ own_covers m i amounts new e n =
     ap (λ (k : ℕ). covers_kept (tabulate k (cover_of_amount i new))) n
     ∙ ap (λ (xs : List Fraction). covers_kept (tabulate (length (set_rows m)) (cover_of_amount i xs))) (sym e)
 
+-- no form yet
+pub kept_none : {m : RobustModel} {N : Type 0} {value : N → Fraction} {z : List Fraction} {scale : N}
+    {covers : List (TheCover N)} → covers ≡ [] → KeptUpTo m value z 0 scale covers
+kept_none {value = value} e = record {
+  amounts = λ i. [];
+  kept = λ i l. absurd (omega arith);
+  covers_are = ap (map (cover_of value)) e;
+  scale_is = λ l. absurd (omega arith);
+}
+
 module _ (m : RobustModel) {N : Type 0} (value : N → Fraction) (z : List Fraction) where
   -- a form more
   pub kept_more : (n : ℕ) (before scale : N) (covers now : List (TheCover N)) (amounts : List Fraction)
@@ -102,15 +120,6 @@ module _ (m : RobustModel) {N : Type 0} (value : N → Fraction) (z : List Fract
           subst (λ (j : ℕ). IsKept m z j (with_form h.amounts n amounts j)) (sym e)
           (subst (IsKept m z n) (sym (at_own h.amounts n amounts)) k)
 
-  -- none yet
-  pub kept_none : (scale : N) (covers : List (TheCover N)) → covers ≡ [] → KeptUpTo m value z 0 scale covers
-  kept_none scale covers e = record {
-    amounts = λ i. [];
-    kept = λ i l. absurd (omega arith);
-    covers_are = ap (map (cover_of value)) e;
-    scale_is = λ l. absurd (omega arith);
-  }
-
   -- the forms so far are kept in every scenario
   pub keeps_first : IsModel m → length z ≡ form_columns m → (n : ℕ) (scale : N) (covers : List (TheCover N))
       → n ≤ length (matrices m)
@@ -120,30 +129,55 @@ module _ (m : RobustModel) {N : Type 0} (value : N → Fraction) (z : List Fract
       (h.kept i l).found (h.kept i l).kept
 
 -- ---- what is looked at has a number for each column of a form
-pub target_count : {N : Type 0} (value : N → Fraction) (target : Target N) (n : ℕ) → FitsTarget n target
-    → length (vector_of value target) ≡ suc (suc n)
-target_count value (Plan plan) n e = plan_count value plan.now n e
-target_count value (Step step) n e = step_count value step.now n e
+pub target_size : {N : Type 0} (value : N → Fraction) (target : Target N) {m : RobustModel} {forms : Forms}
+    → IsForms m forms → FitsTarget forms.columns target → length (vector_of value target) ≡ form_columns m
+target_size value (Plan plan) {forms = forms} f e =
+    plan_count value plan.now forms.columns e ∙ ap (λ n. suc (suc n)) f.columns
+target_size value (Step step) {forms = forms} f e =
+    step_count value step.now forms.columns e ∙ ap (λ n. suc (suc n)) f.columns
 
 -- ---- a form that the scan comes to
-module _ (m : RobustModel) (model : IsModel m) {N : Type 0} (value : N → Fraction) (z : List Fraction)
-    (size : length z ≡ form_columns m)
-    (n : ℕ) (some : n < length (matrices m)) (scale : N) (covers : List (TheCover N))
-    (h : KeptUpTo m value z n scale covers) where
+-- those before it are kept at what is looked at
+pub record IsReached (m : RobustModel) {N : Type 0} (value : N → Fraction) (z : List Fraction) (n : ℕ) (scale : N)
+    (covers : List (TheCover N)) : Type 0 where
+  pub model : IsModel m
+  pub size : length z ≡ form_columns m
+  pub form_in : n < length (matrices m)
+  pub so_far : KeptUpTo m value z n scale covers
+
+module _ {m : RobustModel} {N : Type 0} {value : N → Fraction} {z : List Fraction} {n : ℕ} {scale : N}
+    {covers : List (TheCover N)} (r : IsReached m value z n scale covers) where
   pub comes_to : ComesTo m z n
-  comes_to = record { form_in = some; first = keeps_first m value z model size n scale covers (omega (arith, some)) h }
+  comes_to = record {
+    form_in = r.form_in;
+    first = keeps_first m value z r.model r.size n scale covers (omega (arith, r.form_in)) r.so_far;
+  }
+
+  -- what holds of each such form holds of it
+  pub holds_here : {Q : RobustModel → List Fraction → Type 0} → ((m : RobustModel) → IsModel m → n < length (matrices m)
+      → (z : List Fraction) → length z ≡ form_columns m → Q m z) → Q m z
+  holds_here h = h m r.model r.form_in z r.size
+
+  -- the amounts of its worst case are few
+  pub few_amounts : {set : SetForm} → IsSetForm m set → IsFewSet set → (worst : Worst N) → Tells value m n z worst
+      → TellsFew worst
+  few_amounts {set = set} is few worst found = tells_few value m r.model set is few n r.form_in z r.size worst found
 
   -- it is the first that is broken
-  pub broken_first : (limit : ℕ) (now : List (TheCover N)) (cut : Made)
-      → IsJudged limit m value n z covers now (verdict.Broken cut)
-      → IsScanned limit m value z (found.Broken cut)
-  broken_first limit now cut j = (j.1 (λ i l. comes_to.first i (let e : cut.form ≡ n = j.0 in omega arith)), j.2)
+  pub broken_first : (limit : ℕ) (now : List (TheCover N)) {v : Verdict N} {cut : Made} → v ≡ verdict.Broken cut
+      → IsJudged limit m value n z covers now v → IsScanned limit m value z (found.Broken cut)
+  broken_first limit now {cut = cut} is judged =
+      let j : IsJudged limit m value n z covers now (verdict.Broken cut) =
+      subst (IsJudged limit m value n z covers now) is judged in
+      (j.1 (λ i l. comes_to.first i (let e : cut.form ≡ n = j.0 in omega arith)), j.2)
 
   -- it is kept too
-  pub judged_more : (limit : ℕ) (common : N) (now : List (TheCover N))
-      → IsJudged limit m value n z covers now (verdict.Kept common)
-      → KeptUpTo m value z (n + 1) common now
-  judged_more limit common now j = kept_more m value z n scale common covers now j.0 h j.1 j.2 j.3
+  pub judged_more : (limit : ℕ) {v : Verdict N} {common : N} → v ≡ verdict.Kept common → {now : List (TheCover N)}
+      → IsJudged limit m value n z covers now v → KeptUpTo m value z (n + 1) common now
+  judged_more limit {common = common} is {now = now} judged =
+      let j : IsJudged limit m value n z covers now (verdict.Kept common) =
+      subst (IsJudged limit m value n z covers now) is judged in
+      kept_more m value z n scale common covers now j.0 r.so_far j.1 j.2 j.3
 
   -- its search stops the scan, or the clearing of its cut does
   pub search_stops : (limit : ℕ) (by_step : Bool) (stop : Stop) → HasSearchCause limit m by_step n z stop
@@ -160,11 +194,11 @@ module _ (m : RobustModel) (model : IsModel m) {N : Type 0} (value : N → Fract
       (λ place v. (n, comes_to, inr v)) stop w
 
 -- all forms are kept
-pub all_kept : (limit : ℕ) (m : RobustModel) {N : Type 0} (value : N → Fraction) (z : List Fraction) (n : ℕ)
-    (scale : N) (covers : List (TheCover N))
+pub all_kept : (limit : ℕ) {m : RobustModel} {N : Type 0} {value : N → Fraction} {z : List Fraction} {n : ℕ}
+    {scale : N} {covers : List (TheCover N)}
     → n ≡ length (matrices m) → KeptUpTo m value z n scale covers
     → IsScanned limit m value z (found.Kept (record { scale = scale; covers = covers }))
-all_kept limit m value z n scale covers e h = (
+all_kept limit {m = m} e h = (
   h.amounts,
   λ i l. h.kept i (omega (arith, l, e)),
   h.covers_are ∙ ap (λ (k : ℕ). covers_up_to m k h.amounts) e,
