@@ -22,19 +22,27 @@ use Rattle.rob_linear.proofs.MultipleStages.{multiple_last, multiple_cleared, mu
 use Rattle.rob_linear.proofs.Multiples.{parallel_refl}
 use Rattle.rob_linear.proofs.WithoutColumn.{cleared_without, parallel_without}
 use Rattle.rob_entries.specs.Updates.{IsWideCleared}
-use Rattle.rob_simplex.specs.Dictionaries.{Table, positions, width_of, columns_of, spare_column, rows_of, IsFree, IsAlone, IsOpen, KeepsOwn}
+use Rattle.rob_simplex.specs.Dictionaries.{Table, positions, width_of, columns_of, spare_column, rows_of, kept_row_of, IsFree, IsAlone, IsOpen}
 use Rattle.rob_simplex.specs.Pivots.{CanClear}
-use Rattle.rob_simplex.specs.Lowering.{IsLowered, amount_of, HasCleared, HasRefusedCost, HasWay}
+use Rattle.rob_simplex.specs.Lowering.{IsLowered, amount_of, HasCleared, HasRefusedCost, HasWay, IsBasicAt}
 use Rattle.rob_simplex.specs.Phases.{StandsFor}
-use Rattle.rob_simplex.proofs.FreeColumns.{basic_column_low, way_free}
+use Rattle.rob_simplex.proofs.FreeColumns.{basic_column_low, basics_inside, way_free}
+use Rattle.rob_simplex.proofs.JudgingLemmas.{stands_own}
+use Rattle.rob_simplex.proofs.OwnEntries.{own_positive, keeps_positive, keeps_set}
+use Rattle.rob_simplex.proofs.ClearingTops.{cleared_by_times}
 use Rattle.rob_simplex.proofs.CostStages.{narrowed, cleared_parallel, equal_parallel, rows_is, columns_is, width_is, half, auxiliary_zero, spare_zero, half_wide, next_stands}
-use Rattle.rob_simplex.proofs.PivotLemmas.{set_twice, cleared_by_times, zero_stays, free_opened}
+use Rattle.rob_simplex.proofs.PivotLemmas.{set_twice, zero_stays, free_opened}
 use Rattle.rob_simplex.proofs.ReadRows.{basic_low, basic_high}
 use Rattle.rob_simplex.proofs.Ranks.{shorter}
 
 -- ---- a basic column in a dictionary at stage j
-module _ (P : Program) (j : ℕ) (jl : j < P.n) {t : Table} (h : StandsFor (truncated P j) t) (i : ℕ)
-    (il : i < positions t) (oi : columns_of t.basis i ≡ j) where
+module _ (P : Program) (j : ℕ) {t : Table} (h : StandsFor (truncated P j) t) {i : ℕ} (basic : IsBasicAt t i j) where
+  jl : j < P.n
+  jl = omega (arith, basic.column_in, h.columns_are)
+
+  il : i < positions t
+  il = basic.row_in
+
   rows_at : positions t ≡ P.m
   rows_at = rows_is P j jl t h
 
@@ -48,7 +56,7 @@ module _ (P : Program) (j : ℕ) (jl : j < P.n) {t : Table} (h : StandsFor (trun
   im_low = omega (arith, im)
 
   own_is : own_of (system_of P) (columns_of t.basis) i ≡ j
-  own_is = own_low (system_of P) (columns_of t.basis) i im ∙ oi
+  own_is = own_low (system_of P) (columns_of t.basis) i im ∙ basic.column_is
 
   there : auxiliary_place P (own_of (system_of P) (columns_of t.basis) i) ≡ j
   there = ap (auxiliary_place P) own_is ∙ place_low P j (omega (arith, jl))
@@ -57,8 +65,8 @@ module _ (P : Program) (j : ℕ) (jl : j < P.n) {t : Table} (h : StandsFor (trun
   low_zero k kl d =
       ap (rows_of t k) (sym there) ∙ (h.stands.multiples.rows_of k kl).along.zeros i im_low (λ e. d (sym e))
 
-  pub own_positive : pos 0 <ℤ rows_of t i j
-  own_positive = subst (λ c. pos 0 <ℤ rows_of t i c) there (h.stands.multiples.rows_of i im_low).positive
+  basic_positive : pos 0 <ℤ rows_of t i j
+  basic_positive = subst (λ c. pos 0 <ℤ rows_of t i c) there (h.stands.multiples.rows_of i im_low).positive
 
   -- no other position has it
   apart : (k : ℕ) → k < P.m → k ≢ i → columns_of t.basis k ≢ j
@@ -68,7 +76,7 @@ module _ (P : Program) (j : ℕ) (jl : j < P.n) {t : Table} (h : StandsFor (trun
       let z : rows_of t i j ≡ pos 0 =
       ap (rows_of t i) (sym (ap (auxiliary_place P) o ∙ place_low P j (omega (arith, jl))))
       ∙ (h.stands.multiples.rows_of i im_low).along.zeros k kk d in
-      let p : pos 0 <ℤ rows_of t i j = own_positive in
+      let p : pos 0 <ℤ rows_of t i j = basic_positive in
       omega (arith, ints)
 
   -- ---- the next stage
@@ -100,7 +108,7 @@ module _ (P : Program) (j : ℕ) (jl : j < P.n) {t : Table} (h : StandsFor (trun
             (λ c cl. x.row_stays c (omega (arith, w))))
         | inr d ↦
             cleared_parallel (width_of t) (suc (suc (suc (P.n + P.m)))) j (rows_of t k) (rows_of t i) (rows_of t' k)
-            (omega (arith, w)) (omega (arith, w, jl)) (low_zero k (omega arith) d) own_positive
+            (omega (arith, w)) (omega (arith, w, jl)) (low_zero k (omega arith) d) basic_positive
             (x.others k (omega (arith, rows_at)) d)
       ])
 
@@ -232,7 +240,7 @@ module _ (P : Program) (j : ℕ) (jl : j < P.n) {t : Table} (h : StandsFor (trun
     column_in = omega (arith, jl, columns_at)
 
     positive1 : pos 0 <ℤ rows_of t1 i j
-    positive1 = subst (λ z. pos 0 <ℤ z) (sym (same1 i j (omega (arith, il)) column_in)) own_positive
+    positive1 = subst (λ z. pos 0 <ℤ z) (sym (same1 i j (omega (arith, il)) column_in)) basic_positive
 
     pub alone1 : IsAlone t1 i j
     alone1 k kl d = same1 k j (omega (arith, m1)) column_in ∙ low_zero k (omega (arith, m1, rows_at)) d
@@ -247,17 +255,21 @@ module _ (P : Program) (j : ℕ) (jl : j < P.n) {t : Table} (h : StandsFor (trun
     not_way : j ≢ t1.columns + positions t1
     not_way e = absurd (omega (arith, jl, n1, columns_at))
 
-    pub clears1 : KeepsOwn (positions t1 + 1) t1 i → CanClear (positions t1 + 1) t1 i j
-    clears1 own =
-        record {
-          row_in = omega (arith, il, m1);
-          free = free1;
-          opened = open1;
-          below = omega arith;
-          positive =
-              positive1;
-          own = own;
-        }
+    -- so its row clears the column, where the kept row stays too
+    pub clears1 : (kept_row_of t s ≡ pos 0 → (c : ℕ) → kept_row_of t1 c ≡ kept_row_of t c)
+        → CanClear (positions t1 + 1) t1 i j
+    clears1 kept = record {
+      row_in = omega (arith, il, m1);
+      free = free1;
+      opened = open1;
+      below = omega arith;
+      positive = positive1;
+      own =
+          keeps_set (positions t1 + 1) i s t t1 b1 n1 same1 (basics_inside h)
+          (λ z. kept (ap (kept_row_of t) es ∙ z))
+          (keeps_positive (positions t1 + 1) i t (omega (arith, m1))
+          (own_positive t (stands_own (truncated P j) t h)));
+    }
 
     pub has_way : HasWay t1 j
     has_way = record { free = free1; way = way1; other = not_way; zero = zero1 }
@@ -265,8 +277,8 @@ module _ (P : Program) (j : ℕ) (jl : j < P.n) {t : Table} (h : StandsFor (trun
     -- ---- and brought in again
     pub basis_back : (t3 t4 : Table) → t3.basis ≡ t1.basis → t4.basis ≡ set t3.basis i j → t4.basis ≡ t.basis
     basis_back t3 t4 b3 b4 =
-        b4 ∙ ap (λ (b : List ℕ). set b i j) (b3 ∙ b1) ∙ set_twice t.basis i s j ∙ ap (λ c. set t.basis i c) (sym oi)
-        ∙ set-get_or t.basis i 0
+        b4 ∙ ap (λ (b : List ℕ). set b i j) (b3 ∙ b1) ∙ set_twice t.basis i s j
+        ∙ ap (λ c. set t.basis i c) (sym basic.column_is) ∙ set-get_or t.basis i 0
 
     module _ (factor : ℤ) where
       amount1 : amount_of t1 factor ≡ amount_of t factor

@@ -12,12 +12,12 @@ use Rattle.rob_linear.proofs.Turns.{own_low, own_high}
 use Rattle.rob_entries.specs.Updates.{IsWideCleared}
 use Rattle.rob_simplex.specs.declared.state.Cause.{Cause}
 use Rattle.rob_simplex.specs.declared.state.Cause.TheVariants.{Told, Turn, First, Elsewhere}
-use Rattle.rob_simplex.specs.Dictionaries.{Table, positions, width_of, columns_of, basic_columns, rows_of, IsClosed, IsPivoted}
+use Rattle.rob_simplex.specs.Dictionaries.{Table, positions, width_of, columns_of, basic_columns, spare_column, rows_of, IsAlone, IsClosed, IsPivoted, IsExchanged, ClearsTable, StopsTable}
 use Rattle.rob_simplex.specs.Begun.{HasBegunTurn, HasBegunAt, StandsFrom, HaltsAt}
 use Rattle.rob_simplex.specs.Endings.{halted_by}
 use Rattle.rob_simplex.specs.Phases.{StandsFor, InSecond}
 use Rattle.rob_simplex.specs.Solvers.{Solver}
-use Rattle.rob_simplex.proofs.BrokenPivots.{IsPivotable}
+use Rattle.rob_simplex.proofs.BrokenPivots.{IsPivotable, begun_size, basis4, columns4, pivoted4, closed4, wide_again}
 use Rattle.rob_simplex.proofs.Causes.{ends_wide}
 use Rattle.rob_simplex.proofs.OwnEntries.{own_positive, some_of}
 use Rattle.rob_simplex.proofs.JudgingLemmas.{stands_own}
@@ -144,3 +144,25 @@ module _ (P : Program) {t : Table} {row : ℕ} (h : HasBegunTurn (InSecond P) t 
         wide_from limit P h.before (columns_of t'.basis) i h.stood
         (refused_from limit P (columns_of h.before.basis) h.before t' i (from_here P h.before st)
         (wide_second st h.enters h.leaves limit i il d w t' eb))
+
+  -- the steps that end it: the position opened again, the others cleared, and the column brought in
+  module _ {k z : ℕ} (ek : k ≡ columns_of t.basis row) (ez : z ≡ spare_column t.columns (positions t)) {r : Table}
+      (x : IsExchanged t r row (columns_of t.basis row) z) (r2 : Table) (b2 : r2.basis ≡ r.basis)
+      (n2 : r2.columns ≡ r.columns) (t4 : Table) (b4 : t4.basis ≡ set r2.basis row k)
+      (n4 : t4.columns ≡ r2.columns) where
+    turned4 : t4.basis ≡ set h.before.basis row h.column
+    turned4 = basis4 pivotable_turn h.broken ek ez x r2 b2 n2 t4 b4 n4
+
+    pub ended_again : (IsAlone r2 row k → (i c : ℕ) → i ≤ positions r2 → c < r2.columns + positions r2 + 4
+        → rows_of t4 i c ≡ rows_of r2 i c)
+        → (count : ℕ) → positions t < count → ClearsTable count r r2 row k → InSecond P t4
+    ended_again r4 count all cl =
+        turn_ended t4 turned4 (pivoted4 pivotable_turn h.broken ek ez x r2 b2 n2 t4 b4 n4 r4 count all cl)
+        (closed4 pivotable_turn h.broken ek ez x r2 b2 n2 t4 b4 n4 r4 count all cl)
+        (columns4 pivotable_turn h.broken ek ez x r2 b2 n2 t4 b4 n4)
+
+    pub refused_again : (limit count i : ℕ) → StopsTable limit count r r2 row k i → i ≤ positions t
+        → HasWideRow limit P (columns_of t4.basis) i
+    refused_again limit count i sp il =
+        turn_wide t4 turned4 limit i (omega (arith, begun_size pivotable_turn h.broken)) sp.other
+        (wide_again pivotable_turn h.broken ek ez x r2 b2 n2 t4 b4 n4 limit count i sp il)

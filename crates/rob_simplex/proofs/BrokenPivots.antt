@@ -13,9 +13,12 @@ use Rattle.rob_linear.specs.Multiples.{IsClearedBy, IsParallel}
 use Rattle.rob_linear.proofs.Multiples.{parallel_sym, parallel_positive}
 use Rattle.rob_entries.specs.Updates.{IsWideCleared}
 use Rattle.rob_simplex.specs.Dictionaries.{Table, positions, width_of, columns_of, basic_columns, spare_column, rows_of, IsFree, IsAlone, IsOpen, IsClosed, IsPivoted, IsExchanged, KeepsOwn, ClearsTable, StopsTable}
+use Rattle.rob_simplex.specs.Pivots.{CanClear}
 use Rattle.rob_simplex.specs.Begun.{IsBroken}
+use Rattle.rob_simplex.proofs.ClearingTops.{times_ring}
 use Rattle.rob_simplex.proofs.OwnEntries.{basic_set}
-use Rattle.rob_simplex.proofs.PivotLemmas.{set_twice, zero_stays, free_opened, times_ring}
+use Rattle.rob_simplex.proofs.PivotLemmas.{set_twice, zero_stays, free_opened}
+use Rattle.rob_simplex.proofs.Views.{free_as}
 use Rattle.rob_simplex.proofs.ReadRows.{basic_low, basic_high}
 
 -- ---- a row that is cleared again
@@ -171,7 +174,7 @@ module _ {b t : Table} {row column : ℕ} (a : IsPivotable b row column) (h : Is
         x.basis ∙ ap (λ (l : List ℕ). set l row z) begun_basis ∙ set_twice b.basis row column z
         ∙ ap (λ v. set b.basis row v) z_is
 
-    pub opened_size : positions r ≡ positions b
+    opened_size : positions r ≡ positions b
     opened_size = ap length basis_r ∙ length-set b.basis row (spare_column b.columns (positions b))
 
     columns_r : r.columns ≡ b.columns
@@ -201,7 +204,7 @@ module _ {b t : Table} {row column : ℕ} (a : IsPivotable b row column) (h : Is
       ]
     ]
 
-    pub opened_free : IsFree r.columns r.basis k
+    opened_free : IsFree r.columns r.basis k
     opened_free =
         subst (λ v. IsFree r.columns r.basis v) (sym k_is)
         (subst (λ n. IsFree n r.basis column) (sym columns_r)
@@ -211,7 +214,7 @@ module _ {b t : Table} {row column : ℕ} (a : IsPivotable b row column) (h : Is
     zero_r : (i : ℕ) → i ≤ positions b → rows_of r i (spare_column b.columns (positions b)) ≡ pos 0
     zero_r i il = same_r i (spare_column b.columns (positions b)) il (omega arith) ∙ h.begun.zero i il
 
-    pub opened_again : IsOpen r row
+    opened_again : IsOpen r row
     opened_again =
         let e : spare_column r.columns (positions r) ≡ spare_column b.columns (positions b) =
         omega (arith, opened_size, columns_r) in
@@ -222,7 +225,7 @@ module _ {b t : Table} {row column : ℕ} (a : IsPivotable b row column) (h : Is
           zero = ap (rows_of r row) e ∙ zero_r row (omega (arith, a.row_in));
         }
 
-    pub opened_positive : pos 0 <ℤ rows_of r row k
+    opened_positive : pos 0 <ℤ rows_of r row k
     opened_positive =
         let p : pos 0 <ℤ rows_of h.half row column =
         parallel_positive (width_of b) (rows_of b row) (rows_of h.half row) column
@@ -230,7 +233,7 @@ module _ {b t : Table} {row column : ℕ} (a : IsPivotable b row column) (h : Is
         subst (λ v. pos 0 <ℤ rows_of r row v) (sym k_is)
         (subst (λ v. pos 0 <ℤ v) (sym (same_r row column (omega (arith, a.row_in)) column_in)) p)
 
-    pub opened_own : (count : ℕ) → count ≤ suc (positions r) → KeepsOwn count r row
+    opened_own : (count : ℕ) → count ≤ suc (positions r) → KeepsOwn count r row
     opened_own count cl = record {
       rows = λ i il im d.
           let ib : i ≤ positions b = omega (arith, opened_size) in
@@ -244,6 +247,17 @@ module _ {b t : Table} {row column : ℕ} (a : IsPivotable b row column) (h : Is
           (a.own i ib d) (a.top_zero i ib d) (h.begun.row_other i ib d) in
           (λ w. some (sym (same_r i (basic_columns b.columns b.basis i) ib inside) ∙ ap (rows_of r i) (sym e) ∙ w));
       kept = λ l. absurd (omega arith);
+    }
+
+    -- so its row clears the column in the rows before `count`
+    pub clears_again : (count : ℕ) → count ≤ suc (positions r) → CanClear count r row k
+    clears_again count l = record {
+      row_in = omega (arith, a.row_in, opened_size);
+      free = opened_free;
+      opened = opened_again;
+      below = omega arith;
+      positive = opened_positive;
+      own = opened_own count l;
     }
 
     -- a row that is cleared is the row before, cleared
@@ -263,8 +277,7 @@ module _ {b t : Table} {row column : ℕ} (a : IsPivotable b row column) (h : Is
       size2 = ap length b2 ∙ opened_size
 
       pub cleared_free : IsFree r2.columns r2.basis k
-      cleared_free =
-          subst (λ n. IsFree n r2.basis k) (sym n2) (subst (λ (l : List ℕ). IsFree r.columns l k) (sym b2) opened_free)
+      cleared_free = free_as n2 b2 opened_free
 
       module _ (t4 : Table) (b4 : t4.basis ≡ set r2.basis row k) (n4 : t4.columns ≡ r2.columns) where
         pub basis4 : t4.basis ≡ set b.basis row column

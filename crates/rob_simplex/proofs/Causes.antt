@@ -28,11 +28,11 @@ pub ends_wide_from : (limit : ℕ) (P : Program) (start : Columns) (t : Table) (
     → EndsFrom P start growing t → TellsWideFirst limit growing t i → EndsWide (LastFrom P start) limit P t i
 ends_wide_from limit P start t None i h w =
     let s : Solver = record { state = Optimal; dictionary = t; weights = [] } in
-    record { last = (optimum_from P start s refl h).point.last; own = h.own; growing = None; ends = h.ends; wide = w }
+    record { last = (optimum_from s refl h).point.last; own = h.own; growing = None; ends = h.ends; wide = w }
 ends_wide_from limit P start t (Some column) i h w =
     let s : Solver = record { state = Unbounded column; dictionary = t; weights = [] } in
     record {
-      last = (ray_from P start s refl h).point.last;
+      last = (ray_from s refl h).point.last;
       own = h.own;
       growing = Some column;
       ends = h.ends;

@@ -15,7 +15,7 @@ use Rattle.rob_simplex.specs.Dictionaries.{Table, positions, width_of, columns_o
 use Rattle.rob_simplex.specs.Pivots.{CanClear}
 use Rattle.rob_simplex.specs.Lowering.{IsLowered, amount_of, HasCleared, HasRefusedCost}
 use Rattle.rob_simplex.proofs.CostStages.{cleared_parallel}
-use Rattle.rob_simplex.proofs.PivotLemmas.{cleared_by_times}
+use Rattle.rob_simplex.proofs.ClearingTops.{cleared_by_times}
 
 module _ {t : Table} {count' i column : ℕ} (a : CanClear count' t i column) (t2 : Table) (b2 : t2.basis ≡ t.basis)
     (n2 : t2.columns ≡ t.columns)

@@ -1,7 +1,7 @@
 -- A table's rows, cleared one by one.
 use Rattle.std.proofs.Common.{◌≡◌, ◌≢◌, ℕ, ◌+◌, ◌*◌, ◌<◌, ◌≤◌, sym, ◌∙◌, refl, subst, arith, inl, inr, ◌⊎◌, List, length}
 use Rattle.std.proofs.lemmas.Bool.{cases_eq, cases_order}
-use lib.IntN.{ℤ, pos, ◌-ℤ◌, ◌*ℤ◌}
+use lib.IntN.{ℤ, pos}
 use Rattle.rob_linear.specs.Vectors.{Matrix, Vector, at}
 use Rattle.rob_linear.specs.Multiples.{IsClearedBy}
 use Rattle.rob_linear.proofs.Multiples.{zero_clears}

@@ -1,5 +1,5 @@
 -- A solver that stands as another one does, over rows of another limit.
-use Rattle.std.proofs.Common.{◌≡◌, ℕ, ◌<◌, ◌∙◌, sym, refl, ap, subst, Option, List, length}
+use Rattle.std.proofs.Common.{◌≡◌, ℕ, ◌∙◌, sym, refl, ap, subst, Option, List, length}
 use lib.IntN.{ℤ}
 use Rattle.rob_linear.specs.Programs.{Program}
 use Rattle.rob_linear.specs.Vectors.{Columns}

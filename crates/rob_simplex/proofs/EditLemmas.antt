@@ -12,21 +12,6 @@ use Rattle.rob_simplex.specs.Tables.{row_at, bound_at, HasBounds}
 use Rattle.rob_simplex.specs.Dictionaries.{Table, columns_of, basic_columns, right_column, read_row, rows_of, kept_row_of, IsSound, IsFree}
 use Rattle.rob_simplex.proofs.ReadRows.{read_near, read_own, read_none, read_same, basic_low, basic_high}
 
--- ---- rows and bounds that were lent and written back
-pub carry : (table old new t : List ℤ) (width i j k : ℕ) → old ≡ table → t ≡ new
-    → row_at new width i k ≡ row_at old width j k → row_at t width i k ≡ row_at table width j k
-carry table old new t width i j k eo et h =
-    ap (λ (s : List ℤ). row_at s width i k) et ∙ h ∙ ap (λ (s : List ℤ). row_at s width j k) eo
-
-pub carry_value : (new t : List ℤ) (width i k : ℕ) (v : ℤ) → t ≡ new → row_at new width i k ≡ v → row_at t width i k ≡ v
-carry_value new t width i k v et h = ap (λ (s : List ℤ). row_at s width i k) et ∙ h
-
-pub bounds_carry : (limit width : ℕ) (new t : List ℤ) (news ts : List ℕ) → t ≡ new → ts ≡ news
-    → HasBounds limit width new news → HasBounds limit width t ts
-bounds_carry limit width new t news ts et es h =
-    subst (λ (s : List ℤ). HasBounds limit width s ts) (sym et)
-    (subst (λ (s : List ℕ). HasBounds limit width new s) (sym es) h)
-
 module _ {limit n : ℕ} {basis places near : List ℕ} {table : List ℤ} {bounds : List ℕ} {workspace : ℕ}
     (sound : IsSound limit n basis places near table bounds workspace) where
   abbrev pub table_with : List ℤ → Table

@@ -26,6 +26,7 @@ use Rattle.rob_simplex.specs.Phases.{IsOpenBeside}
 use Rattle.rob_simplex.specs.Explicit.{InExplicit, StopsFirst, IsPrepared}
 use Rattle.rob_simplex.proofs.Prepared.{cleared_same, row_of_same, wide_same}
 use Rattle.rob_simplex.proofs.PivotLemmas.{set_twice, zero_stays, free_opened}
+use Rattle.rob_simplex.proofs.Views.{free_as}
 use Rattle.rob_simplex.proofs.NegatedRows.{set_is}
 use Rattle.rob_simplex.proofs.BesideRows.{auxiliary_free, open_positive}
 use Rattle.rob_simplex.proofs.SpareColumns.{wide_cleared, wide_primitive, wide_entry}
@@ -45,10 +46,9 @@ module _ {P : Program} {q : ℕ} {t : Table} (h : IsOpenBeside P q t) where
       let e : spare_column P.n P.m ≡ spare_column h.before.columns (positions h.before) =
       omega (arith, h.stood.rows_are, h.stood.columns_are) in
       let ql : q < positions h.before = omega (arith, h.stood.rows_are, q_low) in
-      subst (λ n. IsFree n t.basis (P.n + P.m)) (h.stood.columns_are ∙ sym h.columns_are)
-      (subst (λ (b : List ℕ). IsFree h.before.columns b (P.n + P.m)) (sym h.basis)
+      free_as (h.columns_are ∙ sym h.stood.columns_are) h.basis
       (free_opened h.before q (P.n + P.m) (spare_column P.n P.m) e ql (auxiliary_free h.stood)
-      (λ x. absurd (omega (arith, e)))))
+      (λ x. absurd (omega (arith, e))))
 
   pub open_free : IsFree t.columns t.basis (t.columns + positions t)
   open_free = subst (λ x. IsFree t.columns t.basis x) (sym size_is) free
@@ -83,9 +83,7 @@ module _ {P : Program} {q : ℕ} {t : Table} (h : IsOpenBeside P q t) where
 
       pub ready_free : IsFree t2.columns t2.basis x
       ready_free =
-          subst (λ v. IsFree t2.columns t2.basis v) (sym x_is)
-          (subst (λ n. IsFree n t2.basis (P.n + P.m)) (sym p.columns)
-          (subst (λ (b : List ℕ). IsFree t.columns b (P.n + P.m)) (sym p.basis) free))
+          subst (λ v. IsFree t2.columns t2.basis v) (sym x_is) (free_as p.columns p.basis free)
 
       pub ready_open : IsOpen t2 q
       ready_open =
@@ -202,7 +200,7 @@ module _ {P : Program} {q : ℕ} {t : Table} (h : IsOpenBeside P q t) where
               (kept_row_of t2 (spare_column P.n P.m)) (rows_of t2 q (spare_column P.n P.m)) kc.divides
               (kc.entries (spare_column P.n P.m) (omega (arith, w2))) kept2 (zero2 q (omega (arith, q_low)))
 
-          pub explicit_begins : InExplicit P t4
+          explicit_begins : InExplicit P t4
           explicit_begins = record {
             holds = record {
               rows_are = m4;
@@ -210,8 +208,7 @@ module _ {P : Program} {q : ℕ} {t : Table} (h : IsOpenBeside P q t) where
               reached = path_reached;
               stands =
                   stands_multiple_same (auxiliary_of P) (path_basis P (columns_of h.before.basis) q)
-                  (columns_of t4.basis)
-                  (rows_of t4) (λ i l. basis_is i) stands4.0;
+                  (columns_of t4.basis) (rows_of t4) (λ i l. basis_is i) stands4.0;
               kept =
                   row_of_same (kept_of P) (path_basis P (columns_of h.before.basis) q) (columns_of t4.basis) P.m
                   (kept_row_of t4) (λ i l. basis_is i) stands4.1;
@@ -276,8 +273,7 @@ module _ {P : Program} {q : ℕ} {t : Table} (h : IsOpenBeside P q t) where
                 wide = inr (inr (
                   needs,
                   inl (wide_same limit (auxiliary_of P) (path_basis P (columns_of h.before.basis) q)
-                      (columns_of t4.basis)
-                      P.m (λ k l. basis_is k)
+                      (columns_of t4.basis) P.m (λ k l. basis_is k)
                       (begun_cost_wide P (path_basis P (columns_of h.before.basis) q) q (columns_of h.before.basis q)
                       h.column (rows_of h.before) (rows_of t) stands_there h.begun limit s.0 s.1 s.2 s.3)),
                 ));
@@ -340,7 +336,7 @@ module _ {P : Program} {q : ℕ} {t : Table} (h : IsOpenBeside P q t) where
               cleared_same (width_of t2) (width_of t2) x low low (rows_of t2 q) (rows_of t2 q) new new' (omega arith)
               (omega (arith, x_is, w2)) (λ k l. refl) (λ k l. refl) en c
 
-          pub back_pivoted : IsPivoted t2 t4 q x
+          back_pivoted : IsPivoted t2 t4 q x
           back_pivoted = record {
             row_at = record {
               p = pos 1;
@@ -354,7 +350,7 @@ module _ {P : Program} {q : ℕ} {t : Table} (h : IsOpenBeside P q t) where
                 (cleared3 i (omega (arith, m2)) d);
           }
 
-          pub back_kept : IsClearedBy (width_of t2) x (kept_row_of t2) (rows_of t2 q) (kept_row_of t4)
+          back_kept : IsClearedBy (width_of t2) x (kept_row_of t2) (rows_of t2 q) (kept_row_of t4)
           back_kept =
               read4 (kept_row_of t2) (kept_row_of t3) (kept_row_of t4) (λ k l. k4 kept_cleared3.cleared k) kept_cleared3
 
@@ -369,15 +365,14 @@ module _ {P : Program} {q : ℕ} {t : Table} (h : IsOpenBeside P q t) where
                 let c = cleared3 i il d in
                 same4 i (spare_column P.n P.m) il (omega (arith, w2))
                 ∙ zero_stays c.divisor c.p c.q (rows_of t3 i (spare_column P.n P.m))
-                (rows_of t2 i (spare_column P.n P.m))
-                (rows_of t2 q (spare_column P.n P.m)) c.divides
+                (rows_of t2 i (spare_column P.n P.m)) (rows_of t2 q (spare_column P.n P.m)) c.divides
                 (c.entries (spare_column P.n P.m) (omega (arith, w2))) (zero2 i il) (zero2 q (omega (arith, q_low)))
           ]
 
           size4 : positions t4 ≡ P.m
           size4 = ap length back_basis ∙ length-set t2.basis q x ∙ m2
 
-          pub back_closed : IsClosed t4
+          back_closed : IsClosed t4
           back_closed =
               let e : spare_column t4.columns (positions t4) ≡ spare_column P.n P.m =
               omega (arith, size4, n4, n3, n2) in
@@ -388,8 +383,7 @@ module _ {P : Program} {q : ℕ} {t : Table} (h : IsOpenBeside P q t) where
                       get_or-set_same t2.basis q x 0 (omega (arith, m2, q_low)) in
                       let v : x ≡ spare_column P.n P.m =
                       sym z ∙ sym (ap (λ (b : List ℕ). columns_of b q) back_basis) ∙ sym (ap (columns_of t4.basis) c)
-                      ∙ y
-                      ∙ e in
+                      ∙ y ∙ e in
                       absurd (omega (arith, x_is))
                   | inr d ↦
                       ready_apart i (omega (arith, size4)) d
@@ -398,3 +392,6 @@ module _ {P : Program} {q : ℕ} {t : Table} (h : IsOpenBeside P q t) where
                 ];
                 zero = λ i il. ap (rows_of t4 i) e ∙ zero4 i (omega (arith, size4));
               }
+
+          pub begins_back : InExplicit P t4
+          begins_back = explicit_begins t4 back_basis back_columns back_pivoted back_kept back_closed

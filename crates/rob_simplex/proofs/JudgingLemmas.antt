@@ -34,8 +34,8 @@ use Rattle.rob_simplex.proofs.SolverRows.{low_place, high_place}
 use Rattle.rob_simplex.proofs.Solved.{own_in_range, objective_entry, shown_basis}
 
 -- ---- what is over a limit is over a lower one
-pub limit_below : (limit top : ℕ) → limit ≤ 2 ^ 62 - 1 → 2 ^ 62 ≤ top + 1 → limit ≤ top
-limit_below limit top l h = omega arith
+pub limit_below : {limit top told : ℕ} → told ≡ top → limit ≤ 2 ^ 62 - 1 → 2 ^ 62 ≤ top + 1 → limit ≤ told
+limit_below e l h = omega arith
 
 module _ (low high : ℕ) (l : low ≤ high) where
   entry_below : (S : System) (r : Vector) → HasWideEntry high S r → HasWideEntry low S r

@@ -1,4 +1,5 @@
 pub mod Sizes
+pub mod Views
 pub mod Places
 pub mod Clearing
 pub mod ClearingTops
@@ -8,6 +9,7 @@ pub mod RowEdits
 pub mod RowMoves
 pub mod EditLemmas
 pub mod StartLemmas
+pub mod WrittenStarts
 pub mod EntryLemmas
 pub mod RatioTests
 pub mod RatioLemmas

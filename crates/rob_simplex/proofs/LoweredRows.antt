@@ -1,5 +1,5 @@
 -- Rows that lose an amount at one place: by the clearing of another place, and column by column.
-use Rattle.std.proofs.Common.{◌≡◌, ◌≢◌, ℕ, suc, ◌+◌, ◌<◌, ◌≤◌, sym, ap, ◌∙◌, subst, arith, inl, inr}
+use Rattle.std.proofs.Common.{◌≡◌, ◌≢◌, ◌⊎◌, ℕ, suc, ◌+◌, ◌<◌, ◌≤◌, sym, ap, ◌∙◌, subst, arith, inl, inr}
 use Rattle.std.proofs.lemmas.Bool.{cases_eq, cases_lt}
 use Rattle.std.proofs.lemmas.Bool.Decides.{nat_tests}
 use Rattle.std.proofs.lemmas.Int.{ints}
@@ -7,13 +7,14 @@ use Rattle.std.specs.Int.RustNames.{unsigned_abs}
 use Rattle.std.specs.Int.{◌∣◌}
 use lib.IntN.{ℤ, pos, ◌-ℤ◌, ◌*ℤ◌}
 use Rattle.rob_algebra.specs.Integer.{ring, mul-zero, mul-one}
-use Rattle.rob_linear.specs.Vectors.{Vector, Columns}
+use Rattle.rob_linear.specs.Vectors.{Vector, Matrix, Columns}
 use Rattle.rob_linear.specs.Multiples.{IsClearedBy}
 use Rattle.rob_linear.specs.CondensedRows.{IsPlaced}
 use Rattle.rob_linear.specs.Stages.{unit_row}
 use Rattle.rob_linear.proofs.Stages.{unit_one, unit_zero}
 use Rattle.rob_linear.proofs.CondensedNumbers.{entry_primitive}
 use Rattle.rob_entries.specs.Updates.{IsWideCleared}
+use Rattle.rob_simplex.specs.Tables.{IsUnchangedBut}
 use Rattle.rob_simplex.specs.Dictionaries.{read_row}
 use Rattle.rob_simplex.specs.Lowering.{IsLowered, IsWideLowered, step_row}
 use Rattle.rob_simplex.proofs.ReadRows.{read_near, read_own, read_none}
@@ -52,8 +53,19 @@ elsewhere p q a r u e =
     let y : (p *ℤ r) -ℤ (q *ℤ pos 0) ≡ p *ℤ r = omega (arith, ints) in
     y ∙ ap (λ v. p *ℤ v) (sym x)
 
+-- ---- a factor is written to row r, at the way, and a row that is 1 there stands behind it
+module _ {w r way : ℕ} {step new : Matrix}
+    (factor_alone : (j k : ℕ) → k < w → (k ≢ way) ⊎ (j ≢ r) → new j k ≡ step j k) where
+  pub step_behind : (place : ℕ) {own number : ℤ} → ((k : ℕ) → k < w → step (r + 1) k ≡ step_row way place own k)
+      → own ≡ number → (k : ℕ) → k < w → new (r + 1) k ≡ step_row way place number k
+  step_behind place row own k l =
+      factor_alone (r + 1) k l (inr (λ e. absurd (omega arith))) ∙ row k l ∙ ap (λ z. step_row way place z k) own
+
+  pub row_beside : {old : Matrix} → IsUnchangedBut (r + 1) w old step → (k : ℕ) → k < w → k ≢ way → new r k ≡ old r k
+  row_beside step_alone k l d = factor_alone r k l (inl d) ∙ step_alone r k (λ e. absurd (omega arith)) l
+
 -- ---- the clearing of the way lowers the place
-module _ (n way place : ℕ) (factor own : ℤ) (row low top : Vector) (wl : way < n) (apart : place ≢ way)
+module _ {n way place : ℕ} {factor : ℤ} (own : ℤ) {row low top : Vector} (wl : way < n) (apart : place ≢ way)
     (zero : row way ≡ pos 0) (here : low way ≡ factor) (others : (k : ℕ) → k < n → k ≢ way → low k ≡ row k)
     (steps : (k : ℕ) → k < n → top k ≡ step_row way place own k) where
   times : (new : Vector) (c : IsClearedBy n way low top new) → c.q ≡ c.p *ℤ factor

@@ -54,7 +54,7 @@ module _ {limit n : ℕ} {basis places near : List ℕ} {table : List ℤ} {boun
     }
 
   -- ---- an amount in a column that is not basic
-  module _ (column : ℕ) (free : IsFree n basis column) (factor : ℤ) (x : ℕ) (ex : x ≡ columns_of places column) where
+  module _ {column : ℕ} (free : IsFree n basis column) (factor : ℤ) {x : ℕ} (ex : x ≡ columns_of places column) where
     place_in : columns_of places column < n + 3
     place_in = free_place sound column free
 
@@ -71,31 +71,37 @@ module _ {limit n : ℕ} {basis places near : List ℕ} {table : List ℤ} {boun
         (subst (λ a. IsLowered (n + 4) x a (row_at table (n + 4) (length basis)) new)
         (ap (λ z. factor *ℤ z) (sym own_entry)) l))
 
-    pub lowered_table : (new t : List ℤ) → t ≡ new
-        → IsLowered (n + 4) x (factor *ℤ row_at table (n + 4) (length basis) (n + 3))
-        (row_at table (n + 4) (length basis)) (row_at new (n + 4) (length basis))
-        → IsLowered (n + length basis + 4) column (amount_of (table_with sound table) factor)
-        (rows_of (table_with sound table) (length basis)) (rows_of (table_with sound t) (length basis))
-    lowered_table new t e l =
-        subst
-        (λ (v : List ℤ). IsLowered (n + length basis + 4) column (amount_of (table_with sound table) factor)
-        (rows_of (table_with sound table) (length basis))
-        (rows_of (table_with sound v) (length basis))) (sym e)
-        (lowered_read (length basis) (n + 3) (n + length basis + 4) (columns_of places) (columns_of near)
-        (basic_columns n basis) sound.placed (length basis) column (omega arith) free.inside place_in
-        (amount_of (table_with sound table) factor) (row_at table (n + 4) (length basis))
-        (row_at new (n + 4) (length basis)) (row_is (row_at new (n + 4) (length basis)) l))
+    -- where the objective's position and the factor are told
+    module _ {m : ℕ} {told : ℤ} (em : m ≡ length basis) (seen : told ≡ factor) where
+      pub lowered_table : (new : List ℤ)
+          → IsLowered (n + 4) x (told *ℤ row_at table (n + 4) m (n + 3)) (row_at table (n + 4) m) (row_at new (n + 4) m)
+          → IsLowered (n + length basis + 4) column (amount_of (table_with sound table) factor)
+          (rows_of (table_with sound table) (length basis)) (rows_of (table_with sound new) (length basis))
+      lowered_table new l =
+          lowered_read (length basis) (n + 3) (n + length basis + 4) (columns_of places) (columns_of near)
+          (basic_columns n basis) sound.placed (length basis) column (omega arith) free.inside place_in
+          (amount_of (table_with sound table) factor) (row_at table (n + 4) (length basis))
+          (row_at new (n + 4) (length basis))
+          (row_is (row_at new (n + 4) (length basis))
+          (subst (λ (i : ℕ). IsLowered (n + 4) x (factor *ℤ row_at table (n + 4) i (n + 3)) (row_at table (n + 4) i)
+          (row_at new (n + 4) i)) em
+          (subst (λ (z : ℤ). IsLowered (n + 4) x (z *ℤ row_at table (n + 4) m (n + 3)) (row_at table (n + 4) m)
+          (row_at new (n + 4) m)) seen l)))
 
-    pub wide_table : IsWideLowered limit (n + 4) x (factor *ℤ row_at table (n + 4) (length basis) (n + 3))
-        (row_at table (n + 4) (length basis))
-        → IsWideLowered limit (n + length basis + 4) column (amount_of (table_with sound table) factor)
-        (rows_of (table_with sound table) (length basis))
-    wide_table w =
-        let e : n + 4 ≡ suc (n + 3) = omega arith in
-        wide_lowered_read (length basis) (n + 3) (n + length basis + 4) (columns_of places) (columns_of near)
-        (basic_columns n basis) sound.placed (length basis) column (omega arith) free.inside place_in limit
-        (amount_of (table_with sound table) factor) (row_at table (n + 4) (length basis))
-        (w.0, row_is w.0 w.1, subst (λ k. IsPrimitive k w.0) e w.2, (w.3.0, subst (λ k. w.3.0 < k) e w.3.1, w.3.2))
+      pub wide_table : IsWideLowered limit (n + 4) x (told *ℤ row_at table (n + 4) m (n + 3)) (row_at table (n + 4) m)
+          → IsWideLowered limit (n + length basis + 4) column (amount_of (table_with sound table) factor)
+          (rows_of (table_with sound table) (length basis))
+      wide_table w =
+          let e : n + 4 ≡ suc (n + 3) = omega arith in
+          let l =
+          subst (λ (i : ℕ). IsLowered (n + 4) x (factor *ℤ row_at table (n + 4) i (n + 3)) (row_at table (n + 4) i) w.0)
+          em
+          (subst (λ (z : ℤ). IsLowered (n + 4) x (z *ℤ row_at table (n + 4) m (n + 3)) (row_at table (n + 4) m) w.0)
+          seen w.1) in
+          wide_lowered_read (length basis) (n + 3) (n + length basis + 4) (columns_of places) (columns_of near)
+          (basic_columns n basis) sound.placed (length basis) column (omega arith) free.inside place_in limit
+          (amount_of (table_with sound table) factor) (row_at table (n + 4) (length basis))
+          (w.0, row_is w.0 l, subst (λ k. IsPrimitive k w.0) e w.2, (w.3.0, subst (λ k. w.3.0 < k) e w.3.1, w.3.2))
 
   -- ---- the cost 0
   step_own : (w k : ℕ) → k ≡ w → step_row w w (pos 1) k ≡ pos 1

@@ -19,9 +19,11 @@ use Rattle.rob_simplex.specs.Judging.{HasOwn}
 use Rattle.rob_simplex.specs.Lowering.{IsLowered}
 use Rattle.rob_simplex.specs.Phases.{InBeside, IsOpenBeside}
 use Rattle.rob_simplex.specs.Explicit.{HoldsExplicit, IsPrepared}
-use Rattle.rob_simplex.specs.Pivots.{CanClear}
+use Rattle.rob_simplex.specs.Pivots.{CanClear, CanPivot}
 use Rattle.rob_simplex.proofs.ExplicitStart.{open_size, ready_free, ready_open, ready_positive}
+use Rattle.rob_simplex.proofs.PivotLemmas.{IsOpening, opened, positive2, same_rows, free_opened}
 use Rattle.rob_simplex.proofs.ReadRows.{basic_low, basic_high}
+use Rattle.rob_simplex.proofs.Views.{free_as}
 
 pub some_of : (z : ℤ) → pos 0 <ℤ z → z ≢ pos 0
 some_of z p e = absurd (omega (arith, ints))
@@ -250,14 +252,39 @@ module _ {P : Program} {q : ℕ} {t : Table} (h : IsOpenBeside P q t) where
 
   -- so it can clear the auxiliary column
   pub clears_prepared : (t2 : Table) (prep : IsPrepared t.columns (positions t) t t2) (x : ℕ)
-      (is : x ≡ t.columns + positions t) → CanClear (positions t + 2) t2 q x
-  clears_prepared t2 prep x is =
+      (is : x ≡ t.columns + positions t) {count : ℕ} → count ≡ positions t + 2 → CanClear count t2 q x
+  clears_prepared t2 prep x is {count = count} all =
       let em : positions t2 ≡ positions t = ap length prep.basis in
       record {
         row_in = omega (arith, h.stood.holds.inside, open_size h, em);
         free = ready_free h prep is;
         opened = ready_open h prep is;
-        below = omega (arith, em);
+        below = omega (arith, em, all);
         positive = ready_positive h prep is;
-        own = keeps_prepared (positions t + 2) t2 prep;
+        own = keeps_prepared count t2 prep;
+      }
+
+-- ---- a position that was opened for a pivot
+module _ {t0 t1 t2 : Table} {row s column : ℕ} (o : IsOpening t0 t1 t2 row s) {count : ℕ}
+    (a : CanPivot count t0 row column) where
+  -- its row can clear the column, where the kept row stays too
+  pub clears_opened : ((i : ℕ) → i ≤ positions t1 → basic_columns t1.columns t1.basis i < width_of t1)
+      → ((c : ℕ) → kept_row_of t1 c ≡ kept_row_of t0 c)
+      → (kept_row_of t1 s ≡ pos 0 → (c : ℕ) → kept_row_of t2 c ≡ kept_row_of t1 c) → CanClear count t2 row column
+  clears_opened inside kept1 kept2 =
+      let m1 : positions t1 ≡ positions t0 = ap length o.basis1 in
+      let m2 : positions t2 ≡ positions t1 = ap length o.basis2 ∙ length-set t1.basis row s in
+      let e1 : spare_column t1.columns (positions t1) ≡ s = omega (arith, o.spare, o.columns1, m1) in
+      record {
+        row_in = omega (arith, a.row_in, m1, m2);
+        free =
+            free_as (o.columns2 ∙ o.columns1) (o.basis2 ∙ ap (λ (b : List ℕ). set b row s) o.basis1)
+            (free_opened t0 row column s o.spare a.row_in a.free a.apart);
+        opened = opened o column;
+        below = omega (arith, a.below, m1, m2);
+        positive = positive2 o column a.free.inside a.positive;
+        own =
+            keeps_set count row s t1 t2 o.basis2 o.columns2 (same_rows o column) inside
+            (λ z. kept2 (ap (kept_row_of t1) (sym e1) ∙ z))
+            (keeps_rows count row t0 t1 o.basis1 o.columns1 o.others1 kept1 a.own);
       }

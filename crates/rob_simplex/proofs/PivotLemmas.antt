@@ -5,42 +5,20 @@ use Rattle.std.proofs.lemmas.Int.{ints}
 use Rattle.std.proofs.lemmas.List.{get_or-set_same, get_or-set_other, length-set}
 use lib.IntN.{ℤ, pos, ◌-ℤ◌, ◌*ℤ◌}
 use lib.Signed.{◌<ℤ◌}
-use Rattle.rob_algebra.specs.Integer.{mul_assoc, mul_left_comm, mul-sub, mul-zero, one-mul, *ℤ_comm}
-use Rattle.rob_algebra.specs.IntegerOrder.{mul-pos_z, mul_cancel_zero, mul_cancel_lt}
+use Rattle.rob_algebra.specs.Integer.{mul-zero, one-mul}
+use Rattle.rob_algebra.specs.IntegerOrder.{mul_cancel_zero, mul_cancel_lt}
 use Rattle.rob_linear.specs.Multiples.{IsClearedBy}
 use Rattle.rob_entries.specs.Updates.{IsWideCleared}
 use Rattle.rob_simplex.specs.Dictionaries.{Table, positions, width_of, columns_of, basic_columns, right_column, spare_column, rows_of, kept_row_of, IsFree, IsAlone, IsOpen, IsClosed, IsPivoted, IsBegunPivot, ClearsTable, StopsTable, IsSized}
-use Rattle.rob_simplex.specs.Pivots.{CanPivot}
+use Rattle.rob_simplex.specs.Pivots.{CanPivot, RefusesPivot}
+use Rattle.rob_simplex.proofs.ClearingTops.{cleared_by_times}
+use Rattle.rob_simplex.proofs.Views.{free_as}
 use Rattle.rob_simplex.proofs.ReadRows.{basic_low, basic_high}
 
 pub set_twice : (xs : List ℕ) (k x y : ℕ) → set (set xs k x) k y ≡ set xs k y
 set_twice [] k x y = refl
 set_twice (z ∷ xs) zero x y = refl
 set_twice (z ∷ xs) (suc k) x y = ap (λ t. z ∷ t) (set_twice xs k x y)
-
--- a row that clears may be taken times d
-pub times_ring : (D d p q x a b b' : ℤ) → D *ℤ x ≡ (p *ℤ a) -ℤ (q *ℤ b) → d *ℤ b ≡ b'
-    → (D *ℤ d) *ℤ x ≡ ((p *ℤ d) *ℤ a) -ℤ (q *ℤ b')
-times_ring D d p q x a b b' e f =
-    ap (λ t. t *ℤ x) (*ℤ_comm D d) ∙ mul_assoc d D x ∙ ap (λ t. d *ℤ t) e ∙ mul-sub d (p *ℤ a) (q *ℤ b)
-    ∙ ap (λ t. t -ℤ (d *ℤ (q *ℤ b))) (mul_left_comm d p a ∙ sym (mul_assoc p d a))
-    ∙ ap (λ t. ((p *ℤ d) *ℤ a) -ℤ t) (mul_left_comm d q b ∙ ap (λ t. q *ℤ t) f)
-
-pub cleared_by_times : (n column : ℕ) (low low' top top' new new' : ℕ → ℤ) (d : ℤ) → pos 0 <ℤ d
-    → ((k : ℕ) → k < n → low k ≡ low' k) → ((k : ℕ) → k < n → d *ℤ top k ≡ top' k) → ((k : ℕ) → k < n → new' k ≡ new k)
-    → column < n → IsClearedBy n column low top new → IsClearedBy n column low' top' new'
-cleared_by_times n column low low' top top' new new' d dp el et en cl c = record {
-  divisor = c.divisor *ℤ d;
-  p = c.p *ℤ d;
-  q = c.q;
-  divides = mul-pos_z c.divisor d c.divides dp;
-  positive = mul-pos_z c.p d c.positive dp;
-  entries = λ k l.
-      ap (λ t. (c.divisor *ℤ d) *ℤ t) (en k l)
-      ∙ times_ring c.divisor d c.p c.q (new k) (low k) (top k) (top' k) (c.entries k l) (et k l)
-      ∙ ap (λ t. ((c.p *ℤ d) *ℤ t) -ℤ (c.q *ℤ top' k)) (el k l);
-  cleared = en column cl ∙ c.cleared;
-}
 
 -- where both rows are 0, so is what comes out
 pub zero_stays : (D p q x a b : ℤ) → pos 0 <ℤ D → D *ℤ x ≡ (p *ℤ a) -ℤ (q *ℤ b) → a ≡ pos 0 → b ≡ pos 0 → x ≡ pos 0
@@ -231,7 +209,7 @@ module _ {t0 t1 t2 : Table} {row s : ℕ} (o : IsOpening t0 t1 t2 row s) (column
         (λ k l. kept2 k) row2 (λ k l. same k) column_in
         (subst (λ k. IsClearedBy k column (kept_row_of t2) (rows_of t2 row) new) w2 h)
 
-    pub kept_wide : (limit : ℕ) → IsWideCleared limit (width_of t2) column (kept_row_of t2) (rows_of t2 row)
+    kept_wide : (limit : ℕ) → IsWideCleared limit (width_of t2) column (kept_row_of t2) (rows_of t2 row)
         → IsWideCleared limit (width_of t0) column (kept_row_of t0) (rows_of t0 row)
     kept_wide limit h =
         let w = subst (λ k. IsWideCleared limit k column (kept_row_of t2) (rows_of t2 row)) w2 h in (
@@ -312,7 +290,7 @@ module _ {t0 t1 t2 : Table} {row s : ℕ} (o : IsOpening t0 t1 t2 row s) (column
         ];
       }
 
-      pub wide_begun : i ≤ positions t0 → IsWideCleared limit (width_of t0) column (rows_of t0 i) (rows_of t0 row)
+      wide_begun : i ≤ positions t0 → IsWideCleared limit (width_of t0) column (rows_of t0 i) (rows_of t0 row)
       wide_begun il =
           let w =
           subst (λ k. IsWideCleared limit k column (rows_of t2 i) (rows_of t2 row)) w2 (h.wide (omega (arith, m2))) in (
@@ -322,6 +300,17 @@ module _ {t0 t1 t2 : Table} {row s : ℕ} (o : IsOpening t0 t1 t2 row s) (column
             w.2,
             w.3,
           )
+
+      -- so the pivot is refused, where the kept row stays too
+      pub refused : ((c : ℕ) → kept_row_of t1 c ≡ kept_row_of t0 c)
+          → (kept_row_of t1 s ≡ pos 0 → (c : ℕ) → kept_row_of t2 c ≡ kept_row_of t1 c)
+          → RefusesPivot limit count t0 row column i
+      refused k1 k2 = record {
+        inside = h.inside;
+        other = h.other;
+        wide = wide_begun;
+        wide_kept = λ z e. kept_wide column_in k1 k2 z limit (h.wide_kept (e ∙ ap suc (sym m2)));
+      }
 
     module _ (t4 : Table) (b4 : t4.basis ≡ set t3.basis row column) (n4 : t4.columns ≡ t3.columns)
         (r4 : IsAlone t3 row column → (i c : ℕ) → i ≤ positions t3 → c < t3.columns + positions t3 + 4
@@ -395,6 +384,4 @@ pub free_begun : (t t' : Table) (row column : ℕ) → row < positions t → IsF
     → column ≢ spare_column t.columns (positions t) → IsBegunPivot t t' row column → t'.columns ≡ t.columns
     → IsFree t'.columns t'.basis column
 free_begun t t' row column rl free structural h en =
-    subst (λ (n : ℕ). IsFree n t'.basis column) (sym en)
-    (subst (λ (b : List ℕ). IsFree t.columns b column) (sym h.basis)
-    (free_opened t row column (spare_column t.columns (positions t)) refl rl free structural))
+    free_as en h.basis (free_opened t row column (spare_column t.columns (positions t)) refl rl free structural)

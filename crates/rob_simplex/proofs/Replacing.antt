@@ -362,7 +362,7 @@ module _ {limit n : ℕ} {basis places near : List ℕ} {table : List ℤ} {boun
         (row_at table' (n + 4) (suc (length basis))) kept_stays c q o;
   }
 
-  module _ (x l : ℕ) (t : List ℤ) (ex : x ≡ columns_of places column) (el : l ≡ columns_of basis row)
+  module _ {x l : ℕ} {t : List ℤ} (ex : x ≡ columns_of places column) (el : l ≡ columns_of basis row)
       (et : t ≡ exchanged_entries table (row * (n + 4) + x) (row * (n + 4) + (n + 3))) where
     all_same : (Q : ℕ → ℕ → List ℤ → Type 0) → Q (columns_of places column) (columns_of basis row) table' → Q x l t
     all_same Q q =

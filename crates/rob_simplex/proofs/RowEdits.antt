@@ -1,10 +1,11 @@
 -- A table of which one row has changed.
-use Rattle.std.proofs.Common.{◌≡◌, ◌≢◌, ℕ, ◌+◌, ◌<◌, ◌≤◌, sym, ap, ◌∙◌, subst, arith, inl, inr, List, length, nat_abs}
+use Rattle.std.proofs.Common.{◌≡◌, ◌≢◌, ℕ, ◌+◌, ◌<◌, ◌≤◌, sym, ap, ◌∙◌, subst, arith, inl, inr, List, length, take, drop, ◌++◌, nat_abs}
 use Rattle.std.proofs.lemmas.Bool.{cases_eq, cases_lt}
 use Rattle.std.proofs.lemmas.Int.{ints}
 use lib.IntN.{ℤ, neg_ℤ, ◌*ℤ◌}
 use Rattle.rob_algebra.specs.Integer.{mul-zero}
 use Rattle.rob_linear.specs.Vectors.{Vector, Columns}
+use Rattle.rob_entries.proofs.WrittenRows.{back_whole}
 use Rattle.rob_simplex.specs.Tables.{row_at, bound_at, HasBounds}
 use Rattle.rob_simplex.specs.Dictionaries.{read_row, IsSound}
 use Rattle.rob_simplex.proofs.ReadRows.{read_near, read_own, read_none}
@@ -25,6 +26,36 @@ sound_with limit n basis places near table table' bounds bounds' workspace s h e
   right_at = s.right_at;
   workspace_is = s.workspace_is;
 }
+
+-- ---- the bounds were lent, and written back whole
+pub bounds_back : {limit width len : ℕ} {table' : List ℤ} {bounds lent news : List ℕ} → len ≡ length bounds
+    → lent ≡ bounds → length news ≡ length lent → HasBounds limit width table' news
+    → HasBounds limit width table' (take len (news ++ drop (length news) bounds))
+bounds_back {limit = limit} {width = w} {table' = t} ok value kept h =
+    subst (HasBounds limit w t) (sym (back_whole ok value kept)) h
+
+pub length_back : {len : ℕ} {bounds lent : List ℕ} (news : List ℕ) → len ≡ length bounds → lent ≡ bounds
+    → length news ≡ length lent → length (take len (news ++ drop (length news) bounds)) ≡ length bounds
+length_back news ok value kept = ap length (back_whole ok value kept) ∙ kept ∙ ap length value
+
+module _ {limit n : ℕ} {basis places near : List ℕ} {table : List ℤ} {bounds : List ℕ} {workspace : ℕ}
+    (sound : IsSound limit n basis places near table bounds workspace) where
+  pub lent_bounds : {lent : List ℕ} → lent ≡ bounds → HasBounds limit (n + 4) table lent
+  lent_bounds value = subst (HasBounds limit (n + 4) table) (sym value) sound.bounded
+
+  pub sound_back : {len : ℕ} {table' : List ℤ} {lent news : List ℕ} → len ≡ length bounds → lent ≡ bounds
+      → length news ≡ length lent → HasBounds limit (n + 4) table' news
+      → IsSound limit n basis places near table' (take len (news ++ drop (length news) bounds)) workspace
+  sound_back {len = len} {table' = t} {news = news} ok value kept h =
+      sound_with limit n basis places near table t bounds (take len (news ++ drop (length news) bounds)) workspace sound
+      (bounds_back ok value kept h) (length_back news ok value kept)
+
+-- the row that clears has kept its length
+pub sound_loaded : {limit n : ℕ} {basis places near : List ℕ} {table : List ℤ} {bounds : List ℕ}
+    {workspace workspace' : ℕ} → workspace' ≡ workspace → IsSound limit n basis places near table bounds workspace
+    → IsSound limit n basis places near table bounds workspace'
+sound_loaded {limit = limit} {n = n} {basis = basis} {places = places} {near = near} {table = table}
+    {bounds = bounds} e h = subst (IsSound limit n basis places near table bounds) (sym e) h
 
 -- ---- a row's numbers all times something
 pub read_times : (w : ℕ) (places : Columns) (i : ℕ) (d : ℤ) (r r' : Vector) → ((k : ℕ) → k ≤ w → d *ℤ r' k ≡ r k)

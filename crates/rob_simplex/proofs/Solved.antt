@@ -216,14 +216,14 @@ pub ray_found : (P : Program) (s : Solver) → InSecond P s.dictionary → HasRa
     → EndsIn P (Some (column_of s.state)) s.dictionary → IsRayOf P s
 ray_found P s h state e = ray_at P s h.own (Last P) state (ray_is_last P (columns_of s.basis) h.reached) e
 
-pub optimum_from : (P : Program) (start : Columns) (s : Solver) → s.state ≡ Optimal → EndsFrom P start None s.dictionary
-    → IsOptimumAt (LastFrom P start) P s
-optimum_from P start s state h =
+pub optimum_from : {P : Program} {start : Columns} (s : Solver) → s.state ≡ Optimal
+    → EndsFrom P start None s.dictionary → IsOptimumAt (LastFrom P start) P s
+optimum_from {P = P} {start = start} s state h =
     optimum_at P s h.own (LastFrom P start) state (optimum_last_from P start (columns_of s.basis) h.reached) h.ends
 
-pub ray_from : (P : Program) (start : Columns) (s : Solver) → HasRay s
+pub ray_from : {P : Program} {start : Columns} (s : Solver) → HasRay s
     → EndsFrom P start (Some (column_of s.state)) s.dictionary → IsRayAt (LastFrom P start) P s
-ray_from P start s state h =
+ray_from {P = P} {start = start} s state h =
     ray_at P s h.own (LastFrom P start) state (ray_last_from P start (columns_of s.basis) h.reached) h.ends
 
 pub weights_found : (P : Program) (s : Solver) → HasWeights s → AreWeights P s.basis s.weights → HasWeightsFor P s

@@ -1,15 +1,16 @@
 -- What a solver is after its dictionary has followed the path.
-use Rattle.std.proofs.Common.{◌≡◌, ℕ, ◌+◌, ◌^◌, ◌<◌, ◌∙◌, sym, refl, subst, arith, List, length, Some, None}
+use Rattle.std.proofs.Common.{◌≡◌, ℕ, ◌+◌, ◌^◌, ◌<◌, ◌∙◌, sym, refl, subst, arith, List, length, Option, Some, None}
 use Rattle.std.specs.Prelude.{⊤}
 use lib.IntN.{ℤ}
+use Rattle.rob_linear.specs.Vectors.{Columns}
 use Rattle.rob_linear.specs.Programs.{Program}
 use Rattle.rob_rows.specs.PrimitiveParts.{IsWithin}
 use Rattle.rob_simplex.specs.declared.state.State.{State}
 use Rattle.rob_simplex.specs.declared.state.State.TheVariants.{New, Optimal, Infeasible, Unbounded, Stopped}
 use Rattle.rob_simplex.specs.declared.state.Cause.{Cause}
-use Rattle.rob_simplex.specs.Dictionaries.{Table}
+use Rattle.rob_simplex.specs.Dictionaries.{Table, IsSized}
 use Rattle.rob_simplex.specs.Judging.{Tells}
-use Rattle.rob_simplex.specs.Phases.{StandsFor}
+use Rattle.rob_simplex.specs.Phases.{StandsFor, EndsFrom}
 use Rattle.rob_simplex.specs.Resuming.{CanResume}
 use Rattle.rob_simplex.specs.Starts.{IsStartingTable}
 use Rattle.rob_simplex.specs.Solvers.{Solver, positions, IsSound, IsMadeFor}
@@ -20,8 +21,14 @@ pub made_start : (P : Program) (v s : Solver) → v ≡ s → IsMadeFor P s → 
 made_start P v s e h = subst (λ (t : Solver). IsStartingTable P t.dictionary) (sym e) h.starting
 
 -- a solver that can resume has rows that stand
-pub resumed_stands : (P : Program) (v s : Solver) → v ≡ s → CanResume P s → StandsFor P v.dictionary
-resumed_stands P v s e h = subst (λ (u : Solver). StandsFor P u.dictionary) (sym e) h.own
+pub resumed_stands : {P : Program} {v s : Solver} → v ≡ s → CanResume P s → StandsFor P v.dictionary
+resumed_stands {P = P} e h = subst (λ (u : Solver). StandsFor P u.dictionary) (sym e) h.own
+
+-- how the path from there ended
+pub ends_as : {P : Program} {start : Columns} {limit : ℕ} {t : Table} {e f : Option ℕ} → e ≡ f
+    → EndsFrom P start e t × Tells limit e t → EndsFrom P start f t × Tells limit f t
+ends_as {P = P} {start = start} {limit = limit} {t = t} is h =
+    subst (λ x. EndsFrom P start x t × Tells limit x t) is h
 
 -- ---- a new solver
 pub made_for : (P : Program) (t : Table) (w : List ℤ) → IsStartingTable P t
@@ -52,10 +59,16 @@ untold Infeasible = ⊥
 untold (Unbounded column) = ⊥
 
 -- ---- it stays sound, with another dictionary of its size and other weights
-module _ {top limit : ℕ} {v : Solver} (sound : IsSound top limit v) (t : Table) (w : List ℤ) (el : t.limit ≡ v.limit)
-    (en : t.columns ≡ v.columns) (em : length t.basis ≡ positions v) (size : length w ≡ positions v) where
+module _ {top limit : ℕ} {v : Solver} (sound : IsSound top limit v) {t : Table} (sized : IsSized v.dictionary t)
+    (w : List ℤ) (size : length w ≡ positions v) where
+  el : t.limit ≡ v.limit
+  el = sized.limit
+
+  em : length t.basis ≡ positions v
+  em = sized.positions
+
   few_columns : t.columns + length t.basis < 2 ^ 31
-  few_columns = omega (arith, sound.few)
+  few_columns = omega (arith, sound.few, sized.columns, em)
 
   -- without a point
   pub sound_infeasible : IsWithin limit w
@@ -104,7 +117,7 @@ module _ {top limit : ℕ} {v : Solver} (sound : IsSound top limit v) (t : Table
   sound_untold (Unbounded column) u = absurd u
 
   -- with one
-  module _ (P : Program) (h : StandsFor P t) where
+  module _ {P : Program} (h : StandsFor P t) where
     pub sound_optimal : Tells limit None t → IsSound top limit (record { state = Optimal; dictionary = t; weights = w })
     sound_optimal told = record {
       limit_is = el ∙ sound.limit_is;

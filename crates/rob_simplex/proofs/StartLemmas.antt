@@ -139,46 +139,50 @@ module _ (n : ℕ) (Q : ℕ → Type 0) (low : (k : ℕ) → k < n → Q k) (aux
     ]
   ]
 
-module _ (n : ℕ) (basis places near : List ℕ) (slacks : (i : ℕ) → i < length basis → columns_of basis i ≡ n + i)
-    (placed : (c : ℕ) → c < n + length basis + 4 → columns_of places c ≡ start_place n (length basis) c)
-    (nears : (k : ℕ) → k < n + 3 → columns_of near k ≡ start_column n (length basis) k) where
+-- each column at its first place, and each position with its slack column
+pub record IsNumbered (n : ℕ) (basis places near : List ℕ) : Type 0 where
+  pub slacks : (i : ℕ) → i < length basis → columns_of basis i ≡ n + i
+  pub placed : (c : ℕ) → c < n + length basis + 4 → columns_of places c ≡ start_place n (length basis) c
+  pub nears : (k : ℕ) → k < n + 3 → columns_of near k ≡ start_column n (length basis) k
+
+module _ {n : ℕ} {basis places near : List ℕ} (numbered : IsNumbered n basis places near) where
   abbrev m : ℕ
   m = length basis
 
   at_low : (c : ℕ) → c < n → columns_of places c ≡ c
-  at_low c l = placed c (omega arith) ∙ place_low n (length basis) c l
+  at_low c l = numbered.placed c (omega arith) ∙ place_low n (length basis) c l
 
   at_slack : (i : ℕ) → i < length basis → columns_of places (n + i) ≡ n + 3 + i
   at_slack i l =
       let e : n + i + 3 ≡ n + 3 + i = omega arith in
-      placed (n + i) (omega arith) ∙ place_slack n (length basis) (n + i) (omega arith) (omega arith) ∙ e
+      numbered.placed (n + i) (omega arith) ∙ place_slack n (length basis) (n + i) (omega arith) (omega arith) ∙ e
 
   at_auxiliary : columns_of places (n + length basis) ≡ n
-  at_auxiliary = placed (n + length basis) (omega arith) ∙ place_auxiliary n (length basis)
+  at_auxiliary = numbered.placed (n + length basis) (omega arith) ∙ place_auxiliary n (length basis)
 
   at_objective : columns_of places (suc (n + length basis)) ≡ n + 3 + length basis
-  at_objective = placed (suc (n + length basis)) (omega arith) ∙ place_objective n (length basis)
+  at_objective = numbered.placed (suc (n + length basis)) (omega arith) ∙ place_objective n (length basis)
 
   pub at_right : columns_of places (suc (suc (n + length basis))) ≡ n + 2
-  at_right = placed (suc (suc (n + length basis))) (omega arith) ∙ place_right n (length basis)
+  at_right = numbered.placed (suc (suc (n + length basis))) (omega arith) ∙ place_right n (length basis)
 
   pub at_spare : columns_of places (suc (suc (suc (n + length basis)))) ≡ n + 1
-  at_spare = placed (suc (suc (suc (n + length basis)))) (omega arith) ∙ place_spare n (length basis)
+  at_spare = numbered.placed (suc (suc (suc (n + length basis)))) (omega arith) ∙ place_spare n (length basis)
 
   near_low : (k : ℕ) → k < n → columns_of near k ≡ k
-  near_low k l = nears k (omega arith) ∙ column_low n (length basis) k l
+  near_low k l = numbered.nears k (omega arith) ∙ column_low n (length basis) k l
 
   near_auxiliary : columns_of near n ≡ n + length basis
-  near_auxiliary = nears n (omega arith) ∙ column_auxiliary n (length basis)
+  near_auxiliary = numbered.nears n (omega arith) ∙ column_auxiliary n (length basis)
 
   near_spare : columns_of near (suc n) ≡ suc (suc (suc (n + length basis)))
-  near_spare = nears (suc n) (omega arith) ∙ column_spare n (length basis)
+  near_spare = numbered.nears (suc n) (omega arith) ∙ column_spare n (length basis)
 
   near_right : columns_of near (suc (suc n)) ≡ suc (suc (n + length basis))
-  near_right = nears (suc (suc n)) (omega arith) ∙ column_right n (length basis)
+  near_right = numbered.nears (suc (suc n)) (omega arith) ∙ column_right n (length basis)
 
   tag_slack : (i : ℕ) → i < length basis → basic_columns n basis i ≡ n + i
-  tag_slack i l = basic_low n basis i l ∙ slacks i l
+  tag_slack i l = basic_low n basis i l ∙ numbered.slacks i l
 
   pub start_is_placed : IsPlaced (length basis) (n + 3) (n + length basis + 4) (columns_of places) (columns_of near)
       (basic_columns n basis)
@@ -227,11 +231,11 @@ module _ (n : ℕ) (basis places near : List ℕ) (slacks : (i : ℕ) → i < le
         at_spare in absurd (omega arith));
   }
 
-  pub start_is_sound : (limit : ℕ) (table : List ℤ) (bounds : List ℕ) (workspace : ℕ) → n + length basis < 2 ^ 31
+  pub start_is_sound : {limit : ℕ} {table : List ℤ} {bounds : List ℕ} {workspace : ℕ} → n + length basis < 2 ^ 31
       → 1 ≤ limit → length bounds ≡ length basis + 2 → HasBounds limit (n + 4) table bounds
       → length places ≡ n + length basis + 4 → length near ≡ n + 3 → workspace ≡ n + 4
       → IsSound limit n basis places near table bounds workspace
-  start_is_sound limit table bounds workspace few low count h ps ns rs = record {
+  start_is_sound few low count h ps ns rs = record {
     few = few;
     limit_low = low;
     count = count;
@@ -354,41 +358,13 @@ module _ (n : ℕ) (basis places near : List ℕ) (slacks : (i : ℕ) → i < le
     starting limit = record {
       columns_are = refl;
       rows_are = refl;
-      slacks = slacks;
+      slacks = numbered.slacks;
       rows = start_rows;
       closed = record {
-        free = λ i l e. let s : columns_of basis i ≡ n + i = slacks i l in absurd (omega arith);
+        free = λ i l e. let s : columns_of basis i ≡ n + i = numbered.slacks i l in absurd (omega arith);
         zero = λ i il.
             read_near (n + 3) (columns_of places) i (row_at table (n + 4) i) (spare_column n (length basis))
             (let e : columns_of places (spare_column n (length basis)) ≡ n + 1 = at_spare in omega arith)
             ∙ ap (row_at table (n + 4) i) at_spare ∙ spare_zero i il;
       };
     }
-
--- lists that were lent and written back
-pub sound_carry : (limit n : ℕ) (b b' p p' r r' : List ℕ) (t t' : List ℤ) (s s' : List ℕ) (workspace : ℕ) → b' ≡ b
-    → p' ≡ p → r' ≡ r → t' ≡ t → s' ≡ s → IsSound limit n b p r t s workspace → IsSound limit n b' p' r' t' s' workspace
-sound_carry limit n b b' p p' r r' t t' s s' workspace eb ep er et es h =
-    subst (λ (x : List ℕ). IsSound limit n x p' r' t' s' workspace) (sym eb)
-    (subst (λ (x : List ℕ). IsSound limit n b x r' t' s' workspace) (sym ep)
-    (subst (λ (x : List ℕ). IsSound limit n b p x t' s' workspace) (sym er)
-    (subst (λ (x : List ℤ). IsSound limit n b p r x s' workspace) (sym et)
-    (subst (λ (x : List ℕ). IsSound limit n b p r t x workspace) (sym es) h))))
-
-pub starting_carry : (limit n : ℕ) (b b' p p' : List ℕ) (t t' : List ℤ) (m' n' : ℕ) (a : ℕ → ℕ → ℤ) (right cost : ℕ → ℤ)
-    → b' ≡ b → p' ≡ p → t' ≡ t → length b ≡ m' → n ≡ n'
-    → IsStartingTable (record { m = length b; n = n; a = a; b = right; c = cost })
-    (record { limit = limit; columns = n; basis = b; places = p; table = t })
-    → IsStartingTable (record { m = m'; n = n'; a = a; b = right; c = cost })
-    (record { limit = limit; columns = n; basis = b'; places = p'; table = t' })
-starting_carry limit n b b' p p' t t' m' n' a right cost eb ep et em en h =
-    subst (λ (x : List ℕ). IsStartingTable (record { m = m'; n = n'; a = a; b = right; c = cost })
-    (record { limit = limit; columns = n; basis = x; places = p'; table = t' })) (sym eb)
-    (subst (λ (x : List ℕ). IsStartingTable (record { m = m'; n = n'; a = a; b = right; c = cost })
-    (record { limit = limit; columns = n; basis = b; places = x; table = t' })) (sym ep)
-    (subst (λ (x : List ℤ). IsStartingTable (record { m = m'; n = n'; a = a; b = right; c = cost })
-    (record { limit = limit; columns = n; basis = b; places = p; table = x })) (sym et)
-    (subst (λ (x : ℕ). IsStartingTable (record { m = x; n = n'; a = a; b = right; c = cost })
-    (record { limit = limit; columns = n; basis = b; places = p; table = t })) em
-    (subst (λ (x : ℕ). IsStartingTable (record { m = length b; n = x; a = a; b = right; c = cost })
-    (record { limit = limit; columns = n; basis = b; places = p; table = t })) en h))))

@@ -154,16 +154,14 @@ module _ {limit n : ℕ} {basis places near : List ℕ} {table : List ℤ} {boun
     pub positive_entry : pos 0 <ℤ at entries x
     positive_entry =
         subst (λ y. pos 0 <ℤ at entries y) (sym ex)
-        (part_positive (n + 4) (columns_of places column) (row_at table (n + 4) row) (at entries) m
-        (columns_of places column) (omega (arith, free_place)) positive_there)
+        (part_positive m (columns_of places column) (omega (arith, free_place)) positive_there)
 
     pub own_there : (i : ℕ) → i < count → i ≢ row → AreOwn (row_at table (n + 4) i) (at entries) (n + 4 - 1)
     own_there i il d =
         let e : n + 4 - 1 ≡ n + 3 = omega arith in
         record {
           zero =
-              ap (at entries) e ∙ part_zero (n + 4) (n + 3) (row_at table (n + 4) row) (at entries) m (n + 3)
-              (omega arith) own_zero;
+              ap (at entries) e ∙ part_zero m (n + 3) (omega arith) own_zero;
           some = λ z. own_left i il d (ap (row_at table (n + 4) i) (sym e) ∙ z);
         }
 
@@ -173,7 +171,7 @@ module _ {limit n : ℕ} {basis places near : List ℕ} {table : List ℤ} {boun
         let e : n + 4 ≡ suc (n + 3) = omega arith in
         subst (λ k. IsClearedBy k (columns_of places column) low (row_at table (n + 4) row) new) e
         (subst (λ y. IsClearedBy (n + 4) y low (row_at table (n + 4) row) new) ex
-        (cleared_whole (n + 4) x (row_at table (n + 4) row) (at entries) m low new c))
+        (cleared_whole m x low new c))
 
     row_cleared : (j i : ℕ) (new : List ℤ) → j ≢ row
         → IsClearedBy (n + 4) x (row_at table (n + 4) i) (at entries) (row_at new (n + 4) i)

@@ -1,32 +1,26 @@
-use Rattle.std.proofs.Common.{◌≡◌, ℕ, ◌+◌, ◌<◌, ◌≤◌, ◌∙◌, refl, ap, subst, arith, pos}
-use lib.Signed.{◌≤ℤ◌}
-use Rattle.rob_simplex.specs.Dictionaries.{Table, positions, rows_of, FirstNegative}
+use Rattle.std.proofs.Common.{◌+◌, ◌<◌, ◌≤◌, refl, subst, arith}
+use Rattle.rob_simplex.specs.Dictionaries.{positions}
 use Rattle.rob_simplex.proofs.Ranks.{IsSmall}
 use Rattle.rob_simplex.proofs.SecondPhase.{entering_free, not_spare, turn_second, turns_on, turns_fall, wide_second, ends_optimal}
 use Rattle.rob_simplex.proofs.EntryLemmas.{small_entries}
 use Rattle.rob_simplex.proofs.JudgingLemmas.{stands_own}
 use Rattle.rob_simplex.proofs.OwnEntries.{own_positive, keeps_positive}
+use Rattle.rob_simplex.proofs.Views.{positions_told, first_told, none_told}
 use Rattle.rob_simplex.proofs.dictionary.Dictionary.advance.Goals as goal
 
 pub returns-in_default-clause-turned : goal.returns-in_default-clause-turned
 returns-in_default-clause-turned g c P h =
     let t = c.args.self.now in
-    let em : c.len-m.result ≡ positions t =
-    c.len-m.ensures ∙ c.self.inside.basis.ok.0 ∙ ap (λ (t : Table). positions t) c.self.view_is in (
+    let em = positions_told c.self.view_is c.len-m.ensures c.self.inside.basis.ok.0 in (
       refl,
-      ends_optimal P t h
-          (subst (λ (i : ℕ). (k : ℕ) → k < t.columns + positions t → pos 0 ≤ℤ rows_of t i k) em
-          c.in_default.ensures.first),
+      ends_optimal P t h (none_told t em c.in_default.ensures.first),
     )
 
 pub pivot-requires : goal.pivot-requires
 pivot-requires g c =
     let t = c.args.self.now in
-    let em : c.len-m.result ≡ positions t =
-    c.len-m.ensures ∙ c.self.inside.basis.ok.0 ∙ ap (λ (t : Table). positions t) c.self.view_is in
-    let first =
-    subst (λ (i : ℕ). FirstNegative (t.columns + positions t) (rows_of t i) c.in-Some.column) em
-    c.in-Some.ensures.first in
+    let em = positions_told c.self.view_is c.len-m.ensures c.self.inside.basis.ok.0 in
+    let first = first_told t em c.in-Some.ensures.first in
     let h = c.requires.stands.1 in
     let leaves = c.in-Some-leaving.ensures.first in
     record {
@@ -47,11 +41,8 @@ pivot-requires g c =
 pub returns-in-Ok-clause-turned : goal.returns-in-Ok-clause-turned
 returns-in-Ok-clause-turned g c P h =
     let t = c.args.self.now in
-    let em : c.len-m.result ≡ positions t =
-    c.len-m.ensures ∙ c.self.inside.basis.ok.0 ∙ ap (λ (t : Table). positions t) c.self.view_is in
-    let first =
-    subst (λ (i : ℕ). FirstNegative (t.columns + positions t) (rows_of t i) c.in-Some.column) em
-    c.in-Some.ensures.first in
+    let em = positions_told c.self.view_is c.len-m.ensures c.self.inside.basis.ok.0 in
+    let first = first_told t em c.in-Some.ensures.first in
     let leaves = c.in-Some-leaving.ensures.first in
     let small : IsSmall t = subst IsSmall c.self.view_is (small_entries c.self.invariant) in
     let p = c.in-Ok.ensures.pivoted in
@@ -66,11 +57,8 @@ returns-in-Ok-clause-turned g c P h =
 pub returns-in-Err-clause-wide : goal.returns-in-Err-clause-wide
 returns-in-Err-clause-wide g c P h =
     let t = c.args.self.now in
-    let em : c.len-m.result ≡ positions t =
-    c.len-m.ensures ∙ c.self.inside.basis.ok.0 ∙ ap (λ (t : Table). positions t) c.self.view_is in
-    let first =
-    subst (λ (i : ℕ). FirstNegative (t.columns + positions t) (rows_of t i) c.in-Some.column) em
-    c.in-Some.ensures.first in
+    let em = positions_told c.self.view_is c.len-m.ensures c.self.inside.basis.ok.0 in
+    let first = first_told t em c.in-Some.ensures.first in
     let no = c.in-Err.ensures.refused in
     let below : c.in-Err.i < c.len-m.result + 1 = no.inside in
     let il : c.in-Err.i ≤ positions t = omega arith in
@@ -79,23 +67,19 @@ returns-in-Err-clause-wide g c P h =
 
 pub returns-in-Err-clause-position : goal.returns-in-Err-clause-position
 returns-in-Err-clause-position g c =
-    let em : c.len-m.result ≡ positions c.args.self.now =
-    c.len-m.ensures ∙ c.self.inside.basis.ok.0 ∙ ap (λ (t : Table). positions t) c.self.view_is in
+    let em = positions_told c.self.view_is c.len-m.ensures c.self.inside.basis.ok.0 in
     let below : c.in-Err.i < c.len-m.result + 1 = c.in-Err.ensures.refused.inside in
     omega arith
 
 pub returns-in-Err-clause-begun : goal.returns-in-Err-clause-begun
 returns-in-Err-clause-begun g c =
     let t = c.args.self.now in
-    let em : c.len-m.result ≡ positions t =
-    c.len-m.ensures ∙ c.self.inside.basis.ok.0 ∙ ap (λ (t : Table). positions t) c.self.view_is in
+    let em = positions_told c.self.view_is c.len-m.ensures c.self.inside.basis.ok.0 in
     record {
       before = t;
       stood = refl;
       column = c.in-Some.column;
-      enters =
-          subst (λ (i : ℕ). FirstNegative (t.columns + positions t) (rows_of t i) c.in-Some.column) em
-          c.in-Some.ensures.first;
+      enters = first_told t em c.in-Some.ensures.first;
       leaves = c.in-Some-leaving.ensures.first;
       broken = c.in-Err.ensures.broken;
     }

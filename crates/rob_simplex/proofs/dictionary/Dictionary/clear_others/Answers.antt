@@ -1,23 +1,22 @@
-use Rattle.std.proofs.Common.{◌≡◌, ℕ, ◌<◌, ◌≤◌, ◌+◌, ◌*◌, ◌∙◌, refl, ap, sym, subst, arith, length, nat_abs, OnOk}
+use Rattle.std.proofs.Common.{◌≡◌, ℕ, ◌<◌, ◌≤◌, ◌+◌, ◌∙◌, ap, sym, subst, arith, length, nat_abs, OnOk}
 use Rattle.std.specs.Prelude.{IfErr}
 use Rattle.std.proofs.lemmas.Result.{on_ok_weaker}
 use Rattle.rob_linear.specs.Vectors.{at}
-use Rattle.rob_entries.specs.Updates.{IsMultipleOf}
 use Rattle.rob_simplex.specs.Tables.{row_at, bound_at, IsStopped}
 use Rattle.rob_simplex.specs.Dictionaries.{Table, ClearsTable, StopsTable}
-use Rattle.rob_simplex.specs.Pivots.{CanClear}
 use Rattle.rob_simplex.proofs.Places.{read_at}
-use Rattle.rob_simplex.proofs.EditLemmas.{bounds_carry}
+use Rattle.rob_simplex.proofs.RowEdits.{lent_bounds}
+use Rattle.rob_simplex.proofs.EditLemmas.{column_in}
 use Rattle.rob_simplex.proofs.TableClearing.{free_place, row_there, positive_entry, own_there, table_cleared, table_stopped, err_weaker, before, after}
+use Rattle.rob_simplex.proofs.ClearingTops.{multiple_in}
+use Rattle.rob_simplex.proofs.Views.{can_clear}
 use Rattle.rob_simplex.proofs.Sizes.{sized_view}
 use Rattle.rob_simplex.proofs.dictionary.Dictionary.clear_others.Goals as goal
 
 pub load-requires : goal.load-requires
 load-requires g c =
-    let a =
-    subst (λ (t : Table). CanClear c.args.count t c.args.row c.args.column) (sym c.self.view_is) c.requires.ready in
-    let rl : c.args.row < length c.self.inside.basis.items = a.row_in in
-    let bl : c.args.row < length c.self.inside.bounds.items = omega (arith, rl, c.self.invariant.count) in
+    let a = can_clear c.self.view_is c.requires.ready in
+    let bl : c.args.row < length c.self.inside.bounds.items = omega (arith, a.row_in, c.self.invariant.count) in
     let b : c.index.result.now ≡ bound_at c.self.inside.bounds.items c.args.row =
     read_at c.self.inside.bounds.items c.args.row c.index.result.now bl c.index.ensures in
     let there = row_there c.self.invariant a in
@@ -32,29 +31,21 @@ load-requires g c =
 
 pub clear_rows-requires : goal.clear_rows-requires
 clear_rows-requires g c =
-    let a =
-    subst (λ (t : Table). CanClear c.args.count t c.args.row c.args.column) (sym c.self.view_is) c.requires.ready in
-    let rl : c.args.row < length c.self.inside.basis.items = a.row_in in
-    let bl : c.args.row < length c.self.inside.bounds.items = omega (arith, rl, c.self.invariant.count) in
+    let a = can_clear c.self.view_is c.requires.ready in
+    let bl : c.args.row < length c.self.inside.bounds.items = omega (arith, a.row_in, c.self.invariant.count) in
     let b : c.index.result.now ≡ bound_at c.self.inside.bounds.items c.args.row =
     read_at c.self.inside.bounds.items c.args.row c.index.result.now bl c.index.ensures in
     let low : bound_at c.self.inside.bounds.items c.args.row ≤ g.E.Entry.top =
     c.self.invariant.bounded.low c.args.row bl in
     let ex =
     read_at c.self.inside.places.items c.args.column c.index-2.result.now
-    (omega (arith, a.free.inside, c.self.invariant.places_size)) c.index-2.ensures in
-    let m : IsMultipleOf (c.self.inside.columns + 4) (row_at c.self.inside.rows (c.self.inside.columns + 4) c.args.row)
-    (at c.load.new.row.entries) =
-    subst (λ (w : ℕ). IsMultipleOf w (row_at c.self.inside.rows (c.self.inside.columns + 4) c.args.row)
-    (at c.load.new.row.entries)) c.self.invariant.workspace_is c.load.ensures.entries in
+    (column_in c.self.invariant c.args.column a.free) c.index-2.ensures in
+    let m = multiple_in c.self.invariant.workspace_is c.load.ensures.entries in
     let fp = free_place c.self.invariant a in
     let lent = ap length c.as_mut_slice.ensures.value in
     record {
       ready = record {
-        bounded =
-            bounds_carry g.E.Entry.top (c.self.inside.columns + 4) c.self.inside.rows c.self.inside.rows
-            c.self.inside.bounds.items c.as_mut_slice.result.now refl c.as_mut_slice.ensures.value
-            c.self.invariant.bounded;
+        bounded = lent_bounds c.self.invariant c.as_mut_slice.ensures.value;
         inside = omega (arith, a.below, lent, c.self.invariant.count);
         width = c.load.ensures.size ∙ c.self.invariant.workspace_is;
         place_in = omega (arith, ex, fp);
@@ -66,15 +57,11 @@ clear_rows-requires g c =
 
 pub returns-clause-cleared : goal.returns-clause-cleared
 returns-clause-cleared g c =
-    let a =
-    subst (λ (t : Table). CanClear c.args.count t c.args.row c.args.column) (sym c.self.view_is) c.requires.ready in
+    let a = can_clear c.self.view_is c.requires.ready in
     let ex =
     read_at c.self.inside.places.items c.args.column c.index-2.result.now
-    (omega (arith, a.free.inside, c.self.invariant.places_size)) c.index-2.ensures in
-    let m : IsMultipleOf (c.self.inside.columns + 4) (row_at c.self.inside.rows (c.self.inside.columns + 4) c.args.row)
-    (at c.load.new.row.entries) =
-    subst (λ (w : ℕ). IsMultipleOf w (row_at c.self.inside.rows (c.self.inside.columns + 4) c.args.row)
-    (at c.load.new.row.entries)) c.self.invariant.workspace_is c.load.ensures.entries in
+    (column_in c.self.invariant c.args.column a.free) c.index-2.ensures in
+    let m = multiple_in c.self.invariant.workspace_is c.load.ensures.entries in
     subst (λ (v : Table). OnOk c.clear_rows.result
     (ClearsTable c.args.count v (after c.self.invariant a c.clear_rows.new.rows) c.args.row c.args.column))
     c.self.view_is
@@ -85,15 +72,11 @@ returns-clause-cleared g c =
 pub returns-clause-stopped : goal.returns-clause-stopped
 returns-clause-stopped g c =
     let w = c.self.inside.columns + 4 in
-    let a =
-    subst (λ (t : Table). CanClear c.args.count t c.args.row c.args.column) (sym c.self.view_is) c.requires.ready in
+    let a = can_clear c.self.view_is c.requires.ready in
     let ex =
     read_at c.self.inside.places.items c.args.column c.index-2.result.now
-    (omega (arith, a.free.inside, c.self.invariant.places_size)) c.index-2.ensures in
-    let m : IsMultipleOf (c.self.inside.columns + 4) (row_at c.self.inside.rows (c.self.inside.columns + 4) c.args.row)
-    (at c.load.new.row.entries) =
-    subst (λ (w : ℕ). IsMultipleOf w (row_at c.self.inside.rows (c.self.inside.columns + 4) c.args.row)
-    (at c.load.new.row.entries)) c.self.invariant.workspace_is c.load.ensures.entries in
+    (column_in c.self.invariant c.args.column a.free) c.index-2.ensures in
+    let m = multiple_in c.self.invariant.workspace_is c.load.ensures.entries in
     let new = c.clear_rows.new.rows in
     subst (λ (v : Table). IfErr c.clear_rows.result
     (λ (i : ℕ). StopsTable v.limit c.args.count v (after c.self.invariant a new) c.args.row c.args.column i))

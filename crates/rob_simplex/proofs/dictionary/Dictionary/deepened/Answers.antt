@@ -1,7 +1,7 @@
-use Rattle.std.proofs.Common.{◌≡◌, ◌≤◌, ◌+◌, ◌^◌, ◌<◌, ◌∙◌, refl, ap, arith, length}
+use Rattle.std.proofs.Common.{◌+◌, ◌∙◌, refl, ap, arith, length}
 use Rattle.rob_simplex.specs.Dictionaries.{with_limit}
 use Rattle.rob_simplex.proofs.CopiedTables.{same_table, raised_sound, place_within}
-use Rattle.rob_simplex.proofs.StartLemmas.{sound_carry}
+use Rattle.rob_simplex.proofs.WrittenStarts.{sound_carry}
 use Rattle.rob_simplex.proofs.dictionary.Dictionary.deepened.Goals as goal
 
 pub deepened-requires : goal.deepened-requires
@@ -19,11 +19,7 @@ invariant_of-result g c =
     let ep = c.in_ok-places.ensures.items ∙ c.as_slice-2.ensures.value in
     let er = c.in_ok-near.ensures.items ∙ c.as_slice-3.ensures.value in
     let es = c.in_ok-bounds.ensures.items ∙ c.as_slice-4.ensures.value in
-    sound_carry g.E.Entry.top c.other.inside.columns c.other.inside.basis.items c.in_ok-basis.basis.items
-    c.other.inside.places.items c.in_ok-places.places.items
-    c.other.inside.near.items c.in_ok-near.near.items c.other.inside.rows c.in_ok-rows.rows c.other.inside.bounds.items
-    c.in_ok-bounds.bounds.items
-    (length c.in_ok-pivot_row.pivot_row.entries) eb ep er c.in_ok-rows.ensures.same es
+    sound_carry eb ep er c.in_ok-rows.ensures.same es
     (raised_sound g.F.Entry.top g.E.Entry.top c.other.inside.columns c.other.inside.basis.items
     c.other.inside.places.items c.other.inside.near.items c.other.inside.rows c.other.inside.bounds.items
     (length c.other.inside.pivot_row.entries) (length c.in_ok-pivot_row.pivot_row.entries)

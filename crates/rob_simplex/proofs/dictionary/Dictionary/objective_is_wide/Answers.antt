@@ -1,4 +1,4 @@
-use Rattle.std.proofs.Common.{◌≡◌, ◌+◌, ◌<◌, ap, ◌∙◌, arith}
+use Rattle.std.proofs.Common.{◌≡◌, ◌+◌, ap, ◌∙◌, arith}
 use Rattle.rob_algebra.specs.Width.{Fits}
 use Rattle.rob_simplex.specs.Dictionaries.{Table, positions}
 use Rattle.rob_simplex.specs.Judging.{ratio_of, objective_column}

@@ -2,30 +2,27 @@ use Rattle.std.proofs.Common.{◌≡◌, ℕ, ◌+◌, ◌<◌, ◌∙◌, sym, 
 use Rattle.std.specs.Prelude.{◌≢◌}
 use Rattle.std.proofs.lemmas.Bool.Decides.{nat_tests}
 use lib.Signed.{◌≤ℤ◌}
-use Rattle.rob_simplex.specs.Dictionaries.{Table, positions, columns_of, basic_columns, rows_of, FirstNegative}
+use Rattle.rob_simplex.specs.Dictionaries.{Table, positions, columns_of, basic_columns, rows_of}
 use Rattle.rob_simplex.specs.Explicit.{EndsExplicit, HasTurnedExplicit, StopsFirst}
 use Rattle.rob_simplex.proofs.Ranks.{IsSmall}
 use Rattle.rob_simplex.proofs.EntryLemmas.{small_entries}
 use Rattle.rob_simplex.proofs.OwnEntries.{keeps_explicit}
 use Rattle.rob_simplex.proofs.ExplicitTurns.{explicit_own, explicit_free, explicit_not_spare, explicit_bounded, explicit_turned, explicit_refused, kept_spare}
+use Rattle.rob_simplex.proofs.Views.{positions_told, first_told, none_told}
 use Rattle.rob_simplex.proofs.dictionary.Dictionary.turn_explicit.Goals as goal
 
 pub first_negative-requires-clause-own : goal.first_negative-requires-clause-own
 first_negative-requires-clause-own g c =
     let t = c.args.self.now in
-    let em : c.len-m.result ≡ positions t =
-    c.len-m.ensures ∙ c.self.inside.basis.ok.0 ∙ ap (λ (t : Table). positions t) c.self.view_is in
+    let em = positions_told c.self.view_is c.len-m.ensures c.self.inside.basis.ok.0 in
     subst (λ (i : ℕ). pos 0 ≤ℤ rows_of t i (basic_columns t.columns t.basis i)) (sym em)
     (explicit_own c.requires.stands.1.holds)
 
 pub returns-in_default-clause-turned : goal.returns-in_default-clause-turned
 returns-in_default-clause-turned g c P h =
     let t = c.args.self.now in
-    let em : c.len-m.result ≡ positions t =
-    c.len-m.ensures ∙ c.self.inside.basis.ok.0 ∙ ap (λ (t : Table). positions t) c.self.view_is in
-    let none : (k : ℕ) → k < t.columns + positions t → pos 0 ≤ℤ rows_of t (positions t) k =
-    subst (λ (i : ℕ). (k : ℕ) → k < t.columns + positions t → pos 0 ≤ℤ rows_of t i k) em
-    c.in_default.ensures.first in
+    let em = positions_told c.self.view_is c.len-m.ensures c.self.inside.basis.ok.0 in
+    let none = none_told t em c.in_default.ensures.first in
     let ends : EndsExplicit P t = record {
       stands = h;
       none =
@@ -37,21 +34,15 @@ returns-in_default-clause-turned g c P h =
 pub returns-in_default-leaving-clause-turned : goal.returns-in_default-leaving-clause-turned
 returns-in_default-leaving-clause-turned g c P h =
     let t = c.args.self.now in
-    let em : c.len-m.result ≡ positions t =
-    c.len-m.ensures ∙ c.self.inside.basis.ok.0 ∙ ap (λ (t : Table). positions t) c.self.view_is in
-    let first =
-    subst (λ (i : ℕ). FirstNegative (t.columns + positions t) (rows_of t i) c.in-Some.column) em
-    c.in-Some.ensures.first in
+    let em = positions_told c.self.view_is c.len-m.ensures c.self.inside.basis.ok.0 in
+    let first = first_told t em c.in-Some.ensures.first in
     absurd (explicit_bounded h.holds first c.in_default-leaving.ensures.first)
 
 pub pivot-requires : goal.pivot-requires
 pivot-requires g c =
     let t = c.args.self.now in
-    let em : c.len-m.result ≡ positions t =
-    c.len-m.ensures ∙ c.self.inside.basis.ok.0 ∙ ap (λ (t : Table). positions t) c.self.view_is in
-    let first =
-    subst (λ (i : ℕ). FirstNegative (t.columns + positions t) (rows_of t i) c.in-Some.column) em
-    c.in-Some.ensures.first in
+    let em = positions_told c.self.view_is c.len-m.ensures c.self.inside.basis.ok.0 in
+    let first = first_told t em c.in-Some.ensures.first in
     let he = c.requires.stands.1.holds in
     let leaves = c.in-Some-leaving.ensures.first in
     record {
@@ -70,12 +61,9 @@ pivot-requires g c =
 pub returns-in-Ok-clause-turned : goal.returns-in-Ok-clause-turned
 returns-in-Ok-clause-turned g c P h =
     let t = c.args.self.now in
-    let em : c.len-m.result ≡ positions t =
-    c.len-m.ensures ∙ c.self.inside.basis.ok.0 ∙ ap (λ (t : Table). positions t) c.self.view_is in
+    let em = positions_told c.self.view_is c.len-m.ensures c.self.inside.basis.ok.0 in
     let en : c.self.inside.columns ≡ t.columns = ap (λ (t : Table). t.columns) c.self.view_is in
-    let first =
-    subst (λ (i : ℕ). FirstNegative (t.columns + positions t) (rows_of t i) c.in-Some.column) em
-    c.in-Some.ensures.first in
+    let first = first_told t em c.in-Some.ensures.first in
     let small : IsSmall t = subst IsSmall c.self.view_is (small_entries c.self.invariant) in
     let el : c.basic-left.result ≡ columns_of t.basis c.in-Some-leaving.row = c.basic-left.ensures.column in
     let er : t.columns ≡ P.n = h.holds.columns_are in
@@ -95,11 +83,8 @@ returns-in-Ok-clause-turned g c P h =
 pub returns-in-Err-clause-wide : goal.returns-in-Err-clause-wide
 returns-in-Err-clause-wide g c P h =
     let t = c.args.self.now in
-    let em : c.len-m.result ≡ positions t =
-    c.len-m.ensures ∙ c.self.inside.basis.ok.0 ∙ ap (λ (t : Table). positions t) c.self.view_is in
-    let first =
-    subst (λ (i : ℕ). FirstNegative (t.columns + positions t) (rows_of t i) c.in-Some.column) em
-    c.in-Some.ensures.first in
+    let em = positions_told c.self.view_is c.len-m.ensures c.self.inside.basis.ok.0 in
+    let first = first_told t em c.in-Some.ensures.first in
     let no = c.in-Err.ensures.refused in
     let below : c.in-Err.i < c.len-m.result + 2 = no.inside in
     let e : min c.in-Err.i (positions t) ≡ c.min.result = ap (λ k. min c.in-Err.i k) (sym em) ∙ sym c.min.ensures in

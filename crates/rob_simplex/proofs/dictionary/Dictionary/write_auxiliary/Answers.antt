@@ -1,37 +1,16 @@
-use Rattle.std.proofs.Common.{◌≡◌, ◌≢◌, ℕ, suc, ◌<◌, ◌+◌, ◌∙◌, refl, ap, sym, subst, arith, length, take, drop, ◌++◌, pos}
+use Rattle.std.proofs.Common.{◌≡◌, ◌≢◌, ℕ, suc, ◌<◌, ◌+◌, ◌∙◌, ap, sym, subst, arith, length, pos}
 use Rattle.rob_simplex.specs.Tables.{row_at}
 use Rattle.rob_simplex.specs.Dictionaries.{Table, positions, columns_of, rows_of, kept_row_of, width_of, IsFree}
-use Rattle.rob_entries.proofs.WrittenRows.{written_back}
 use Rattle.rob_simplex.proofs.Places.{read_at}
-use Rattle.rob_simplex.proofs.RowEdits.{sound_with}
-use Rattle.rob_simplex.proofs.EditLemmas.{table_with, bounds_carry, column_in, unit_auxiliary, unit_objective, unit_else, other_read}
+use Rattle.rob_simplex.proofs.RowEdits.{lent_bounds, sound_back}
+use Rattle.rob_simplex.proofs.EditLemmas.{table_with, column_in, unit_auxiliary, unit_objective, unit_else, other_read}
 use Rattle.rob_simplex.proofs.dictionary.Dictionary.write_auxiliary.Goals as goal
 
 pub invariant_of-self : goal.invariant_of-self
 invariant_of-self g c =
-    let n = c.self.inside.columns in
-    let basis = c.self.inside.basis.items in
-    let places = c.self.inside.places.items in
-    let near = c.self.inside.near.items in
-    let table = c.self.inside.rows in
-    let bounds = c.self.inside.bounds.items in
-    let workspace = length c.self.inside.pivot_row.entries in
-    let old = c.self.inside.rows in
-    let t = c.write_unit.new.rows in
-    let bt =
-    take c.self.inside.bounds.len
-    (c.write_unit.new.bounds ++ drop (length c.write_unit.new.bounds) c.self.inside.bounds.items) in
-    let cb =
-    written_back c.write_unit.new.bounds c.self.inside.bounds.items c.self.inside.bounds.len
-    (c.write_unit.auto.bounds ∙ ap length c.as_mut_slice.ensures.value ∙ sym c.self.inside.bounds.ok.0) in
-    let before =
-    bounds_carry g.E.Entry.top (n + 4) table old bounds c.as_mut_slice.result.now refl c.as_mut_slice.ensures.value
-    c.self.invariant.bounded in
-    let em : c.len-m.result ≡ length c.self.inside.basis.items = c.len-m.ensures ∙ c.self.inside.basis.ok.0 in
-    let h = c.write_unit.ensures.bounded g.E.Entry.top c.self.invariant.limit_low before in
-    sound_with g.E.Entry.top n basis places near table t bounds bt workspace c.self.invariant
-    (bounds_carry g.E.Entry.top (n + 4) c.write_unit.new.rows t c.write_unit.new.bounds bt refl cb h)
-    (ap length cb ∙ c.write_unit.auto.bounds ∙ ap length c.as_mut_slice.ensures.value)
+    let value = c.as_mut_slice.ensures.value in
+    sound_back c.self.invariant c.self.inside.bounds.ok.0 value c.write_unit.auto.bounds
+    (c.write_unit.ensures.bounded g.E.Entry.top c.self.invariant.limit_low (lent_bounds c.self.invariant value))
 
 -- what it has written
 pub returns : goal.returns

@@ -1,9 +1,8 @@
-use Rattle.std.proofs.Common.{◌≡◌, ℕ, ◌<◌, ◌≤◌, ◌+◌, ◌∙◌, ap, sym, subst, arith, pos, length, List}
-use Rattle.rob_linear.specs.Vectors.{at}
+use Rattle.std.proofs.Common.{◌≡◌, ℕ, ◌<◌, ◌≤◌, ◌+◌, sym, subst, arith, pos, length, List}
 use Rattle.rob_simplex.specs.Tables.{row_at}
 use Rattle.rob_simplex.specs.Dictionaries.{Table, positions, columns_of, rows_of}
 use Rattle.rob_simplex.proofs.Places.{read_at}
-use Rattle.rob_simplex.proofs.EntryLemmas.{row_inside, zeros_before}
+use Rattle.rob_simplex.proofs.EntryLemmas.{zeros_before}
 use Rattle.rob_simplex.proofs.dictionary.Dictionary.zero_slacks.Goals as goal
 
 pub returns-clause-few : goal.returns-clause-few

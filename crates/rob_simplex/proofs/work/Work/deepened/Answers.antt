@@ -1,4 +1,4 @@
-use Rattle.std.proofs.Common.{◌≡◌, ◌∙◌, sym, ap, subst}
+use Rattle.std.proofs.Common.{◌∙◌, sym, ap, subst}
 use Rattle.rob_simplex.specs.Dictionaries.{with_limit}
 use Rattle.rob_simplex.specs.Solvers.{Solver, HasWeights}
 use Rattle.rob_simplex.proofs.Deepened.{deepened_sound}

@@ -1,4 +1,4 @@
-use Rattle.std.proofs.Common.{◌≤◌, sym, ap, ◌∙◌, subst}
+use Rattle.std.proofs.Common.{sym, ap, ◌∙◌, subst}
 use Rattle.rob_simplex.specs.Solvers.{Solver}
 use Rattle.rob_simplex.proofs.JudgingLemmas.{limit_below}
 use Rattle.rob_simplex.proofs.Solving.{sound_untold, untold}
@@ -19,18 +19,13 @@ follow_on-ended-requires g c =
     let b = begun_here P v c.args.self.now c.self.view_is h c.cause-cause.result c.cause-cause.ensures.cause in
     record {
       begun = (P, b);
-      limit =
-          subst (λ l. g.N.Exact.limit ≤ l) (sym c.self.invariant.limit_is)
-          (limit_below g.N.Exact.limit g.E.Entry.top g.met.N.Exact.limit_high g.met.E.Entry.top_low);
+      limit = limit_below c.self.invariant.limit_is g.met.N.Exact.limit_high g.met.E.Entry.top_low;
     }
 
 -- the solver is as it stopped, but for its dictionary
 pub invariant_of-self : goal.invariant_of-self
 invariant_of-self g c =
-    let v : Solver =
-    record { state = c.self.inside.state; dictionary = c.self.inside.dictionary; weights = c.self.inside.weights } in
-    sound_untold c.self.invariant c.follow_on-ended.new.self c.self.inside.weights c.follow_on-ended.ensures.sized.limit
-    c.follow_on-ended.ensures.sized.columns c.follow_on-ended.ensures.sized.positions c.self.invariant.weights_size
+    sound_untold c.self.invariant c.follow_on-ended.ensures.sized c.self.inside.weights c.self.invariant.weights_size
     c.self.inside.state (subst untold (sym (ap (λ (u : Solver). u.state) c.self.view_is ∙ c.cause-cause.ensures.cause))
     tt)
 

@@ -1,4 +1,4 @@
-use Rattle.std.proofs.Common.{◌≤◌, sym, ap, ◌∙◌, subst}
+use Rattle.std.proofs.Common.{sym, ap, ◌∙◌, subst}
 use Rattle.rob_simplex.specs.Solvers.{Solver}
 use Rattle.rob_simplex.proofs.JudgingLemmas.{limit_below}
 use Rattle.rob_simplex.proofs.Solving.{made_start, sound_untold, untold}
@@ -13,18 +13,13 @@ follow-ended-requires g c =
     record {
       starts =
           (c.requires.fresh.0, made_start c.requires.fresh.0 v c.args.self.now c.self.view_is c.requires.fresh.1);
-      limit =
-          subst (λ l. g.N.Exact.limit ≤ l) (sym c.self.invariant.limit_is)
-          (limit_below g.N.Exact.limit g.E.Entry.top g.met.N.Exact.limit_high g.met.E.Entry.top_low);
+      limit = limit_below c.self.invariant.limit_is g.met.N.Exact.limit_high g.met.E.Entry.top_low;
     }
 
 -- the solver is as it was made, but for its dictionary
 pub invariant_of-self : goal.invariant_of-self
 invariant_of-self g c =
-    let v : Solver =
-    record { state = c.self.inside.state; dictionary = c.self.inside.dictionary; weights = c.self.inside.weights } in
-    sound_untold c.self.invariant c.follow-ended.new.self c.self.inside.weights c.follow-ended.ensures.sized.limit
-    c.follow-ended.ensures.sized.columns c.follow-ended.ensures.sized.positions c.self.invariant.weights_size
+    sound_untold c.self.invariant c.follow-ended.ensures.sized c.self.inside.weights c.self.invariant.weights_size
     c.self.inside.state (subst untold (sym (ap (λ (u : Solver). u.state) c.self.view_is ∙ c.requires.fresh.1.state)) tt)
 
 pub tell-requires : goal.tell-requires
