@@ -20,11 +20,10 @@ find-requires-clause-model g c = record {
 pub returns-in-Ok-clause-told : goal.returns-in-Ok-clause-told
 returns-in-Ok-clause-told g c =
     found_tells g.N.Exact.limit (robust g.N.Exact.value c.args.model.now) c.args.route
-    (certificate_of g.N.Exact.value c.in-Ok.cert) _
-    (λ (told : RouteLine). told.spot) (λ (told : RouteLine). told.text) c.status_line.result
-    c.requires.valid.well_formed
-    (c.in-Ok.ensures.solves (robust g.N.Exact.value c.args.model.now) c.requires.valid.well_formed
-    c.requires.elaborated.are_forms c.requires.elaborated.is_set).found
+    (certificate_of g.N.Exact.value c.in-Ok.cert) _ (λ (told : RouteLine). told.spot) (λ (told : RouteLine). told.text)
+    c.status_line.result c.requires.valid.well_formed
+    (c.in-Ok.ensures.solves _ c.requires.valid.well_formed c.requires.elaborated.are_forms
+    c.requires.elaborated.is_set).found
     (solution_fits g.N.Exact.value g.N.Exact.limit g.met.N.Exact.fits
     (robust g.N.Exact.value c.args.model.now) c.in-Ok.cert)
     c.status_line.ensures.line c.status_line.ensures.no_spot
@@ -32,75 +31,60 @@ returns-in-Ok-clause-told g c =
 pub returns-in-Ok-clause-counted : goal.returns-in-Ok-clause-counted
 returns-in-Ok-clause-counted g c =
     solve_counted c.args.route g.N.Exact.value g.N.Exact.limit (robust g.N.Exact.value c.args.model.now) _ _ _
-    (c.find.ensures.solves (robust g.N.Exact.value c.args.model.now) c.requires.valid.well_formed
-    c.requires.elaborated.are_forms c.requires.elaborated.is_set)
+    (c.find.ensures.solves _ c.requires.valid.well_formed c.requires.elaborated.are_forms c.requires.elaborated.is_set)
 
 pub wide_line-requires-clause-named : goal.wide_line-requires-clause-named
 wide_line-requires-clause-named g c =
     (stop_of (robust g.N.Exact.value c.args.model.now) c.args.route g.N.Exact.limit
     (stop.Wide c.in-Err-Wide.spot c.in-Err-Wide.trace)
     (stop_cause g.N.Exact.value g.N.Exact.limit (robust g.N.Exact.value c.args.model.now) c.args.route _ _
-    c.find.result c.in-Err-Wide.field-0 _
-    c.in-Err-Wide.is c.in-Err-Wide.field-0-is
-    (c.find.ensures.solves (robust g.N.Exact.value c.args.model.now) c.requires.valid.well_formed
-    c.requires.elaborated.are_forms c.requires.elaborated.is_set))).0
+    c.find.result c.in-Err-Wide.field-0 _ c.in-Err-Wide.is c.in-Err-Wide.field-0-is
+    (c.find.ensures.solves _ c.requires.valid.well_formed c.requires.elaborated.are_forms
+    c.requires.elaborated.is_set))).0
 
 pub wide_line-requires-clause-rounds : goal.wide_line-requires-clause-rounds
 wide_line-requires-clause-rounds g c =
     (stop_of (robust g.N.Exact.value c.args.model.now) c.args.route g.N.Exact.limit
     (stop.Wide c.in-Err-Wide.spot c.in-Err-Wide.trace)
     (stop_cause g.N.Exact.value g.N.Exact.limit (robust g.N.Exact.value c.args.model.now) c.args.route _ _
-    c.find.result c.in-Err-Wide.field-0 _
-    c.in-Err-Wide.is c.in-Err-Wide.field-0-is
-    (c.find.ensures.solves (robust g.N.Exact.value c.args.model.now) c.requires.valid.well_formed
-    c.requires.elaborated.are_forms c.requires.elaborated.is_set))).1
+    c.find.result c.in-Err-Wide.field-0 _ c.in-Err-Wide.is c.in-Err-Wide.field-0-is
+    (c.find.ensures.solves _ c.requires.valid.well_formed c.requires.elaborated.are_forms
+    c.requires.elaborated.is_set))).1
 
 pub returns-in-Err-Wide-clause-told : goal.returns-in-Err-Wide-clause-told
 returns-in-Err-Wide-clause-told g c =
     wide_tells g.N.Exact.limit (robust g.N.Exact.value c.args.model.now) c.args.route c.in-Err-Wide.spot
-    c.in-Err-Wide.trace.rounds
-    (λ (told : RouteLine). told.spot) (λ (told : RouteLine). told.text) c.wide_line.result
+    c.in-Err-Wide.trace.rounds (λ (told : RouteLine). told.spot) (λ (told : RouteLine). told.text) c.wide_line.result
     (stop_cause g.N.Exact.value g.N.Exact.limit (robust g.N.Exact.value c.args.model.now) c.args.route _ _
-    c.find.result c.in-Err-Wide.field-0 _
-    c.in-Err-Wide.is c.in-Err-Wide.field-0-is
-    (c.find.ensures.solves (robust g.N.Exact.value c.args.model.now) c.requires.valid.well_formed
-    c.requires.elaborated.are_forms c.requires.elaborated.is_set))
+    c.find.result c.in-Err-Wide.field-0 _ c.in-Err-Wide.is c.in-Err-Wide.field-0-is
+    (c.find.ensures.solves _ c.requires.valid.well_formed c.requires.elaborated.are_forms c.requires.elaborated.is_set))
     (stop_fits g.N.Exact.value g.N.Exact.limit (robust g.N.Exact.value c.args.model.now) c.args.route _ _
-    c.find.result c.in-Err-Wide.field-0 _
-    c.in-Err-Wide.is c.in-Err-Wide.field-0-is
-    (c.find.ensures.solves (robust g.N.Exact.value c.args.model.now) c.requires.valid.well_formed
-    c.requires.elaborated.are_forms c.requires.elaborated.is_set))
+    c.find.result c.in-Err-Wide.field-0 _ c.in-Err-Wide.is c.in-Err-Wide.field-0-is
+    (c.find.ensures.solves _ c.requires.valid.well_formed c.requires.elaborated.are_forms c.requires.elaborated.is_set))
     c.wide_line.ensures.line c.wide_line.ensures.spot
 
 pub returns-in-Err-Wide-clause-rose : goal.returns-in-Err-Wide-clause-rose
 returns-in-Err-Wide-clause-rose g c =
-    rose_counts (g.L.Ledger.wides c.args.ledger.now) (g.L.Ledger.wides c.find.new.ledger)
-    c.in-Err-Wide.spot c.in-Err-Wide.trace
-    (λ (told : RouteLine). told.spot) c.wide_line.result
+    rose_counts (g.L.Ledger.wides c.args.ledger.now) (g.L.Ledger.wides c.find.new.ledger) c.in-Err-Wide.spot
+    c.in-Err-Wide.trace (λ (told : RouteLine). told.spot) c.wide_line.result
     (stop_counts g.N.Exact.value g.N.Exact.limit (robust g.N.Exact.value c.args.model.now) c.args.route _ _
-    c.find.result c.in-Err-Wide.field-0 _
-    c.in-Err-Wide.is c.in-Err-Wide.field-0-is
-    (c.find.ensures.solves (robust g.N.Exact.value c.args.model.now) c.requires.valid.well_formed
-    c.requires.elaborated.are_forms c.requires.elaborated.is_set))
+    c.find.result c.in-Err-Wide.field-0 _ c.in-Err-Wide.is c.in-Err-Wide.field-0-is
+    (c.find.ensures.solves _ c.requires.valid.well_formed c.requires.elaborated.are_forms c.requires.elaborated.is_set))
     c.wide_line.ensures.spot
 
 pub returns-in-Err-Wide-clause-counted : goal.returns-in-Err-Wide-clause-counted
 returns-in-Err-Wide-clause-counted g c =
     solve_counted c.args.route g.N.Exact.value g.N.Exact.limit (robust g.N.Exact.value c.args.model.now) _ _ _
-    (c.find.ensures.solves (robust g.N.Exact.value c.args.model.now) c.requires.valid.well_formed
-    c.requires.elaborated.are_forms c.requires.elaborated.is_set)
+    (c.find.ensures.solves _ c.requires.valid.well_formed c.requires.elaborated.are_forms c.requires.elaborated.is_set)
 
 pub unreachable-requires : goal.unreachable-requires
 unreachable-requires g c =
     never_empty c.args.route g.N.Exact.limit (robust g.N.Exact.value c.args.model.now) _ c.requires.admitted
-    (stop_cause g.N.Exact.value g.N.Exact.limit (robust g.N.Exact.value c.args.model.now) c.args.route _ _ c.find.result
-    c.in-Err-EmptySet.field-0 _
-    c.in-Err-EmptySet.is c.in-Err-EmptySet.field-0-is
-    (c.find.ensures.solves (robust g.N.Exact.value c.args.model.now) c.requires.valid.well_formed
-    c.requires.elaborated.are_forms c.requires.elaborated.is_set))
+    (stop_cause g.N.Exact.value g.N.Exact.limit (robust g.N.Exact.value c.args.model.now) c.args.route _ _
+    c.find.result c.in-Err-EmptySet.field-0 _ c.in-Err-EmptySet.is c.in-Err-EmptySet.field-0-is
+    (c.find.ensures.solves _ c.requires.valid.well_formed c.requires.elaborated.are_forms c.requires.elaborated.is_set))
 
 pub returns-clause-counted : goal.returns-clause-counted
 returns-clause-counted g c =
     solve_counted c.args.route g.N.Exact.value g.N.Exact.limit (robust g.N.Exact.value c.args.model.now) _ _ _
-    (c.find.ensures.solves (robust g.N.Exact.value c.args.model.now) c.requires.valid.well_formed
-    c.requires.elaborated.are_forms c.requires.elaborated.is_set)
+    (c.find.ensures.solves _ c.requires.valid.well_formed c.requires.elaborated.are_forms c.requires.elaborated.is_set)
