@@ -8,12 +8,9 @@ check_cert-requires-clause-shape g c = c.in-Ok.ensures.read.shape
 
 pub returns-in-Ok-clause-answers : goal.returns-in-Ok-clause-answers
 returns-in-Ok-clause-answers g c =
-    certificate_answers g.N.Exact.limit (robust g.N.Exact.value c.args.model.now) (g.L.Ledger.wides c.args.ledger.now)
-    (g.L.Ledger.wides c.read_cert.new.ledger)
-    (g.L.Ledger.wides c.check_cert.new.ledger) c.args.text.now (certificate_of g.N.Exact.value c.in-Ok.cert)
-    c.check_cert.result c.read_cert.ensures.counted.wides c.in-Ok.ensures.read
-    c.in-Ok.ensures.fits
-    c.check_cert.ensures.answers
+    certificate_answers g.N.Exact.limit (robust g.N.Exact.value c.args.model.now) _ _ _ c.args.text.now
+    (certificate_of g.N.Exact.value c.in-Ok.cert) c.check_cert.result c.read_cert.ensures.counted.wides
+    c.in-Ok.ensures.read c.in-Ok.ensures.fits c.check_cert.ensures.answers
 
 pub returns-in-Err-Rule-clause-answers : goal.returns-in-Err-Rule-clause-answers
 returns-in-Err-Rule-clause-answers g c =

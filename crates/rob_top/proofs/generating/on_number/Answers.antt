@@ -15,6 +15,5 @@ told_number-requires-clause-numbered g c = ap own_of c.in-Gen.is
 
 pub returns-in-Gen-clause-answers : goal.returns-in-Gen-clause-answers
 returns-in-Gen-clause-answers g c =
-    compared_answers (line_of c.args.line.now) c.told_number.result c.in-Gen.is c.told_number.ensures.number
-    _ c.compare_routes.result
-    c.compare_routes.ensures.compared
+    compared_answers (line_of c.args.line.now) c.told_number.result c.in-Gen.is c.told_number.ensures.number _
+    c.compare_routes.result c.compare_routes.ensures.compared

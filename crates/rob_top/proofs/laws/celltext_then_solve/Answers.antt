@@ -11,11 +11,9 @@ returns c = record {
   status = taken_status;
   answer = taken_answer;
   answered = λ printing text split later known line takes solves each narrow ended shown means.
-      taken_has_status printing text split later known line takes solves each narrow ended
-      (means_complete later ended shown means known);
-  accepted = λ printing text split proving known line takes checking again other takes_too status certificate
-      solved is_prove is_check file ended shown means.
-      taken_certificate printing text split proving known line takes checking again other takes_too status certificate
-      solved is_prove is_check file
-      ended (means_complete checking ended shown means again);
+      taken_has_status _ _ split later known line takes solves each narrow ended (means_complete _ _ _ means known);
+  accepted = λ printing text split proving known line takes checking again other takes_too status certificate solved
+      is_prove is_check file ended shown means.
+      taken_certificate _ _ split proving known line takes checking again other takes_too status certificate solved
+      is_prove is_check file ended (means_complete _ _ _ means again);
 }

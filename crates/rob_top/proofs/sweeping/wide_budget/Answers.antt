@@ -1,4 +1,4 @@
-use Rattle.std.proofs.Common.{◌++◌, ◌∙◌, ap, refl, subst, sym}
+use Rattle.std.proofs.Common.{◌++◌, ◌∙◌, refl, subst, sym}
 use Rattle.rob_meaning.specs.RobustModel.{RobustModel}
 use Rattle.rob_report.specs.Places.{IsSpotOf}
 use Rattle.rob_report.specs.Spots.{too_wide_line}
@@ -13,8 +13,7 @@ pub returns : goal.returns
 returns g c = record {
   wide = (
     refl,
-    c.in_ok-text.ensures.text
-        ∙ ap (λ (m : RobustModel). too_wide_line m c.args.spot ++ budget_line (g.N.Exact.value c.args.limit))
-        c.in_ok-changed.ensures.replaced,
+    c.in_ok-text.ensures.text ∙ (λ i.
+        too_wide_line (c.in_ok-changed.ensures.replaced i) c.args.spot ++ budget_line (g.N.Exact.value c.args.limit)),
   );
 }

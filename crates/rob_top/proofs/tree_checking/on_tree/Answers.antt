@@ -8,16 +8,12 @@ use Rattle.rob_top.proofs.tree_checking.on_tree.Goals as goal
 pub judged-requires-clause-named : goal.judged-requires-clause-named
 judged-requires-clause-named g c =
     verdict_named g.N.Exact.limit (robust g.N.Exact.value c.args.model.now) c.args.numbers.now
-    (tree_of g.N.Exact.value c.args.tree.now)
-    c.requires.shape (kept_bounds (robust g.N.Exact.value c.args.model.now) c.args.numbers.now c.requires.rule)
-    c.check_tree-verdict.result
-    c.check_tree-verdict.ensures.verdict
+    (tree_of g.N.Exact.value c.args.tree.now) c.requires.shape
+    (kept_bounds (robust g.N.Exact.value c.args.model.now) c.args.numbers.now c.requires.rule)
+    c.check_tree-verdict.result c.check_tree-verdict.ensures.verdict
 
 pub returns-clause-answers : goal.returns-clause-answers
 returns-clause-answers g c =
-    verdict_answers g.N.Exact.limit (robust g.N.Exact.value c.args.model.now) c.args.numbers.now
-    (tree_of g.N.Exact.value c.args.tree.now)
-    (g.L.Ledger.wides c.args.ledger.now) (g.L.Ledger.wides c.check_tree-verdict.new.ledger)
-    c.check_tree-verdict.result c.judged.result
-    c.check_tree-verdict.ensures.verdict c.check_tree-verdict.ensures.true_of
+    verdict_answers _ _ c.args.numbers.now (tree_of g.N.Exact.value c.args.tree.now) _ _ c.check_tree-verdict.result
+    c.judged.result c.check_tree-verdict.ensures.verdict c.check_tree-verdict.ensures.true_of
     c.check_tree-verdict.ensures.counted.refused c.judged.ensures.verdict

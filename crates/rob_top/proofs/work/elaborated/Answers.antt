@@ -9,14 +9,10 @@ not_elaborated-requires-clause-named g c =
 
 pub returns-in-Ok-clause-answers : goal.returns-in-Ok-clause-answers
 returns-in-Ok-clause-answers g c =
-    whole_answers g.N.Exact.limit (robust g.N.Exact.value c.args.model.now) (g.L.Ledger.wides c.args.ledger.now)
-    (g.L.Ledger.wides c.written.new.ledger) (g.L.Ledger.wides c.on_forms.new.ledger) (line_of c.args.line.now)
-    c.args.texts.now
-    c.on_forms.result c.written.ensures.counted.wides c.in-Ok.ensures.written c.on_forms.ensures.answers
+    whole_answers _ _ _ _ _ (line_of c.args.line.now) c.args.texts.now c.on_forms.result c.written.ensures.counted.wides
+    c.in-Ok.ensures.written c.on_forms.ensures.answers
 
 pub returns-in-Err-clause-answers : goal.returns-in-Err-clause-answers
 returns-in-Err-clause-answers g c =
-    refused_answers g.N.Exact.limit (robust g.N.Exact.value c.args.model.now) (g.L.Ledger.wides c.args.ledger.now)
-    (g.L.Ledger.wides c.written.new.ledger) (line_of c.args.line.now) c.args.texts.now c.in-Err.error
-    c.not_elaborated.result
+    refused_answers _ _ _ _ (line_of c.args.line.now) c.args.texts.now c.in-Err.error c.not_elaborated.result
     c.requires.elaborates c.in-Err.ensures.cause c.in-Err.ensures.rose c.not_elaborated.ensures.refused

@@ -9,15 +9,11 @@ read_model-requires g c = omega (arith, ap length c.as_slice.ensures.value, c.re
 
 pub returns-in-Ok-clause-answers : goal.returns-in-Ok-clause-answers
 returns-in-Ok-clause-answers g c =
-    model_answers g.N.Exact.limit (g.L.Ledger.wides c.args.ledger.now) (g.L.Ledger.wides c.read_model.new.ledger)
-    (g.L.Ledger.wides c.on_model.new.ledger) (line_of c.args.line.now) c.args.texts.now
-    c.as_slice.result.now (robust g.N.Exact.value c.in-Ok.model) c.on_model.result c.requires.on_model
-    c.as_slice.ensures.value c.in-Ok.ensures.read (sym c.read_model.ensures.counted.wides)
-    c.on_model.ensures.answers
+    model_answers g.N.Exact.limit _ _ _ (line_of c.args.line.now) c.args.texts.now _
+    (robust g.N.Exact.value c.in-Ok.model) c.on_model.result c.requires.on_model c.as_slice.ensures.value
+    c.in-Ok.ensures.read (sym c.read_model.ensures.counted.wides) c.on_model.ensures.answers
 
 pub returns-in-Err-clause-answers : goal.returns-in-Err-clause-answers
 returns-in-Err-clause-answers g c =
-    unread_answers g.N.Exact.limit _ (line_of c.args.line.now) c.args.texts.now c.as_slice.result.now
-    c.in-Err.error c.not_read.result
-    c.requires.on_model c.as_slice.ensures.value
-    c.in-Err.ensures.cause c.not_read.ensures.unread
+    unread_answers g.N.Exact.limit _ (line_of c.args.line.now) c.args.texts.now _ c.in-Err.error c.not_read.result
+    c.requires.on_model c.as_slice.ensures.value c.in-Err.ensures.cause c.not_read.ensures.unread
