@@ -13,8 +13,7 @@ returns-then-k-adaptives g c = record {
 }
 
 pub returns-else-k-adaptives : goal.returns-else-k-adaptives
-returns-else-k-adaptives g c =
-    record {
-      name = name_past (adaptive_of g.N.Exact.value) (λ (x : AdaptiveVariable). x.name) c.args.adaptives.now
-          c.args.k c.if-k-adaptives.false;
-    }
+returns-else-k-adaptives g c = record {
+  name = name_past (adaptive_of g.N.Exact.value) (λ (x : AdaptiveVariable). x.name) c.args.adaptives.now c.args.k
+      c.if-k-adaptives.false;
+}

@@ -13,8 +13,7 @@ returns-then-k-params g c = record {
 }
 
 pub returns-else-k-params : goal.returns-else-k-params
-returns-else-k-params g c =
-    record {
-      name = name_past (parameter_of g.N.Exact.value) (λ (x : Parameter). x.name) c.args.params.now
-          c.args.k c.if-k-params.false;
-    }
+returns-else-k-params g c = record {
+  name = name_past (parameter_of g.N.Exact.value) (λ (x : Parameter). x.name) c.args.params.now c.args.k
+      c.if-k-params.false;
+}

@@ -13,8 +13,6 @@ returns-then-k-vars g c = record {
 }
 
 pub returns-else-k-vars : goal.returns-else-k-vars
-returns-else-k-vars g c =
-    record {
-      name = name_past (variable_of g.N.Exact.value) (λ (x : Variable). x.name) c.args.vars.now
-          c.args.k c.if-k-vars.false;
-    }
+returns-else-k-vars g c = record {
+  name = name_past (variable_of g.N.Exact.value) (λ (x : Variable). x.name) c.args.vars.now c.args.k c.if-k-vars.false;
+}
