@@ -12,10 +12,8 @@ changed-requires-clause-inside g c =
 
 pub returns-clause-valid : goal.returns-clause-valid
 returns-clause-valid g c =
-    let value = g.N.Exact.value in
     let b = branch_of c.args.branch in
-    valid_behind value c.args.model.now c.in_ok-copy.copy c.in_ok-copy-2.field-0 b c.in_ok-copy.ensures.equal
+    valid_behind g.N.Exact.value c.args.model.now _ _ b c.in_ok-copy.ensures.equal
     (c.in_ok-copy-2.ensures.changed
-    ∙ ap (λ vars. change_at (tightened b.is_upper b.bound) b.variable (map (variable_of value) vars))
-    c.items.ensures.list)
-    c.requires.bounded c.requires.valid
+    ∙ ap (λ vars. change_at (tightened b.is_upper b.bound) b.variable (map (variable_of g.N.Exact.value) vars))
+    c.items.ensures.list) c.requires.bounded c.requires.valid
