@@ -1,6 +1,5 @@
-use Rattle.std.proofs.Common.{rules}
+use Rattle.std.proofs.Common.{rules, SFits}
 use mir.Syntax.{w128}
-use mir.Val.{SFits}
 use Rattle.rob_deep.proofs.NarrowEntries.{narrow_fits, narrow_read}
 use Rattle.rob_deep.proofs.narrow.fused.Goals as goal
 
@@ -15,6 +14,6 @@ returns c =
     let fp : SFits w128 c.args.factors.p = search rules in
     let fq : SFits w128 c.args.factors.q = search rules in
     record {
-      value = narrow_read c.args.factors.p c.args.a c.args.factors.q c.args.b fp c.ranges.a fq
-          c.ranges.b c.requires.narrow;
+      value = narrow_read c.args.factors.p c.args.a c.args.factors.q c.args.b fp c.ranges.a fq c.ranges.b
+          c.requires.narrow;
     }
