@@ -1,6 +1,4 @@
-use Rattle.std.proofs.Common.{◌≡◌, ℕ, false, length, refl, sym, ap, ◌∙◌}
-use Rattle.std.specs.Prelude.{Vec, replicate}
-use Rattle.std.specs.declared.alloc.Global.{Global}
+use Rattle.std.proofs.Common.{◌≡◌, ℕ, false, length, refl, sym, ap, ◌∙◌, Vec, replicate, Global}
 use Rattle.std.proofs.lemmas.List.{length-map}
 use Rattle.rob_syntax.specs.Symbols.{words_of}
 use Rattle.rob_rules.specs.Scopes.{start}
