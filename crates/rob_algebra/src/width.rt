@@ -1,6 +1,6 @@
 //! Which numbers fit a width.
 
-ghost use Rattle.std.specs.Prelude.{◌≡◌, ◌≤◌, ◌⊎◌, ◌↔◌, ℕ, ℤ, nat_abs, Some, None};
+ghost use Rattle.std.specs.Prelude.{◌≡◌, ◌≤◌, ◌⊎◌, ◌↔◌, ℕ, ℤ, Some, None};
 ghost use Rattle.std.specs.Bool.{Decides};
 ghost use Rattle.rob_algebra.specs.Fraction.{Fraction, of_int};
 ghost use Rattle.rob_algebra.specs.Width.{Fits, IsWide, is_wide, kept, IsWideWhole};

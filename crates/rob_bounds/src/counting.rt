@@ -1,6 +1,6 @@
 //! Counting. The pigeonhole principle; Siegel's lemma (Hindry, Silverman, lemma D.4.1).
 
-ghost use Rattle.std.specs.Prelude.{◌≡◌, ℕ, suc, ◌*◌, ◌^◌, ◌<◌, ◌≤◌};
+ghost use Rattle.std.specs.Prelude.{ℕ, suc, ◌*◌, ◌^◌, ◌<◌, ◌≤◌};
 ghost use Rattle.std.specs.Int.RustNames.{unsigned_abs};
 ghost use Rattle.rob_linear.specs.Vectors.{Matrix};
 ghost use Rattle.rob_bounds.specs.Bounds.{TakesTwice, HasSmallSolution};

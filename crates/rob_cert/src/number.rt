@@ -1,7 +1,7 @@
 //! Numbers as they are spelled in a text.
 
 ghost use Rattle.std.specs.Fmt.{decimal, signed_decimal};
-ghost use Rattle.std.specs.Prelude.{◌≡◌, ◌-◌, ◌^◌, ◌<◌, ◌++◌, ◌∷◌, ◌<ℤ◌, ◌↔◌, ℕ, ℤ, List, Some, codes, pos, nat_abs, IfSome, IsTrue, MatchOption, if◌then◌else◌, ◌==◌, []};
+ghost use Rattle.std.specs.Prelude.{◌≡◌, ◌-◌, ◌^◌, ◌<◌, ◌++◌, ◌<ℤ◌, ◌↔◌, ℕ, ℤ, List, Some, codes, pos, nat_abs, IfSome, IsTrue, MatchOption, if◌then◌else◌, ◌==◌, []};
 ghost use Rattle.rob_number.specs.Counts.{NeverFell};
 ghost use Rattle.rob_algebra.specs.Fraction.{Fraction};
 ghost use Rattle.rob_algebra.specs.Width.{Fits};

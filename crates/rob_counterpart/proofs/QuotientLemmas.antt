@@ -10,7 +10,7 @@ use Rattle.rob_algebra.specs.FractionLaws as Q
 use Rattle.rob_algebra.specs.FractionOrderLaws.{le_of_lt_ℚ, mul_nonneg_ℚ, mul_pos_ℚ, le_one, int_nonneg, mul_mono_lt_ℚ}
 use Rattle.rob_algebra.specs.FractionLaws.{ℚ_ring, of_int-add, of_int-mul}
 use Rattle.rob_algebra.specs.RingSolver as Solver
-use Rattle.rob_algebra.specs.Polynomials.{lit, minus, ◌:+◌, ◌:-◌, ◌:*◌, v0, v1, v2, v3, v4, v5}
+use Rattle.rob_algebra.specs.Polynomials.{lit, minus, ◌:+◌, ◌:*◌, v0, v1, v2, v3, v4, v5}
 use Rattle.rob_meaning.specs.Places.{0ℚ, 1ℚ}
 use Rattle.rob_meaning.proofs.AbsoluteLemmas.{pos_some, inv_pos}
 

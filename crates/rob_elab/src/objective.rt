@@ -1,6 +1,6 @@
 //! The objective's form: the epigraph of the objective, with `tau` for its bound.
 
-ghost use Rattle.std.specs.Prelude.{◌≡◌, ◌<◌, ◌∷◌, [], length};
+ghost use Rattle.std.specs.Prelude.{◌<◌, ◌∷◌, [], length};
 ghost use Rattle.rob_number.specs.Counts.{NeverFell};
 ghost use Rattle.rob_meaning.specs.Forms.{objective_form, tau_column};
 ghost use Rattle.rob_model.specs.Valid.{IsValid};

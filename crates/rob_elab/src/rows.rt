@@ -1,6 +1,6 @@
 //! The forms of rows: differences of two sides.
 
-ghost use Rattle.std.specs.Prelude.{◌≡◌, ◌<◌, ◌+◌, ◌∷◌, [], length};
+ghost use Rattle.std.specs.Prelude.{◌<◌, ◌+◌, ◌∷◌, [], length};
 ghost use Rattle.rob_number.specs.Counts.{NeverFell};
 ghost use Rattle.rob_meaning.specs.Forms.{difference, row_forms, sides};
 ghost use Rattle.rob_meaning.specs.WellFormed.{IsExpression};

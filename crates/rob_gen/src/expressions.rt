@@ -1,6 +1,6 @@
 //! The model's expressions: orders, demands, stock and cost.
 
-ghost use Rattle.std.specs.Prelude.{◌≡◌, ◌≤◌, ◌<◌, ◌^◌, ◌-◌, suc, ◌++◌, map, IfOk, OnOk};
+ghost use Rattle.std.specs.Prelude.{◌≡◌, ◌<◌, ◌-◌, suc, ◌++◌, map, IfOk, OnOk};
 ghost use Rattle.rob_meaning.specs.Expressions.{parameter};
 ghost use Rattle.rob_meaning.specs.Places.{tabulate};
 ghost use Rattle.rob_model.specs.View.{expression_of, signed_of};

@@ -1,6 +1,6 @@
 //! Small whole numbers, the centres of demands, numbered names and lists of places.
 
-ghost use Rattle.std.specs.Prelude.{◌≡◌, ◌≤◌, ◌<◌, ◌^◌, ◌+◌, ◌++◌, IfOk};
+ghost use Rattle.std.specs.Prelude.{◌≡◌, ◌≤◌, ◌<◌, ◌+◌, IfOk};
 ghost use Rattle.rob_number.specs.Counts.{CountsOnly};
 ghost use Rattle.rob_meaning.specs.Places.{tabulate};
 ghost use Rattle.rob_gen.specs.Generated as defined;

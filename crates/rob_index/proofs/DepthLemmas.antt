@@ -6,7 +6,7 @@ use Rattle.rob_index.specs.Symbols.{sign}
 use Rattle.rob_index.specs.Symbols as is
 use Rattle.rob_index.specs.Statements.{Name, Numeral, Plain, Factors}
 use Rattle.rob_index.specs.Statements as stated
-use Rattle.rob_index.specs.Grammar.{Factor, Term, Terms, Expr, number, ref, parens, sum, no_factors, times, term, no_terms, signed, expr, tree_factor, tree_factors, tree_term, tree_terms, tree_expr, spell_number, spell_minus, spell_factor, spell_factors, spell_term, spell_terms, spell_expr}
+use Rattle.rob_index.specs.Grammar.{Factor, Term, Terms, Expr, number, ref, parens, sum, no_factors, times, term, no_terms, signed, expr, tree_factor, tree_factors, tree_term, tree_terms, tree_expr, spell_number, spell_factor, spell_factors, spell_term, spell_terms, spell_expr}
 use Rattle.rob_index.specs.Grammar as spelled
 use Rattle.rob_index.specs.Expansion.{added, summed, expand_tree, expand_parts, expand_factors, IsPlain, ArePlainParts, ArePlainFactors}
 use Rattle.rob_index.specs.Counting.{is_sum, is_compound, divided, fits, number_tokens, parens as parens_tokens, plain_tokens, parts_tokens, factors_tokens}

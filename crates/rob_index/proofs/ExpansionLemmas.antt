@@ -4,7 +4,7 @@ use Rattle.std.proofs.Common.{◌≡◌, ℕ, zero, suc, ◌<◌, false, List, [
 use Rattle.std.specs.Prelude.{ℤ, pos, ◌+ℤ◌, ◌-ℤ◌, ◌<ℤ◌}
 use Rattle.std.specs.List.{flat_map}
 use Rattle.std.proofs.lemmas.Int.{ints}
-use Rattle.rob_index.specs.Statements.{Name, Plain, Parts, Factors, Ref, Index, Range, Tree, TreeParts, TreeFactors, Indexed}
+use Rattle.rob_index.specs.Statements.{Name, Plain, Parts, Factors, Ref, Index, Range, Tree, TreeParts, TreeFactors}
 use Rattle.rob_index.specs.Statements as stated
 use Rattle.rob_index.specs.Expansion.{ref_name, index_text, added, summed, expand_tree, expand_parts, expand_factors, Expands, ExpandsParts, ExpandsFactors, ExpandsEach, number, ref, sum, product, over_none, over_one, over_more, no_parts, part, no_factors, factor, no_settings, next_setting, IsPlain, ArePlainParts, ArePlainFactors, HasNoIndex, itself, itself_parts, itself_factors}
 use Rattle.rob_index.specs.Settings.{Setting, index_value, natural, upwards, values, with_value, settings}

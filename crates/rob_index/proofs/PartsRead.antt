@@ -1,7 +1,7 @@
 -- What each part of a line is spelled as, its reader finds, where the symbols behind it don't go on it.
 use Rattle.std.proofs.Common.{◌≡◌, ℕ, zero, suc, ◌+◌, ◌≤◌, Bool, true, false, List, [], ◌∷◌, ◌++◌, length, Option, Some, None, refl, sym, ap, ◌∙◌, subst, arith, append_assoc, append-nil}
 use Rattle.std.specs.Prelude.{if◌then◌else◌}
-use Rattle.rob_index.specs.Symbols.{Symbol, Mark, name, sign, word}
+use Rattle.rob_index.specs.Symbols.{Symbol, name, sign, word}
 use Rattle.rob_index.specs.Symbols as is
 use Rattle.rob_index.specs.Statements.{Numeral, Signed, Bounds, Atom, Step, Index, Ref, Range}
 use Rattle.rob_index.specs.Statements as stated

@@ -1,7 +1,7 @@
 //! The rows of a basis. Chvatal, chapter 2 (dictionaries) and chapter 7 (the rows by the columns of
 //! a basis).
 
-ghost use Rattle.std.specs.Prelude.{◌≡◌, ◌≢◌, ℕ, ◌<◌, ◌≤◌, ℤ, pos, ◌*ℤ◌, List, length};
+ghost use Rattle.std.specs.Prelude.{◌≡◌, ◌≢◌, ℕ, ◌≤◌, ℤ, pos, ◌*ℤ◌, List, length};
 ghost use Rattle.rob_algebra.specs.Fraction.{Fraction};
 ghost use Rattle.rob_linear.specs.Vectors.{at, Columns, Matrix, Vector};
 ghost use Rattle.rob_linear.specs.Systems.{System, IsTagged, right, LiesAlong, IsBasis, Meets, Solves, Point, Move};

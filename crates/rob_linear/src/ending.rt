@@ -1,6 +1,6 @@
 //! How the simplex method ends, and what each ending says of the program. Chvatal, chapter 3.
 
-ghost use Rattle.std.specs.Prelude.{◌≡◌, ℕ, ◌+◌, ◌<◌, ℤ, pos, ◌*ℤ◌, ◌<ℤ◌};
+ghost use Rattle.std.specs.Prelude.{◌≡◌, ℕ, ◌+◌, ◌<◌, ℤ, pos, ◌<ℤ◌};
 ghost use Rattle.rob_algebra.specs.Fraction.{Fraction};
 ghost use Rattle.rob_linear.specs.Vectors.{Columns, Matrix, Vector};
 ghost use Rattle.rob_linear.specs.Systems.{System, IsBasis, IsSolution, Feasible, Point, Move, EndsOptimal, EndsUnbounded, IsPrimitive};

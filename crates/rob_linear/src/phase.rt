@@ -1,6 +1,6 @@
 //! The start of the path, and the two phases. Chvatal, chapter 3 (the auxiliary problem).
 
-ghost use Rattle.std.specs.Prelude.{ℕ, zero, suc, ◌+◌, ◌<◌};
+ghost use Rattle.std.specs.Prelude.{ℕ, zero, suc, ◌+◌};
 ghost use Rattle.rob_linear.specs.Vectors.{Columns, Matrix, Vector};
 ghost use Rattle.rob_linear.specs.Systems.{right, RowOf, IsBasis, IsNonnegative, IsCombined, EndsUnbounded};
 ghost use Rattle.rob_linear.specs.Programs.{Program, starting_row, system_of, auxiliary_of, without_auxiliary, kept_row, kept_of, EndsInfeasible};

@@ -1,7 +1,7 @@
 //! The names of forms, decision columns, set rows, set places and parameters: how many there are, the number of a name,
 //! and the name of a number.
 
-ghost use Rattle.std.specs.Prelude.{◌≡◌, ◌<◌, ◌≤◌, length, OnOk, OnErr};
+ghost use Rattle.std.specs.Prelude.{◌≡◌, ◌<◌, length, OnOk, OnErr};
 ghost use Rattle.rob_meaning.specs.Named.{IsNamed};
 ghost use Rattle.rob_meaning.specs.Names.{form_names, column_names, set_row_names};
 ghost use Rattle.rob_model.specs.NameGroups.{names};

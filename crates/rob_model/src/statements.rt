@@ -1,6 +1,6 @@
 //! The statements on the uncertainty set as set conditions, each taken some number of times.
 
-ghost use Rattle.std.specs.Prelude.{◌≡◌, ◌≢◌, ◌≤◌, ◌+◌, length, map};
+ghost use Rattle.std.specs.Prelude.{◌≡◌, ◌≤◌, ◌+◌, length, map};
 ghost use Rattle.std.specs.Result.{result_ok};
 ghost use Rattle.rob_algebra.specs.Fraction.{◌<ℚ◌};
 ghost use Rattle.rob_number.specs.Answer.{answer};

@@ -1,5 +1,5 @@
 -- The counts of a ledger, call after call.
-use Rattle.std.proofs.Common.{◌≡◌, ℕ, ◌+◌, ◌-◌, ◌^◌, ◌≤◌, min, max, Bool, true, false, ◌∙◌, refl, arith}
+use Rattle.std.proofs.Common.{ℕ, ◌+◌, ◌-◌, ◌^◌, ◌≤◌, min, max, Bool, true, false, ◌∙◌, refl, arith}
 use Rattle.rob_number.specs.Counts.{CountsOnly, NeverFell, Rose, RoseIf}
 
 -- what never fell in one call and in the next one, never fell in both

@@ -2,7 +2,7 @@
 //!     a/b + c/d = (ad + cb) / bd,   a/b * c/d = ac / bd,   a/b < c/d where ad < cb
 //! Numerators and denominators have at most 62 bits, so every product and sum here has less than 126.
 
-ghost use Rattle.std.specs.Prelude.{◌≡◌, ◌≢◌, ◌+◌, ◌*◌, ◌/◌, ◌^◌, ◌<◌, ◌≤◌, ◌+ℤ◌, ◌*ℤ◌, ◌<ℤ◌, ◌≤ℤ◌, ◌↔◌, IsTrue, ℤ, pos, nat_abs};
+ghost use Rattle.std.specs.Prelude.{◌≡◌, ◌≢◌, ◌+◌, ◌*◌, ◌/◌, ◌^◌, ◌<◌, ◌≤◌, ◌+ℤ◌, ◌*ℤ◌, ◌<ℤ◌, ◌≤ℤ◌, ℤ, pos, nat_abs};
 ghost use Rattle.rob_algebra.specs.Gcd.{gcd};
 ghost use Rattle.rob_algebra.specs.Fraction.{of_pair, of_int, ◌+ℚ◌, ◌*ℚ◌, neg_ℚ, inv_ℚ, sign_of};
 ghost use Rattle.rob_algebra.specs.Width.{kept};

@@ -1,6 +1,6 @@
 //! The rounds of the cutting-plane method, as they are printed.
 
-ghost use Rattle.std.specs.Prelude.{◌≡◌, ◌<◌, ◌+◌, ◌^◌, ◌++◌, map, All, OnOk};
+ghost use Rattle.std.specs.Prelude.{◌≡◌, ◌<◌, ◌+◌, ◌++◌, map, All, OnOk};
 ghost use Rattle.rob_model.specs.Valid.{IsValid};
 ghost use Rattle.rob_model.specs.View.{parameter_of, robust};
 ghost use Rattle.rob_report.specs.Rounds.{IsRoundOf, column_words, cut_words, entries_words, entry_words, kind_words, master_words, round_line, round_words, rounds_text, via_words};

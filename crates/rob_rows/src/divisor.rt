@@ -5,7 +5,7 @@
 //! Multiplication, 1994, section 9.) The product is taken as a guess that one more product confirms, so nothing rests
 //! on the inverse; where the guess is wrong the division is done.
 
-ghost use Rattle.std.specs.Prelude.{◌≡◌, ◌+◌, ◌*◌, ◌^◌, ◌<◌, ◌≤◌, ◌↔◌, IsTrue, IfSome};
+ghost use Rattle.std.specs.Prelude.{◌≡◌, ◌*◌, ◌^◌, ◌<◌, ◌↔◌, IsTrue, IfSome};
 ghost use Rattle.std.specs.Int.{◌∣◌};
 ghost use Rattle.rob_algebra.specs.Gcd.{gcd};
 

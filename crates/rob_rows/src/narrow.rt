@@ -1,6 +1,6 @@
 //! Combinations of two rows whose entries fit in 64 bits, as the sizes of the factors and of the entries show.
 
-ghost use Rattle.std.specs.Prelude.{◌≡◌, ◌+◌, ◌*◌, ◌^◌, ◌<◌, ◌≤◌, ◌*ℤ◌, nat_abs, length, IfSome, IfNone};
+ghost use Rattle.std.specs.Prelude.{◌≡◌, ◌+◌, ◌*◌, ◌^◌, ◌<◌, ◌≤◌, nat_abs, length, IfSome, IfNone};
 ghost use Rattle.std.specs.Bool.{OnTrue};
 ghost use Rattle.rob_rows.specs.PrimitiveParts.{combination};
 ghost use Rattle.rob_rows.specs.Factors.{IsNarrow};

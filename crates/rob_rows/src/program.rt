@@ -1,6 +1,6 @@
 //! Linear programs as data.
 
-ghost use Rattle.std.specs.Prelude.{◌≤◌, ◌^◌, ◌↔◌, IsTrue};
+ghost use Rattle.std.specs.Prelude.{◌↔◌, IsTrue};
 ghost use Rattle.rob_rows.specs.LinearPrograms.{IsShaped, HasNumbersWithin};
 
 use crate::sizes::is_within;

@@ -1,6 +1,6 @@
 //! A row over the greatest common divisor of its entries, in place.
 
-ghost use Rattle.std.specs.Prelude.{◌≡◌, ◌+◌, ◌/◌, ◌^◌, ◌<◌, ◌≤◌, ◌*ℤ◌, pos, nat_abs, IfOk, OnOk, OnErr};
+ghost use Rattle.std.specs.Prelude.{◌≡◌, ◌/◌, ◌^◌, ◌<◌, ◌≤◌, ◌*ℤ◌, pos, nat_abs, IfOk, OnOk, OnErr};
 ghost use Rattle.std.specs.Int.{◌∣◌};
 ghost use Rattle.rob_rows.specs.PrimitiveParts.{content, IsPrimitivePart, IsWithin, HasWidePart};
 

@@ -1,6 +1,6 @@
 -- How many ranges stand beside each other, as it is tested.
 use Rattle.std.proofs.Common.{◌≡◌, Bool, true, false, List, [], ◌∷◌, length, refl, sym, ◌∙◌}
-use Rattle.std.specs.Prelude.{◌&&◌, MatchBool}
+use Rattle.std.specs.Prelude.{MatchBool}
 use Rattle.std.proofs.lemmas.Bool.{leb-true, le-leb}
 use Rattle.rob_index.specs.Statements.{Range, Ranged, Indexed}
 use Rattle.rob_index.specs.Statements as stated

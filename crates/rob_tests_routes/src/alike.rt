@@ -1,6 +1,5 @@
 //! One model with the plain number type and with the quick one: what `solve` and `prove` print of it is the same.
 
-ghost use Rattle.std.specs.Prelude.{◌≡◌};
 ghost use Rattle.rob_cert.specs.Shape.{HasShape};
 ghost use Rattle.rob_cert.specs.View.{certificate_of};
 ghost use Rattle.rob_model.specs.Valid.{IsValid};

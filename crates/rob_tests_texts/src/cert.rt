@@ -1,6 +1,5 @@
 //! Certificates of a model, read and written, and texts that are none.
 
-ghost use Rattle.std.specs.Prelude.{◌^◌, ◌≤◌};
 ghost use Rattle.rob_cert.specs.Shape.{HasShape};
 ghost use Rattle.rob_cert.specs.View.{certificate_of};
 ghost use Rattle.rob_meaning.specs.Named.{IsNamed};

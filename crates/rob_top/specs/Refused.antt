@@ -1,6 +1,6 @@
 -- Refusals: words that are no command line, a file that doesn't come, a number that is wide, and a text that breaks a
 -- rule.
-use Rattle.std.specs.Prelude.{◌≡◌, ◌++◌, ℕ, List, [], Err}
+use Rattle.std.specs.Prelude.{◌≡◌, ℕ, List, [], Err}
 use Rattle.rob_cert.specs.declared.trace.Round.{Round}
 use Rattle.rob_check.specs.Conditions.{verdict_of}
 use Rattle.rob_check.specs.declared.verdict.Verdict.TheVariants as verdict

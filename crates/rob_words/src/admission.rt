@@ -1,6 +1,6 @@
 //! Words that no command line has at any place.
 
-ghost use Rattle.std.specs.Prelude.{◌≡◌, ◌↔◌, IsTrue, map, string_bytes};
+ghost use Rattle.std.specs.Prelude.{◌↔◌, IsTrue, map, string_bytes};
 ghost use Rattle.rob_words.specs.Texts.{AreAdmitted, IsAdmitted, IsLong};
 
 /// Whether each word may stand at some place.

@@ -1,7 +1,7 @@
 -- Calls of `solve` by cutting planes, worked by hand: what their words and
 -- files say, and so how the one on the smallest model must end.
 use Rattle.std.proofs.Common.{refl, inl, inr}
-use Rattle.std.specs.Prelude.{[], ◌∷◌, ◌++◌, codes}
+use Rattle.std.specs.Prelude.{[], ◌∷◌, codes}
 use Rattle.rob_dualize.proofs.NarrowModels.{one_demand_admitted, one_demand_costs_12}
 use Rattle.rob_dualize.specs.SmallestModel.{one_demand}
 use Rattle.rob_meaning.proofs.WorkedNotation.{int}

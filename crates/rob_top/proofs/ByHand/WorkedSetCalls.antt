@@ -2,7 +2,7 @@
 use Rattle.std.proofs.Common.{arith, refl, inl, inr}
 use Rattle.std.proofs.lemmas.Bool.{leb-true}
 use Rattle.std.specs.Fmt.{digits}
-use Rattle.std.specs.Prelude.{◌≡◌, ℕ, zero, suc, true, List, [], ◌∷◌, ◌++◌, Option, Some, None, codes}
+use Rattle.std.specs.Prelude.{◌≡◌, ℕ, zero, suc, true, List, [], ◌∷◌, Option, Some, None, codes}
 use Rattle.rob_algebra.specs.Fraction.{ratio}
 use Rattle.rob_algebra.specs.Width.{IsWide}
 use Rattle.rob_meaning.proofs.WorkedNotation.{◌⊕◌, ◌⊖◌, int, cover, item, best}

@@ -40,7 +40,6 @@ use Rattle.rob_top.specs.declared.ended.Ended.{Ended}
 use Rattle.rob_top.specs.declared.ended.Ended.TheVariants.{Cert, EmptySet, NoRow, Printed, ReadFault, TooWide, Memory}
 use Rattle.rob_words.specs.Commands.{Line}
 use Rattle.rob_words.specs.Values.{Word}
-use Rattle.rob_words.specs.declared.verb.Own.TheVariants as own
 use Rattle.rob_words.specs.declared.verb.Verb.TheVariants.{Worst}
 use Rattle.rob_words.specs.declared.verb.Verb.TheVariants as verbs
 

@@ -1,6 +1,5 @@
 -- The answers of `cells` and `celltext`, from what the words tell and what the work on the split model answers.
-use Rattle.std.proofs.Common.{◌≡◌, ◌≢◌, ◌≤◌, ◌||◌, ◌⊎◌, ℕ, nat_abs, Bool, true, false, not, List, [], ◌∷◌, ◌++◌, Some, Result, Ok, Err, IfOk, inl, inr, refl, subst, sym, ap, ◌∙◌}
-use Rattle.std.specs.Prelude.{if◌then◌else◌}
+use Rattle.std.proofs.Common.{◌≡◌, ◌≢◌, ◌≤◌, ◌||◌, ◌⊎◌, ℕ, nat_abs, Bool, true, false, not, List, [], ◌++◌, Some, Result, Ok, Err, IfOk, inl, inr, refl, subst, sym, ap, ◌∙◌}
 use Rattle.std.proofs.lemmas.List.{length-map}
 use denote.Enum.Bare.{same_true, sameb}
 use Rattle.rob_algebra.specs.Fraction.{Fraction, of_int}

@@ -1,5 +1,5 @@
 -- The answers of `sweep` and `sweeptext`, from what the words tell and what the sweep answers.
-use Rattle.std.proofs.Common.{◌≡◌, ◌≤◌, ◌<◌, ◌++◌, ℕ, ◌-◌, suc, true, List, [], ◌∷◌, length, map, Some, Result, Ok, Err, IfOk, get_or, inl, inr, refl, subst, sym, ap, ◌∙◌, arith}
+use Rattle.std.proofs.Common.{◌≡◌, ◌≤◌, ◌++◌, ℕ, ◌-◌, suc, true, List, [], ◌∷◌, length, map, Some, Result, Ok, Err, IfOk, get_or, inl, inr, refl, subst, sym, ap, ◌∙◌, arith}
 use Rattle.std.proofs.lemmas.List.{length-map}
 use Rattle.rob_algebra.specs.Fraction.{Fraction}
 use Rattle.rob_algebra.specs.Width.{Fits}

@@ -1,5 +1,5 @@
 -- The answers for a model's text: of a refusal, of printed rows, and of what the work on a model answers.
-use Rattle.std.proofs.Common.{◌≡◌, ℕ, ◌≤◌, ◌^◌, ◌-◌, List, [], ◌++◌, Result, Ok, Err, IfOk, refl, subst, sym, ap, ◌∙◌, arith}
+use Rattle.std.proofs.Common.{◌≡◌, ℕ, ◌≤◌, ◌^◌, ◌-◌, List, [], Result, Ok, Err, IfOk, refl, subst, sym, ap, ◌∙◌, arith}
 use Rattle.rob_cert.specs.declared.trace.Round.{Round}
 use Rattle.rob_meaning.specs.RobustModel.{RobustModel}
 use Rattle.rob_model.specs.declared.place.Spot.{Spot}

@@ -2,7 +2,7 @@
 -- size, and a form's coefficients are, since it is a sum of leaves. The twelve models are tested one by one.
 use Rattle.std.proofs.Common.{◌≡◌, ℕ, ◌+◌, ◌<◌, ◌≤◌, Bool, true, false, refl, sym, ◌∙◌, ap, ap₂, subst, arith, inl, inr}
 use Rattle.std.proofs.lemmas.Int.{ints}
-use Rattle.std.specs.Prelude.{suc, ℤ, pos, ◌+ℤ◌, ◌*ℤ◌, ◌/◌, nat_abs, List, [], ◌∷◌, ◌++◌, length, Option, Some, None}
+use Rattle.std.specs.Prelude.{suc, ℤ, pos, ◌+ℤ◌, ◌*ℤ◌, ◌/◌, nat_abs, List, [], ◌∷◌, length, Option, Some, None}
 use Rattle.std.specs.Fmt.{digits}
 use Rattle.rob_algebra.proofs.Parts.{add-wholes, neg_parts, of_int-parts}
 use Rattle.rob_algebra.specs.Fraction.{Fraction, of_int, ratio, ◌+ℚ◌, ◌*ℚ◌}

@@ -1,6 +1,6 @@
 -- The text that `celltext` printed is read as the split model, by each later call at the same width; so what `solve`
 -- and `prove` answer of it is true of the first model over pieces.
-use Rattle.std.proofs.Common.{◌≡◌, ◌⊎◌, ◌∙◌, ◌-◌, ◌^◌, ◌<◌, ◌≤◌, ◌++◌, ℕ, suc, Bool, true, false, List, [], ◌∷◌, length, pos, inl, inr, refl, sym, ap, subst, arith}
+use Rattle.std.proofs.Common.{◌≡◌, ◌⊎◌, ◌∙◌, ◌-◌, ◌^◌, ◌<◌, ◌≤◌, ℕ, suc, Bool, true, false, List, [], ◌∷◌, length, pos, inl, inr, refl, sym, ap, subst, arith}
 use Rattle.rob_algebra.specs.Fraction.{Fraction, of_pair}
 use Rattle.rob_algebra.specs.Width.{Fits}
 use Rattle.rob_cells.specs.Rules.{KeepsRules}
