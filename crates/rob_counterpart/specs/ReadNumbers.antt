@@ -38,6 +38,21 @@ concat (xs ∷ rest) = xs ++ concat rest
 abbrev pub differences : ℕ → (ℕ → Fraction) → List Fraction
 differences n x = tabulate n (difference x)
 
+-- the certificate of an infeasible model: items alone
+abbrev pub infeasible_with : List Fraction → List Item → Certificate
+infeasible_with inside items = record {
+  status = infeasible;
+  value = 0ℚ;
+  scale = 1ℚ;
+  inside = inside;
+  plan = [];
+  step = [];
+  step_bound = 0ℚ;
+  covers = [];
+  holds = [];
+  items = items;
+}
+
 module _ (d : RobustProgram) where
   -- the cover of form i and set row r
   abbrev pub cover_at : (ℕ → Fraction) → ℕ → ℕ → Cover
@@ -82,18 +97,7 @@ module _ (d : RobustProgram) where
 
   -- of an infeasible one with Farkas weights w
   abbrev pub infeasible_from : List Fraction → (ℕ → Fraction) → Certificate
-  infeasible_from inside w = record {
-    status = infeasible;
-    value = 0ℚ;
-    scale = 1ℚ;
-    inside = inside;
-    plan = [];
-    step = [];
-    step_bound = 0ℚ;
-    covers = [];
-    holds = [];
-    items = items_to d.forms w;
-  }
+  infeasible_from inside w = infeasible_with inside (items_to d.forms w)
 
   -- of an unbounded one with point x and move r
   abbrev pub unbounded_from : List Fraction → (x r : ℕ → Fraction) → Certificate

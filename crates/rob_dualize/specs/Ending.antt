@@ -4,8 +4,8 @@ use Rattle.rob_algebra.specs.Fraction.{Fraction, of_int}
 use Rattle.rob_linear.specs.Vectors.{Vector}
 use Rattle.rob_linear.specs.Systems.{Feasible}
 use Rattle.rob_linear.specs.Programs.{Program, system_of}
-use Rattle.rob_meaning.specs.Certificates.{infeasible, Item, Certificate}
-use Rattle.rob_meaning.specs.Places.{0ℚ, 1ℚ, Each, tabulate}
+use Rattle.rob_meaning.specs.Certificates.{Certificate}
+use Rattle.rob_meaning.specs.Places.{Each, tabulate}
 use Rattle.rob_number.specs.declared.lp_kind.LpKind.{LpKind}
 use Rattle.rob_number.specs.declared.lp_kind.LpKind.TheVariants as kind
 use Rattle.rob_model.specs.declared.place.Spot.{Spot}
@@ -25,6 +25,7 @@ use Rattle.rob_cert.specs.declared.ending.Stop.TheVariants.{EmptySet, Wide, Memo
 use Rattle.rob_counterpart.specs.RobustProgram.{RobustProgram}
 use Rattle.rob_counterpart.specs.SamePrograms.{AreSame}
 use Rattle.rob_counterpart.specs.ReadNumbers.{optimal_from, infeasible_from, unbounded_from}
+pub use Rattle.rob_counterpart.specs.ReadNumbers.{infeasible_with}
 
 -- the solver was made for a program with the numbers of Q
 pub record IsMadeAs (Q : Program) (s : Solver) : Type 0 where
@@ -68,21 +69,6 @@ pub record IsStoppedAt (limit : ℕ) (Q : Program) (s : Solver) (stop : LpStop) 
 abbrev pub IsStoppedAs : {N : Type 0} → ℕ → Program → Stopped N → Type 0
 IsStoppedAs limit Q (unsolved.Wide s stop) = IsStoppedAt limit Q s stop
 IsStoppedAs limit Q unsolved.Memory = ⊤
-
--- the certificate of an infeasible model: items alone
-abbrev pub infeasible_with : List Fraction → List Item → Certificate
-infeasible_with inside items = record {
-  status = infeasible;
-  value = 0ℚ;
-  scale = 1ℚ;
-  inside = inside;
-  plan = [];
-  step = [];
-  step_bound = 0ℚ;
-  covers = [];
-  holds = [];
-  items = items;
-}
 
 -- the certificate of an ending, from the numbers that the solver tells
 abbrev pub read_from : RobustProgram → List Fraction → LpKind → Solver → Certificate
