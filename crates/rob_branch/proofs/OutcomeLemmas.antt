@@ -1,4 +1,4 @@
--- What comes of a box: whole numbers, beaten optima, and the floor of a number that isn't whole.
+-- The floor of a number that isn't whole.
 use Rattle.std.proofs.Common.{◌≡◌, ◌≢◌, ℕ, ◌*◌, ◌/◌, ◌<◌, ◌≤◌, zero, suc, refl, subst, arith}
 use Rattle.std.proofs.Math.Nat.{div-mul-le_self, mul-le-mul_left}
 use Rattle.std.specs.Prelude.{ℤ, pos, negsuc, nat_abs}

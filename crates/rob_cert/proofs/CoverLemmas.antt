@@ -50,18 +50,6 @@ one_number (x ∷ xs) (suc i) zero h l m e = absurd (distinct_head x xs i h.0 (o
 one_number (x ∷ xs) (suc i) (suc j) h l m e = ap suc (one_number xs i j h.1 (omega arith) (omega arith) e)
 
 -- ---- finding a form and a set row
-least_cases : (form i place r : ℕ) (t : Bool) → (i == form) ≡ t → form ≤ i → (if t then place else 0) ≤ r
-    → IsAtLeast form place i r
-least_cases form i place r true e l h = inr (let p : i ≡ form = grind (arith, nat_tests) in sym p, h)
-least_cases form i place r false e l h = inl (let p : i ≢ form = grind (arith, nat_tests) in omega arith)
-
-pub pair_least : (form i place r : ℕ) → form ≤ i → (if i == form then place else 0) ≤ r → IsAtLeast form place i r
-pair_least form i place r l h = least_cases form i place r (i == form) refl l h
-
-pub form_at_least : (form place i r : ℕ) → IsAtLeast form place i r → form ≤ i
-form_at_least form place i r (inl l) = omega arith
-form_at_least form place i r (inr e) = omega (arith, e.0)
-
 row_by : (form i place r : ℕ) (t : Bool) → (i == form) ≡ t → IsAtLeast form place i r → (if t then place else 0) ≤ r
 row_by form i place r true e (inl l) = let p : i ≡ form = grind (arith, nat_tests) in absurd (omega arith)
 row_by form i place r true e (inr h) = h.1

@@ -80,15 +80,6 @@ item_ranks n b (i ∷ list) e =
     both (x ∷ xs) ys h k = (h.0, both xs ys h.1 k)
 
 -- ---- a part tells its numbers
--- the place of an entry's line
-place_of : Line Fraction → ℕ
-place_of (entry_line v k q) = k
-place_of _ = 0
-
-number_of : Line Fraction → Fraction
-number_of (entry_line v k q) = q
-number_of _ = 0ℚ
-
 -- the first line of a vector's entries from place `p` on stands at `p` or behind it
 first_place : (v : Vector) (p : ℕ) (qs : List Fraction) (k : ℕ) (r : Fraction) (more : List (Line Fraction))
     → entry_lines v p qs ≡ entry_line v k r ∷ more → p ≤ k

@@ -1,6 +1,5 @@
 -- A whole certificate from its parts.
-use Rattle.std.proofs.Common.{◌≡◌, ℕ, List, [], ◌∷◌, ◌++◌, map, length, arith, ap, sym, ◌∙◌, subst, append_assoc, length-append}
-use Rattle.std.proofs.lemmas.List.{map-append}
+use Rattle.std.proofs.Common.{◌≡◌, ℕ, List, [], ◌∷◌, ◌++◌, ap, ◌∙◌, subst, append_assoc}
 use Rattle.rob_algebra.specs.Fraction.{Fraction}
 use Rattle.rob_meaning.specs.Certificates.{Status, Cover, Item, Certificate}
 use Rattle.rob_meaning.specs.Places.{0ℚ}
@@ -11,7 +10,6 @@ use Rattle.rob_cert.specs.Lines.{Line, status_line, bound_lines, entry_lines, co
 use Rattle.rob_cert.specs.Parts.{SoFar, Extends, Fails}
 use Rattle.rob_cert.specs.Spelling.{Naming, lines_text}
 use Rattle.rob_cert.specs.Whole.{vector_lines, list_lines, EndsWith, IsMoved}
-use Rattle.rob_cert.proofs.SectionLemmas.{line_of_zero}
 
 module _ (names : Naming) (limit : ℕ) (s : Status) where
   pub then_fails : (n m : ℕ) (rest : List ℕ) (line : ℕ) (more : List (Line Fraction)) (rest' : List ℕ)
@@ -64,25 +62,3 @@ whole_text names limit text rest line c moved rest' line' so vectors lists direc
     (status_line c.status
     ∷ (bound_lines c.status c.value c.scale
     ++ (entry_lines Inside 0 c.inside ++ (entry_lines Plan 0 c.plan ++ (m ++ end)))))) direction.lines
-
-module _ {N : Type 0} (value : N → Fraction) where
-  -- the last number of a direction is its bound
-  pub moved_some : (moved step : List N) (bound : N) → moved ≡ step ++ bound ∷ []
-      → IsMoved (map value moved) (map value step) (value bound)
-  moved_some moved step bound e =
-      let is = ap (map value) e ∙ map-append value step (bound ∷ []) in
-      record {
-        lines = ap (entry_lines Move 0) is;
-        size = omega (arith, ap length is, length-append (map value step) (value bound ∷ []));
-        nothing = λ none. absurd (omega (arith, ap length is, length-append (map value step) (value bound ∷ [])));
-      }
-
-  pub moved_none : (moved step : List N) (bound : N) → moved ≡ [] → step ≡ [] → value bound ≡ 0ℚ
-      → IsMoved (map value moved) (map value step) (value bound)
-  moved_none moved step bound e f z = record {
-    lines = ap (λ xs. entry_lines Move 0 (map value xs)) e
-        ∙ sym (ap (λ xs. entry_lines Move 0 (map value xs ++ value bound ∷ [])) f
-        ∙ line_of_zero Move 0 (value bound) z);
-    size = omega (arith, ap length (ap (map value) e), ap length (ap (map value) f));
-    nothing = λ none. z;
-  }

@@ -1,5 +1,5 @@
 -- Texts that grow piece by piece: what is written so far, with the text of the rest, is the whole.
-use Rattle.std.proofs.Common.{◌≡◌, ℕ, zero, suc, ◌+◌, ◌<◌, ◌≤◌, List, [], ◌∷◌, ◌++◌, map, length, get_or, drop, arith, refl, ap, sym, ◌∙◌, add-one, append_assoc, add-zero, Bool, true, false, subst, append-nil}
+use Rattle.std.proofs.Common.{◌≡◌, ℕ, zero, suc, ◌+◌, ◌<◌, List, [], ◌∷◌, ◌++◌, map, length, get_or, drop, arith, refl, ap, sym, ◌∙◌, add-one, append_assoc, add-zero, Bool, true, false, subst, append-nil}
 use Rattle.std.proofs.lemmas.List.{length-map}
 use Rattle.std.specs.Prelude.{if◌then◌else◌}
 use Rattle.rob_algebra.specs.Fraction.{Fraction}
@@ -7,7 +7,7 @@ use Rattle.rob_algebra.specs.FractionOrder.{eq_ℚ}
 pub use Rattle.rob_number.proofs.AnswerLaws.{on_ok}
 use Rattle.rob_meaning.specs.Certificates.{Cover, Item}
 use Rattle.rob_meaning.specs.Places.{0ℚ, Each}
-use Rattle.rob_model.proofs.PartLemmas.{drop_at, drop_past}
+use Rattle.rob_model.proofs.PartLemmas.{drop_at}
 use Rattle.rob_cert.specs.declared.kind.Multipliers.{Multipliers}
 use Rattle.rob_cert.specs.declared.kind.Vector.{Vector}
 use Rattle.rob_cert.specs.declared.kind.Vector.TheVariants.{At}
@@ -32,12 +32,6 @@ module _ {X : Type 0} (text : ℕ → List X → List ℕ)
       ∙ ap (λ t. old ++ t) (ap (λ n. text p (x ∷ []) ++ text n (drop (i + 1) xs)) (add-one p)
       ∙ sym (cons p x (drop (i + 1) xs)) ∙ ap (text p) (sym (drop_at xs i x h e)))
       ∙ before
-
-  -- no item is left
-  pub text_done : (p : ℕ) (xs : List X) (i : ℕ) (old total : List ℕ) → text p [] ≡ [] → length xs ≤ i
-      → old ++ text p (drop i xs) ≡ total → old ≡ total
-  text_done p xs i old total none h before =
-      sym (append-nil old) ∙ ap (λ t. old ++ t) (sym none ∙ ap (text p) (sym (drop_past xs i h))) ∙ before
 
 -- a piece, and a piece behind it
 pub behind : (old mid new a b : List ℕ) → mid ≡ old ++ a → new ≡ mid ++ b → new ≡ old ++ (a ++ b)
@@ -94,12 +88,6 @@ module _ (names : Naming) {N : Type 0} (value : N → Fraction) where
   abbrev pub entries_text : Vector → ℕ → List N → List ℕ
   entries_text v p xs = lines_text names (entry_lines v p (map value xs))
 
-  pub entries_text-cons : (v : Vector) (p : ℕ) (x : N) (xs : List N)
-      → entries_text v p (x ∷ xs) ≡ entries_text v p (x ∷ []) ++ entries_text v (suc p) xs
-  entries_text-cons v p x xs =
-      ap (lines_text names) (entry_lines-cons v p (value x) (map value xs))
-      ∙ lines_text-append names (entry_lines v p (value x ∷ [])) (entry_lines v (suc p) (map value xs))
-
   -- the numbers of a list, and one more behind them
   pub entries_text-push : (v : Vector) (xs : List N) (x : N)
       → lines_text names (entry_lines v 0 (map value xs ++ value x ∷ []))
@@ -115,11 +103,6 @@ module _ (names : Naming) {N : Type 0} (cover_of : N → Cover) where
   -- the text of covers; places do not count here
   abbrev pub covers_text : Multipliers → ℕ → List N → List ℕ
   covers_text which p cs = lines_text names (cover_lines which (map cover_of cs))
-
-  pub covers_text-cons : (which : Multipliers) (p : ℕ) (c : N) (cs : List N)
-      → covers_text which p (c ∷ cs) ≡ covers_text which p (c ∷ []) ++ covers_text which (suc p) cs
-  covers_text-cons which p c cs =
-      lines_text-append names (cover_lines which (cover_of c ∷ [])) (cover_lines which (map cover_of cs))
 
 append-nil_front : (xs ys : List (Line Fraction)) → (xs ++ []) ++ ys ≡ xs ++ ys
 append-nil_front xs ys = ap (λ zs. zs ++ ys) (append-nil xs)

@@ -15,7 +15,6 @@ use Rattle.rob_check.specs.Sums.{added_within, column, dot_within, with_part}
 use Rattle.rob_check.specs.Verdicts.{verdict}
 use Rattle.rob_check.specs.declared.verdict.Verdict.{Verdict}
 use Rattle.rob_check.specs.declared.verdict.Verdict.TheVariants.{Accepted}
-use Rattle.rob_check.proofs.SumLemmas.{part_wide}
 use Rattle.rob_check.proofs.VerdictLemmas.{goes, stops}
 use Rattle.rob_meaning.proofs.MatrixLemmas.{matrix_is}
 
@@ -49,19 +48,6 @@ module _ {N : Type 0} (value : N → Fraction) (limit : ℕ) (forms : List (List
 
   module _ (items : List (Item N)) (k : ℕ) (item : Item N) (so_far : Fraction) (inside : k < length items)
       (is : item ≡ get_or items k item) where
-    column_split : column_left items k so_far
-        ≡ added_within limit so_far
-        (item_within limit forms j (item_of value item)
-        ∷ map (item_within limit forms j) (map (item_of value) (drop (k + 1) items)))
-    column_split =
-        ap (λ (xs : List (Item N)).
-        added_within limit so_far (map (item_within limit forms j) (map (item_of value) xs)))
-        (drop_at items k item inside is)
-
-    pub column_stops : None ≡ item_within limit forms j (item_of value item) → None ≡ column_left items k so_far
-    column_stops none =
-        part_wide limit so_far _ _ (ap (λ o. o >>= (λ x. kept limit (so_far +ℚ x))) none) ∙ sym column_split
-
     module _ (part : Fraction) (some : Some part ≡ item_within limit forms j (item_of value item)) where
       part_is : (r : Option Fraction) → r ≡ kept limit (so_far +ℚ part)
           → r ≡ with_part limit so_far (item_within limit forms j (item_of value item))

@@ -31,12 +31,6 @@ abbrev pub total : List Fraction → Fraction
 total xs = Lists.total ℚ_ring xs
 
 module _ (limit : ℕ) where
-  -- one part
-  part_is : (s v x : Fraction) (rest : List (Option Fraction))
-      → (kept limit (s +ℚ x) >>= (λ next. added_within limit next rest)) ≡ Some v
-      → added_within limit (s +ℚ x) rest ≡ Some v
-  part_is s v x rest e = through_kept limit (s +ℚ x) (λ next. added_within limit next rest) v e
-
   -- parts that are computed are added up
   pub added_is : {A : Type 0} (f : A → Option Fraction) (g : A → Fraction)
       → ((a : A) (x : Fraction) → f a ≡ Some x → g a ≡ x)

@@ -7,8 +7,7 @@ use Rattle.rob_linear.specs.Vectors.{Matrix, Columns, sum_to, dot}
 use Rattle.rob_linear.specs.Systems.{IsBasis, IsSolution, Feasible, Point}
 use Rattle.rob_linear.specs.Programs.{Program, Admits, Keeps, system_of, ShowsEmpty}
 use Rattle.rob_algebra.specs.Integer.{ring, zero-mul, *ℤ_comm, mul-neg}
-use Rattle.rob_linear.proofs.Sums.{sum_ext, sum_neg, sum_mono}
-use Rattle.rob_algebra.specs.IntegerOrder.{mul_le_mul}
+use Rattle.rob_linear.proofs.Sums.{sum_ext, sum_neg}
 use Rattle.rob_linear.proofs.Endings.{point_is_solution}
 use Rattle.rob_linear.proofs.Programs.{admits_from_solution}
 use Rattle.rob_linear.proofs.Truths.{infeasible}
@@ -108,20 +107,6 @@ module _ (d : RobustProgram) (P : Program) (se : IsOverSet d P) where
   pub set_empty : (own : Columns) (rows : Matrix) → InfeasibleEnding P own rows → ShowsSetEmpty d (slack_entries P rows)
   set_empty own rows en =
       weights_empty (slack_entries P rows) (infeasible P own rows en.basis en.ends.no_improving en.ends.below)
-
--- the set rows at a point of the set, with weights that are not negative
-pub rows_bounded : (d : RobustProgram) (w : ℕ → ℤ) (base : ℤ) (p : ℕ → ℤ) → ((r : ℕ) → r < d.set_rows → pos 0 ≤ℤ w r)
-    → LiesInSet d base p
-    → sum_to d.set_rows (λ r. w r *ℤ dot d.set_columns (d.left r) p)
-    ≤ℤ sum_to d.set_rows (λ r. base *ℤ (w r *ℤ d.right r))
-rows_bounded d w base p wp lies =
-    sum_mono d.set_rows (λ r. w r *ℤ dot d.set_columns (d.left r) p) (λ r. base *ℤ (w r *ℤ d.right r)) (λ r rl.
-    let a : dot d.set_columns (d.left r) p ≡ dot d.set_columns p (d.left r) =
-    sum_ext d.set_columns (λ c. d.left r c *ℤ p c) (λ c. p c *ℤ d.left r c) (λ c cl. *ℤ_comm (d.left r c) (p c)) in
-    let b : (w r *ℤ dot d.set_columns p (d.left r)) ≤ℤ (w r *ℤ (base *ℤ d.right r)) =
-    mul_le_mul (w r) (dot d.set_columns p (d.left r)) (base *ℤ d.right r) (wp r rl) (lies.rows r rl) in
-    let e : w r *ℤ (base *ℤ d.right r) ≡ base *ℤ (w r *ℤ d.right r) = simp ring in
-    rw (a, ← e) b)
 
 -- ---- the functions give these programs
 

@@ -13,14 +13,12 @@ use Rattle.rob_number.specs.declared.lp_kind.LpKind.TheVariants as kind
 use Rattle.rob_rows.specs.declared.program.Lp.{Lp}
 use Rattle.rob_rows.specs.LinearPrograms.{program_of}
 use Rattle.rob_simplex.specs.Endings.{HasSolved, HasAnswered, IsOptimumOf, IsRayOf}
-use Rattle.rob_simplex.specs.Resuming.{CanResume}
-use Rattle.rob_simplex.specs.Solvers.{Solver, positions, HasPoint, IsMadeFor}
+use Rattle.rob_simplex.specs.Solvers.{Solver}
 use Rattle.rob_simplex.specs.Solutions.{point_of, weights_of}
 use Rattle.rob_simplex.specs.declared.state.LpStop.{LpStop}
 use Rattle.rob_model.specs.declared.place.Spot.{Spot}
 use Rattle.rob_model.specs.declared.place.Spot.TheVariants as spot
 use Rattle.rob_model.specs.declared.place.Program.TheVariants as named
-use Rattle.rob_solver.proofs.SolvingLemmas.{solution}
 use Rattle.rob_cert.specs.declared.ending.Stop.{Stop}
 use Rattle.rob_cert.specs.declared.ending.Stop.TheVariants.{EmptySet, Wide, Memory}
 use Rattle.rob_counterpart.specs.Counterpart.{set_program}
@@ -36,7 +34,7 @@ use Rattle.rob_dualize.specs.SetProgram.{IsOverRobust, robust_set}
 use Rattle.rob_dualize.specs.Ending.{HasEnded, HasLastPoint, IsSolvedAs, IsStoppedAt, StopsAt, TellsWeights, position_of}
 use Rattle.rob_dualize.specs.SetSolving.{program_of_set, IsFewSet, IsSolved, IsWideInSet, HasSetCause}
 use Rattle.rob_dualize.specs.Refusals.{IsRefusedAt}
-use Rattle.rob_dualize.specs.Solving.{IsLastScenario, IsWideOnPath, CountsStop, HasCause}
+use Rattle.rob_dualize.specs.Solving.{IsLastScenario, IsWideOnPath, HasCause}
 use Rattle.rob_dualize.proofs.MakingLemmas.{set_pairs}
 use Rattle.rob_dualize.proofs.RefusalLemmas.{refused_at}
 use Rattle.rob_dualize.proofs.SetProgramLemmas.{same_program}
@@ -113,19 +111,6 @@ module _ (N : Type 0) (Q : Program) (now : Solver) where
         columns = h.answer.columns;
       }
 
--- an answer of a solver that was made of the set's program
-pub answer_of_set : (N : Type 0) (set : SetForm) (lp : Lp) → IsOverRobust (robust_set set) (program_of lp)
-    → (made now : Solver) → IsMadeFor (program_of lp) made
-    → now.columns ≡ made.columns → positions now ≡ positions made → (k : LpKind) → HasSolved (program_of lp) k now
-    → HasAnswered k now
-    → (HasPoint now → CanResume (program_of lp) now) → IsSolvedAs {N = N} (program_of_set set)
-    (record { solver = now; kind = k })
-answer_of_set N set lp over made now m columns rows k s a r = record {
-  program = program_of lp;
-  same = set_made set lp over;
-  answer = solution N (program_of lp) made now k m columns rows s a r;
-}
-
 -- of each pair of the point of the set's program one number is 0
 pub solved_pairs : (set : SetForm) (s : Solver) → HasLastPoint (program_of_set set) s → (c : ℕ) → c < set.columns
     → OneIsZero (point_of s (plus c)) (point_of s (minus c))
@@ -190,16 +175,6 @@ module _ (m : RobustModel) (set : SetForm) (is : IsSetForm m set) where
       wide_cause limit stop now.basis p at
       (subst (λ (k : ℕ). IsRefusedAt limit (set_program m) now.basis k) (sym e)
       (refused_at limit h.program (set_program m) (of_model h.program h.same) now h.rows lp_stop h.wide h.caused))
-
-pub memory_set_cause : (limit : ℕ) (m : RobustModel) (stop : Stop) → stop ≡ Memory → HasSetCause limit m stop
-memory_set_cause limit m stop e = subst (HasSetCause limit m) (sym e) tt
-
--- ---- counts
-pub weights_counted : (limit before now n : ℕ) (s : Solver) (stop : Stop) → now ≡ before
-    → TellsWeights limit n (weights_of s) stop → CountsStop before now stop
-weights_counted limit before now n s (EmptySet weights) e h = e
-weights_counted limit before now n s (Wide place trace) e h = absurd h
-weights_counted limit before now n s Memory e h = omega arith
 
 -- ---- the route's causes
 wide_on_path : (limit : ℕ) (m : RobustModel) (place : Spot) → IsWideInSet limit m place → IsWideOnPath limit m place

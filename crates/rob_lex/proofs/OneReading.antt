@@ -134,9 +134,6 @@ pub record Front (bytes : List ℕ) : Type 0 where
   split : bytes ≡ front ++ after
   stands : Stands shape front after
 
-Either : List ℕ → Type 0
-Either bytes = Front bytes ⊎ BeginsNoPiece bytes
-
 short_front : (b : ℕ) (rest : List ℕ) → (Front (b ∷ rest)) ⊎ (BeginsNoShortPiece (b ∷ rest))
 short_front b rest =
     ⊎_elim (λ (h : eqb b 10 ≡ true).

@@ -1,14 +1,7 @@
 -- Two numbers that keep weights: behind one more or one less, and how great they are.
-use Rattle.std.proofs.Common.{◌≡◌, ℕ, zero, suc, ◌+◌, ◌-◌, ◌*◌, ◌/◌, ◌%◌, ◌^◌, ◌<◌, ◌≤◌, ◌∷◌, ap, ◌∙◌, arith, add-one}
+use Rattle.std.proofs.Common.{◌≡◌, ℕ, zero, suc, ◌+◌, ◌-◌, ◌/◌, ◌%◌, ◌^◌, ◌<◌, ◌≤◌, ◌∷◌, ap, arith}
 use Rattle.std.proofs.Math.Nat.{pow-le-pow_right, pow-suc}
 use Rattle.rob_lex.specs.Weights.{total, weights_of, doubled_of}
-
--- one more, which counts as two where k is 1
-pub weights_of-more : (n b k : ℕ) → k ≤ 1 → weights_of (n + 1) (b * 2 + k) ≡ (1 + k) ∷ weights_of n b
-weights_of-more n b k small =
-    let last : (b * 2 + k) % 2 ≡ k = omega arith in
-    let rest : (b * 2 + k) / 2 ≡ b = omega arith in
-    ap (λ (m : ℕ). weights_of m (b * 2 + k)) (add-one n) ∙ (λ i. (1 + last i) ∷ weights_of n (rest i))
 
 -- the first of some
 pub weights_of-some : (n b : ℕ) → 0 < n → weights_of n b ≡ (1 + b % 2) ∷ weights_of (n - 1) (b / 2)

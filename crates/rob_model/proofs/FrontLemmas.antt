@@ -1,5 +1,5 @@
 -- What stands at the front of a text, and what behind it.
-use Rattle.std.proofs.Common.{◌≡◌, ℕ, List, [], ◌∷◌, ◌++◌, length, take, drop, arith, ap, sym, ◌∙◌, true, false, append_assoc, length-append, ap₂, take-append-drop, rules, ◌+◌, nat_eq}
+use Rattle.std.proofs.Common.{◌≡◌, ℕ, List, [], ◌∷◌, ◌++◌, length, take, drop, ap, sym, ◌∙◌, true, false, append_assoc, ap₂, take-append-drop, rules, ◌+◌, nat_eq}
 use Rattle.std.specs.Prelude.{Option, Some, None, MatchOption, Result, Ok, Err, OnOk}
 use Rattle.std.proofs.lemmas.List.{append-nil, append_cancel_left}
 use Rattle.std.proofs.lemmas.Grind.{common_steps}
@@ -32,9 +32,6 @@ both now (Some x) text a b behind e h = found_both text a b behind (now x) e h
 -- a text is the whole of what it is not missing where nothing stands behind
 pub whole_missing : (text whole : List ℕ) → IsMissing text whole → text ≡ whole → ⊥
 whole_missing text whole h e = h [] (e ∙ sym (append-nil whole))
-
-pub whole_longer : (text whole : List ℕ) (x : ℕ) (rest : List ℕ) → text ≡ whole ++ x ∷ rest → text ≡ whole → ⊥
-whole_longer text whole x rest e f = omega (arith, ap length e, ap length f, length-append whole (x ∷ rest))
 
 -- ---- what `strip_prefix` answers
 take-front : (xs ys : List ℕ) → take (length xs) (xs ++ ys) ≡ xs

@@ -1,6 +1,6 @@
 -- The names of a group by their numbers.
 use Rattle.std.proofs.Common.{◌≡◌, ℕ, zero, suc, ◌+◌, ◌*◌, ◌<◌, ◌≤◌, ◌-◌, List, [], ◌∷◌, ◌++◌, map, length, get_or, arith, refl, ap, sym, ◌∙◌, append_assoc, ap₂, add-one, subst, take, Bool, true, false}
-use Rattle.std.specs.Prelude.{Option, Some, None, slice_get, flat_map, codes, option_map, if◌then◌else◌, ◌==◌}
+use Rattle.std.specs.Prelude.{Some, None, slice_get, flat_map, codes, option_map, if◌then◌else◌, ◌==◌}
 use Rattle.std.specs.Fmt.{decimal}
 use Rattle.std.proofs.lemmas.List.{append-nil, length-map, get_or-map}
 use Rattle.std.proofs.lemmas.Option.{slice_get-map, slice_get_read, slice_get-get_or}
@@ -10,7 +10,7 @@ use Rattle.rob_model.specs.GroupNames.{dotted, numbered, rule_names, statement_r
 use Rattle.rob_meaning.specs.Places.{Each}
 use Rattle.rob_meaning.specs.RobustModel.{Parameter, SetLine, line, budget, Member as MemberOf}
 use Rattle.rob_model.specs.NameGroups.{member_count}
-use Rattle.rob_model.specs.Spelling.{spelled, tail_of}
+use Rattle.rob_model.specs.Spelling.{spelled}
 use Rattle.rob_model.specs.View.{parameter_of, adaptive_of, member_of, set_line_of}
 use Rattle.rob_model.proofs.KeptLemmas.{some_is}
 use Rattle.rob_model.specs.declared.model.Adaptive.{Adaptive}
@@ -20,12 +20,6 @@ use Rattle.rob_model.specs.declared.model.SetLine.{SetLine as SetLineOf}
 use Rattle.rob_model.specs.declared.model.SetLine.TheVariants.{Budget}
 
 -- ---- spellings
-pub spelled-plain : (name : Name) → spelled name None None None ≡ name
-spelled-plain name = append-nil name
-
-pub spelled-numbered : (word : Name) (n : ℕ) → spelled word (Some n) None None ≡ numbered word n
-spelled-numbered word n = ap (λ tail. word ++ tail) (append-nil (codes "." ++ decimal n))
-
 pub spelled-numbered_last : (word : Name) (n : ℕ) (last : Name)
     → spelled word (Some n) None (Some last) ≡ dotted (numbered word n) last
 spelled-numbered_last word n last = sym (append_assoc word (codes "." ++ decimal n) (codes "." ++ last))
@@ -41,13 +35,6 @@ pub spelled-all : (word : Name) (n : ℕ) (part last : Name)
 spelled-all word n part last =
     sym (append_assoc (word ++ (codes "." ++ decimal n)) (codes "." ++ part) (codes "." ++ last)
     ∙ append_assoc word (codes "." ++ decimal n) ((codes "." ++ part) ++ (codes "." ++ last)))
-
-pub spelled-second : (name part : Name) → spelled name None (Some part) None ≡ dotted name part
-spelled-second name part = ap (λ tail. name ++ tail) (append-nil (codes "." ++ part))
-
-pub spelled-numbered_tail : (word : Name) (n : ℕ) (last : Option Name)
-    → spelled word (Some n) None last ≡ numbered word n ++ tail_of last
-spelled-numbered_tail word n last = sym (append_assoc word (codes "." ++ decimal n) (tail_of last))
 
 -- ---- parameters
 module _ {N : Type 0} (value : N → Fraction) where
@@ -222,8 +209,3 @@ module _ (P : Name → Type 0) where
       by [] k name e h all = cc
       by (x ∷ xs) zero name e h all = (subst P (sym (some_is e)) h, tt)
       by (x ∷ xs) (suc k) name e h all = (all.0, by xs k name e h all.1)
-
-  pub each_take_all : (names : List Name) (k : ℕ) → length names ≤ k → Each P (take k names) → Each P names
-  each_take_all [] k h all = tt
-  each_take_all (x ∷ xs) zero h all = absurd (omega arith)
-  each_take_all (x ∷ xs) (suc k) h all = (all.0, each_take_all xs k (omega arith) all.1)

@@ -202,9 +202,3 @@ module _ (m : RobustModel) (model : IsModel m) (u : List Fraction) where
   admitted_is limit fits t h =
       let a = through (first_broken_within limit m 1ℚ u) (λ broken. Some (is_none broken)) t h in
       subst (λ t. IsTrue t ↔ Admits m u) (some_is a.2) (none_is a.0 (broken_is limit m 1ℚ u fits a.0 a.1))
-
-  pub answer_admitted : {E : Type 0} (limit : ℕ) → length u ≡ length m.parameters → (r : Result Bool E)
-      → result_ok r ≡ admits_within limit m u
-      → IfOk r (λ t. IsTrue t ↔ Admits m u)
-  answer_admitted limit fits (Ok t) h = admitted_is limit fits t (sym h)
-  answer_admitted limit fits (Err e) h = tt

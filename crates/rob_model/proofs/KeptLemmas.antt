@@ -1,6 +1,6 @@
 -- What a computation in order answers is what it computes.
 use Rattle.std.proofs.Common.{◌≡◌, ℕ, refl, Bool, true, false}
-use Rattle.std.specs.Prelude.{Option, Some, None, Result, Ok, Err, cond}
+use Rattle.std.specs.Prelude.{Option, Some, None, cond}
 use Rattle.rob_algebra.specs.Fraction.{Fraction}
 use Rattle.rob_algebra.specs.Width.{is_wide, kept}
 use Rattle.rob_model.specs.Within.{◌>>=◌}
@@ -17,15 +17,6 @@ none_is_none a h = cc
 pub refuted : {P : Type 0} (t : Bool) → Decides t P → t ≡ false → P → ⊥
 refuted true d e p = cc
 refuted false d e p = let f : false ≡ true = d.1 p in cc
-
-pub ok_is : {A E : Type 0} {r : Result A E} {a b : A} → r ≡ Ok a → r ≡ Ok b → a ≡ b
-ok_is e f = cc
-
-pub err_is_not_ok : {A E : Type 0} {r : Result A E} {e : E} {a : A} → r ≡ Err e → r ≡ Ok a → ⊥
-err_is_not_ok e f = cc
-
-pub false_is_not_true : false ≡ true → ⊥
-false_is_not_true h = cc
 
 kept_case : (wide : Bool) (q v : Fraction) → cond wide None (Some q) ≡ Some v → q ≡ v
 kept_case true q v h = cc

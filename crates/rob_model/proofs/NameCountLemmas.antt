@@ -3,12 +3,11 @@ use Rattle.std.proofs.Common.{◌≡◌, ℕ, zero, suc, ◌+◌, ◌*◌, ◌�
 use Rattle.std.specs.Prelude.{Option, Some, slice_get, flat_map, codes}
 use Rattle.std.proofs.lemmas.List.{length-map}
 use Rattle.rob_algebra.specs.Fraction.{Fraction}
-use Rattle.rob_meaning.specs.Forms.{forms}
 use Rattle.rob_meaning.specs.Names.{Name}
 use Rattle.rob_model.specs.GroupNames.{numbered, side_names, bound_names, statement_row_names, condition_names, parameter_bound_names}
 use Rattle.rob_meaning.specs.RobustModel.{Parameter, Variable, AdaptiveVariable, Row, Relation, at_most, at_least, equal, SetLine, line, budget, RobustModel, column_from}
-use Rattle.rob_meaning.specs.SetRows.{lift_count, set_rows}
-use Rattle.rob_meaning.proofs.NameLemmas.{length-column_names, length-form_names, length-set_column_names, length-set_row_names}
+use Rattle.rob_meaning.specs.SetRows.{lift_count}
+use Rattle.rob_meaning.proofs.NameLemmas.{length-column_names, length-set_column_names}
 use Rattle.rob_model.specs.Limits.{IsWithinLimits}
 use Rattle.rob_model.specs.NameGroups.{groups, names, together}
 use Rattle.rob_model.specs.declared.group.Kind.{Kind}
@@ -96,12 +95,6 @@ module _ (m : RobustModel) where
         length-append (parameter_bound_names m.parameters)
             (by_statement (statement_row_names m.parameters) 1 m.set_lines),
       )
-
-  pub few_forms : length (forms m) ≤ 1 + 2 * (length m.rows + length m.variables + length m.adaptives)
-  few_forms = omega (arith, forms_few, ap length (flat_is m Form), length-form_names m)
-
-  pub few_set_rows : length (set_rows m) ≤ 2 * (length m.parameters + length m.set_lines + lift_count m.set_lines)
-  few_set_rows = omega (arith, set_rows_few, ap length (flat_is m SetRow), length-set_row_names m)
 
 module _ (m : RobustModel) (limits : IsWithinLimits m) where
   flat_conditions_few : length (flat_conditions m) ≤ 2 * length m.parameters + length m.set_lines

@@ -87,16 +87,6 @@ module _ {N : Type 0} (value : N → Fraction) where
         (terms_of (map (signed_of value) (drop (i + 1) ts)))) part some
         ∙ ap (λ x. sum_within limit m plan scenario x so_far) (sym (terms_at ts i t h e))
 
-    -- the same for a product
-    pub product_stops : (fs : List (Expr N)) (i : ℕ) (f : Expr N) (so_far : Fraction)
-        → i < length fs → f ≡ get_or fs i f
-        → None ≡ value_within limit m plan scenario (expression_of value f)
-        → None ≡ product_within limit m plan scenario (factors_of (map (expression_of value) (drop i fs))) so_far
-    product_stops fs i f so_far h e none =
-        stops _ (λ part. kept limit (so_far *ℚ part) >>= product_within limit m plan scenario
-        (factors_of (map (expression_of value) (drop (i + 1) fs)))) none
-        ∙ ap (λ x. product_within limit m plan scenario x so_far) (sym (factors_at fs i f h e))
-
     pub product_goes : (fs : List (Expr N)) (i : ℕ) (f : Expr N) (so_far part : Fraction) (next : Option Fraction)
         → i < length fs → f ≡ get_or fs i f
         → Some part ≡ value_within limit m plan scenario (expression_of value f)

@@ -1,5 +1,5 @@
 -- Machine numbers of few enough bits are what they are read as.
-use Rattle.std.proofs.Common.{◌≡◌, ℕ, ◌*◌, ◌%◌, ◌-◌, ◌^◌, ◌<◌, ◌≤◌, ℤ, pos, negsuc, zero, suc, w32, neg_ℤ, ◌+ℤ◌, ◌-ℤ◌, ◌*ℤ◌, nat_abs, arith, sym, ◌∙◌, ap, ap₂, subst, to_z, of_z, w64, SFits, to_z-of_z, nat_eq, eqb-true, eq-eqb, pow_mono, leb-true, leb-false, Bool, true, false, ◌&&◌, cond, ◌⊎◌, inl, inr, refl}
+use Rattle.std.proofs.Common.{◌≡◌, ℕ, ◌*◌, ◌%◌, ◌-◌, ◌^◌, ◌<◌, ◌≤◌, ℤ, pos, negsuc, zero, suc, w32, neg_ℤ, ◌-ℤ◌, ◌*ℤ◌, nat_abs, arith, sym, ◌∙◌, ap, ap₂, subst, to_z, of_z, w64, SFits, to_z-of_z, nat_eq, eqb-true, eq-eqb, pow_mono, leb-true, leb-false, Bool, true, false, ◌&&◌, cond, ◌⊎◌, inl, inr, refl}
 use Rattle.std.specs.Prelude.{nat_le}
 use Rattle.std.specs.Int.{w128}
 use Rattle.std.specs.Bool.{Decides}
@@ -101,10 +101,6 @@ limit-outside B h = outside_by B (nat_le 8 B) (nat_le B 62) refl refl h
 pub product_value : (p a b m n : ℤ) → p ≡ to_z w64 (of_z w64 a) *ℤ to_z w64 (of_z w64 b) → nat_abs a < 2 ^ 62
     → nat_abs b < 2 ^ 62 → a ≡ m → b ≡ n → p ≡ m *ℤ n
 product_value p a b m n e h k f g = e ∙ ap₂ ◌*ℤ◌ (seen a h ∙ f) (seen b k ∙ g)
-
-pub sum_fits : (l r : ℤ) → nat_abs l < 2 ^ 124 → nat_abs r < 2 ^ 124
-    → SFits w128 (to_z w128 (of_z w128 l) +ℤ to_z w128 (of_z w128 r))
-sum_fits l r h k = omega (arith, ints)
 
 -- a number of 64 bits is itself in 128
 pub seen_up : (z : ℤ) → SFits w64 z → to_z w128 (of_z w128 (to_z w64 (of_z w64 z))) ≡ z

@@ -20,10 +20,6 @@ use Rattle.rob_replay.specs.Outcome.{Refusal, breaks, is_wide, ◌then◌, or_re
 abbrev pub behind : List Line → Result (List Line) Refusal → Result (List Line) Refusal
 behind so_far r = r then (λ lines. Ok (so_far ++ lines))
 
-pub behind_nothing : (r : Result (List Line) Refusal) → behind [] r ≡ r
-behind_nothing (Ok lines) = refl
-behind_nothing (Err e) = refl
-
 behind_more : (so_far : List Line) (line : Line) (r : Result (List Line) Refusal)
     → behind so_far (r then (λ lines. Ok (line ∷ lines))) ≡ behind (so_far ++ line ∷ []) r
 behind_more so_far line (Ok lines) = ap Ok (sym (append_assoc so_far (line ∷ []) lines))

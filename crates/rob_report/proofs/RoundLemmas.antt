@@ -10,7 +10,7 @@ use Rattle.rob_model.specs.View.{parameter_of}
 use Rattle.rob_model.specs.declared.model.Param.{Param}
 use Rattle.rob_report.proofs.PairLemmas.{drop_here}
 use Rattle.rob_report.specs.Lines.{for_pairs}
-use Rattle.rob_report.specs.Rounds.{entries_words, entry_words, round_line, round_lines, round_words}
+use Rattle.rob_report.specs.Rounds.{entries_words, entry_words, round_line, round_lines}
 
 module _ {N : Type 0} (value : N → Fraction) where
   -- the numbers of a cut, as the code holds the parameters
@@ -47,14 +47,3 @@ module _ (m : RobustModel) where
       (p3 ∙ ap (λ o. o ++ 10 ∷ []) (behind old o1 o2 (codes "rounds ") _ p1 p2)
       ∙ append_assoc old (codes "rounds " ++ decimal (length rounds)) (10 ∷ []))
       ∙ append_assoc old ((codes "rounds " ++ decimal (length rounds)) ++ 10 ∷ []) (round_lines m 1 rounds)
-
-  -- a line's pieces
-  pub round_written : (number : ℕ) (r : Round) (old o1 o2 o3 o4 new : List ℕ) → o1 ≡ old ++ codes "round "
-      → o2 ≡ o1 ++ decimal number
-      → o3 ≡ o2 ++ codes " " → o4 ≡ o3 ++ round_words m r → new ≡ o4 ++ 10 ∷ [] → new ≡ old ++ round_line m number r
-  round_written number r old o1 o2 o3 o4 new p1 p2 p3 p4 p5 =
-      let whole =
-      behind old o1 o4 (codes "round ") _ p1
-      (behind o1 o2 o4 (decimal number) _ p2 (behind o2 o3 o4 (codes " ") _ p3 p4)) in
-      p5 ∙ ap (λ o. o ++ 10 ∷ []) whole
-      ∙ append_assoc old (codes "round " ++ (decimal number ++ (codes " " ++ round_words m r))) (10 ∷ [])

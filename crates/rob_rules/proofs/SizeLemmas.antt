@@ -6,7 +6,7 @@ use Rattle.rob_rules.specs.declared.size.Sizes.{Sizes}
 use Rattle.rob_syntax.specs.declared.syntax.Statement.{Statement}
 use Rattle.rob_syntax.specs.declared.syntax.Statement.TheVariants.{Uncertain, Over, Set, Budget, Var, Adaptive, Goal, Row}
 use Rattle.rob_model.specs.Limits.{most_sets, most_parameters, most_columns, most_rows, most_set_lines, most_members, most_size}
-use Rattle.rob_rules.specs.Sizes.{start_sizes, counted, is_within, joint_count, size, IsSmall, IsKept}
+use Rattle.rob_rules.specs.Sizes.{start_sizes, counted, is_within, joint_count, size, IsKept}
 use Rattle.rob_index.proofs.ListLemmas.{both_true}
 
 pub at_most : (a b : ℕ) → nat_le a b ≡ true → a ≤ b
@@ -47,28 +47,6 @@ factors_at_most a b c some h = (grind arith, grind arith)
 -- each set has the written ones
 pub times_more : (a n : ℕ) → a ≤ a * (n + 1)
 times_more a n = grind arith
-
-pub kept_small : (s : Sizes) → IsKept s → IsSmall s
-kept_small s kept =
-    let w = within s kept.within in
-    let f =
-    factors_at_most s.forms ((s.bounds * (s.sets + 1) + s.set_rows) + 2 * (joint_count s + s.members)) most_size
-    kept.forms w.whole in
-    let p = times_more s.parameters s.sets in
-    let b = times_more s.bounds s.sets in
-    record {
-      parameters = omega (arith, w.parameters, p);
-      bounds = omega (arith, f.1, b);
-      sets = omega (arith, w.sets);
-      variables = omega (arith, w.columns, kept.variables);
-      adaptives = omega (arith, w.columns, kept.adaptives);
-      columns = omega (arith, w.columns);
-      rows = omega (arith, w.rows);
-      set_lines = omega (arith, w.set_lines);
-      members = omega (arith, w.members);
-      forms = omega (arith, f.0);
-      set_rows = omega (arith, f.1);
-    }
 
 pub kept_start : IsKept start_sizes
 kept_start = record { within = refl; variables = omega arith; adaptives = omega arith; forms = omega arith }

@@ -1,6 +1,6 @@
 -- Least common denominators and whole numbers, one fraction after another.
 use Rattle.std.specs.Prelude.{◌≡◌, ℕ, zero, suc, ◌+◌, ◌^◌, ◌<◌, ◌≤◌, ℤ, pos, nat_abs, List, [], ◌∷◌, ◌++◌, map, length, take, drop, Option, Some, None, MatchOption, Result, Ok, Err, IfOk, OnOk, refl}
-use Rattle.std.proofs.Common.{sym, ◌∙◌, ap, ap₂, arith, subst, get_or, inl, inr, to_z, of_z, w64, append_assoc}
+use Rattle.std.proofs.Common.{sym, ◌∙◌, ap, arith, subst, get_or, inl, inr, to_z, of_z, w64, append_assoc}
 use Rattle.rob_number.proofs.CastLemmas.{seen}
 use Rattle.rob_algebra.specs.Fraction.{Fraction}
 use Rattle.rob_algebra.specs.Width.{IsWideWhole}
@@ -91,15 +91,6 @@ module _ {N : Type 0} (value : N → Fraction) where
       so_far ∙ ap (λ (ys : List N). denominator (before ++ map value ys)) (take_past xs i h)
 
   -- ---- whole numbers
-  pub whole_more : (xs : List N) (i : ℕ) (q : N) (common : ℕ) (list : List ℤ) (z : ℤ)
-      → i < length xs → q ≡ get_or xs i q
-      → list ≡ map (whole_at common) (map value (take i xs)) → z ≡ whole_at common (value q)
-      → list ++ z ∷ [] ≡ map (whole_at common) (map value (take (i + 1) xs))
-  whole_more xs i q common list z h e so_far is =
-      ap₂ (λ (ys : List ℤ) (y : ℤ). ys ++ y ∷ []) so_far is
-      ∙ sym (map-append (whole_at common) (map value (take i xs)) (value q ∷ []))
-      ∙ ap (map (whole_at common)) (sym (first_more xs i q h e))
-
   pub whole_wide : (xs : List N) (i : ℕ) (q : N) (limit common : ℕ) → i < length xs → q ≡ get_or xs i q
       → IsWideWhole limit (whole_at common (value q))
       → Some_of (λ q. IsWideWhole limit (whole_at common q)) (map value xs)
@@ -107,9 +98,6 @@ module _ {N : Type 0} (value : N → Fraction) where
   whole_wide (x ∷ xs) zero q limit common h e w =
       inl (subst (λ (y : N). IsWideWhole limit (whole_at common (value y))) e w)
   whole_wide (x ∷ xs) (suc i) q limit common h e w = inr (whole_wide xs i q limit common (omega arith) e w)
-
-pub each_more : (P : ℤ → Type 0) (list : List ℤ) (z : ℤ) → Each P list → P z → Each P (list ++ z ∷ [])
-each_more P list z h here = each_append P list (z ∷ []) h (here, tt)
 
 -- ---- machine numbers
 -- a number above 0 that was cast

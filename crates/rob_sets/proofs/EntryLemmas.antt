@@ -83,16 +83,6 @@ module _ {N : Type 0} (value : N → Fraction) where
       ∙ number_in-cons (c, x) fs k j (subst (λ (xs : List (Cell × N)). AreOrdered xs) e ordered)))
       ∙ h
 
-  pub joined_at : (minus : Bool) (es fs : List (Cell × N)) (c : Cell) (x y : N) → es ≡ (c, x) ∷ fs
-      → value y ≡ signed minus (value x) → (a total : Fraction)
-      → a +ℚ signed minus (number_in es c.row c.column) ≡ total
-      → a +ℚ value y ≡ total
-  joined_at minus es fs c x y e s a total h =
-      ap (λ u. a +ℚ u)
-      (s ∙ ap (signed minus)
-      (sym (ap (λ (xs : List (Cell × N)). number_in xs c.row c.column) e ∙ number_in-head (c, x) fs)))
-      ∙ h
-
   pub joined_end : (minus : Bool) (es : List (Cell × N)) → es ≡ [] → (k j : ℕ) (a total : Fraction)
       → a +ℚ signed minus (number_in es k j) ≡ total → a ≡ total
   joined_end minus es e k j a total h =

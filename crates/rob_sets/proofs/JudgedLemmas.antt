@@ -74,11 +74,6 @@ module _ (limit : ℕ) (m : RobustModel) where
       record { cause = first_right js ks spot none h.cause; rose = rose }
   stops_right js ks Refused.Memory start before now least none h = record { cause = tt; rose = tt }
 
-  pub stops_memory : (js : List Judged) (e : ElabErr) (start now : ℕ) → e ≡ Refused.Memory
-      → StopsAt limit m js start now e
-  stops_memory js e start now is =
-      subst (λ (x : ElabErr). StopsAt limit m js start now x) (sym is) (record { cause = tt; rose = tt })
-
   -- what is judged here is behind what is done, and before what is left
   pub stops_judging : {all left here more : List Judged} (e : ElabErr) (first before last : ℕ)
       → Judging (IsWideThere limit m) all left → Parted left here more → first ≤ before

@@ -1,6 +1,6 @@
 -- The rows of statements, one statement after another.
-use Rattle.std.specs.Prelude.{◌≡◌, ℕ, ◌+◌, ◌*◌, ◌≤◌, List, [], ◌∷◌, ◌++◌, length, map, drop, Result}
-use Rattle.std.proofs.Common.{sym, ◌∙◌, ap, ap₂, arith, subst, append_assoc, add-one}
+use Rattle.std.specs.Prelude.{◌≡◌, ℕ, ◌+◌, ◌*◌, ◌≤◌, List, [], ◌∷◌, ◌++◌, length, map, drop}
+use Rattle.std.proofs.Common.{sym, ◌∙◌, ap, ap₂, arith, append_assoc, add-one}
 use Rattle.std.proofs.lemmas.List.{length-map}
 use Rattle.rob_meaning.specs.Expressions.{Expression}
 use Rattle.rob_meaning.specs.Forms.{sides}
@@ -8,21 +8,12 @@ use Rattle.rob_meaning.specs.RobustModel.{Relation, at_most, at_least, equal, Se
 use Rattle.rob_meaning.specs.SetRows as lifted
 use Rattle.rob_meaning.specs.SetRows.{budget_row, expression_row, lift_count, member_rows, statement_rows}
 use Rattle.rob_model.specs.declared.model.SetLine.{SetLine as SetLineData}
-use Rattle.rob_sets.specs.Appending.{Appends}
 use Rattle.rob_sets.specs.FirstWide.{Judged}
 use Rattle.rob_sets.specs.SetForm.{judged_rows, judged_sides, judged_statements}
-use Rattle.rob_sets.specs.declared.error.ElabErr.{ElabErr}
 use Rattle.rob_sets.specs.declared.set_form.SetRow.{SetRow}
 use Rattle.rob_sets.proofs.PartedLemmas.{Parted}
 use Rattle.rob_sets.proofs.ListLemmas.{append-nil, length-both}
 use Rattle.rob_meaning.proofs.SetRowLemmas.{length-member_rows}
-
-pub appends_along : (limit : ℕ) (m : RobustModel) (xs ys : List lifted.SetRow) (js ks : List Judged) (a b : List SetRow)
-    (start now : ℕ) (r : Result (Unit {0}) ElabErr)
-    → xs ≡ ys → js ≡ ks → Appends limit m ys ks a b start now r → Appends limit m xs js a b start now r
-appends_along limit m xs ys js ks a b start now r e f h =
-    subst (λ (l : List lifted.SetRow). Appends limit m l js a b start now r) (sym e)
-    (subst (λ (l : List Judged). Appends limit m ys l a b start now r) (sym f) h)
 
 module _ (m : RobustModel) where
   -- ---- one statement

@@ -1,9 +1,7 @@
 -- Causes of a stop.
 use Rattle.std.specs.Prelude.{◌≡◌, Result, Ok, Err, IfErr, refl}
 use Rattle.std.proofs.Common.{subst, sym, ◌∙◌}
-use Rattle.rob_model.specs.declared.place.Spot.{Spot}
-use Rattle.rob_sets.specs.Stops.{StopsFor, StopsWith, error_of}
-use Rattle.rob_sets.specs.declared.error.ElabErr.{ElabErr}
+use Rattle.rob_sets.specs.Stops.{StopsFor}
 use Rattle.rob_sets.specs.declared.error.Stop.{Stop}
 use Rattle.rob_sets.specs.declared.error.Stop.TheVariants.{Wide, Memory}
 
@@ -39,10 +37,3 @@ only_memory {T} {cause} r e d is same f h =
     by : (e : Stop) → StopsFor cause e → e ≡ Memory
     by Wide h = absurd (f h)
     by Memory h = refl
-
--- the answer that names the spot
-pub stops_with : {cause other : Type 0} → (stop : Stop) (e : ElabErr) (spot named : Spot) → e ≡ error_of stop spot
-    → spot ≡ named → (other → cause) → StopsFor other stop
-    → StopsWith named cause e
-stops_with {cause} Wide e spot named is same f h = subst (λ (x : ElabErr). StopsWith named cause x) (sym is) (same, f h)
-stops_with {cause} Memory e spot named is same f h = subst (λ (x : ElabErr). StopsWith named cause x) (sym is) tt

@@ -9,7 +9,7 @@ use Rattle.rob_meaning.specs.Proves.{HasStatus, Proves, ProvesAs}
 use Rattle.rob_meaning.specs.RobustModel.{RobustModel}
 use Rattle.rob_meaning.specs.WellFormed.{IsModel}
 use Rattle.rob_reach.specs.Sweeps.{Answers, SweepAnswer}
-use Rattle.rob_sweep.specs.Answering.{HasEmptySet, NamesEmpty}
+use Rattle.rob_sweep.specs.Answering.{HasEmptySet}
 use Rattle.rob_sweep.specs.View.{status_answer}
 
 -- ---- certificates
@@ -21,16 +21,6 @@ module _ (m : RobustModel) (c : Certificate) where
       by optimal p h = (λ none. none c.inside p.inside, h)
       by infeasible p h = (λ none. none c.inside p.inside, h)
       by unbounded p h = (λ none. none c.inside p.inside, h)
-
--- a status names no empty set
-pub status_names : (m : RobustModel) (s : Status) (v : Fraction) (a : SweepAnswer)
-    → a ≡ status_answer s v → NamesEmpty m a
-status_names m s v a e = subst (NamesEmpty m) (sym e) (by s)
-  where
-    by : (s : Status) → NamesEmpty m (status_answer s v)
-    by optimal = tt
-    by infeasible = tt
-    by unbounded = tt
 
 -- ---- the empty set
 pub shown_names : (m : RobustModel) (weights : List Fraction) → IsShownEmpty m weights → HasEmptySet m

@@ -1,6 +1,6 @@
 -- The statements with another limit in one budget, one statement after another; and the model that has them.
 use Rattle.std.proofs.Common.{◌≡◌, ℕ, ◌+◌, ◌*◌, ◌-◌, ◌<◌, ◌≤◌, zero, suc, List, [], ◌∷◌, ◌++◌, map, length, get_or, drop, refl, ap, ap₂, sym, subst, ◌∙◌, arith, append_assoc, Bool, false}
-use Rattle.std.proofs.lemmas.List.{append-nil, map-append}
+use Rattle.std.proofs.lemmas.List.{map-append}
 use Rattle.std.specs.Bool.{Decides}
 use Rattle.rob_algebra.specs.Fraction.{Fraction}
 use Rattle.rob_meaning.proofs.NameLemmas.{length-set_row_names}
@@ -9,7 +9,7 @@ use Rattle.rob_meaning.specs.Named.{IsNamed}
 use Rattle.rob_meaning.specs.RobustModel.{SetLine, line, budget, RobustModel}
 use Rattle.rob_meaning.specs.SetRows.{lift_count, set_rows}
 use Rattle.rob_meaning.specs.WellFormed.{IsModel}
-use Rattle.rob_model.proofs.PartLemmas.{drop_at, drop_past}
+use Rattle.rob_model.proofs.PartLemmas.{drop_at}
 use Rattle.rob_model.specs.Limits.{IsWithinLimits, most_members, most_set_lines, most_size, model_size}
 use Rattle.rob_model.specs.Valid.{IsValid}
 use Rattle.rob_model.specs.View.{robust, set_line_of}
@@ -83,13 +83,6 @@ module _ {X : Type 0} (view : X → SetLine) (lines : List X) (g : Fraction) (al
       ∙ ap (λ (xs : List SetLine). map view done ++ xs)
       (sym (limit_next k l g (view c) (map view (drop (i + 1) lines)) less))
       ∙ ap (λ (xs : List X). map view done ++ limit_at k g (map view xs)) (sym (drop_at lines i c h e))
-      ∙ so_far
-
-  pub limited_all : (i k : ℕ) (done : List X) → length lines ≤ i
-      → map view done ++ limit_at k g (map view (drop i lines)) ≡ all → map view done ≡ all
-  limited_all i k done h so_far =
-      sym (append-nil (map view done))
-      ∙ ap (λ (xs : List X). map view done ++ limit_at k g (map view xs)) (sym (drop_past lines i h))
       ∙ so_far
 
 -- ---- the model with another limit

@@ -1,15 +1,14 @@
 -- The answers of a sweep, one limit after another.
-use Rattle.std.proofs.Common.{◌≡◌, ℕ, ◌+◌, ◌<◌, ◌≤◌, List, [], ◌∷◌, ◌++◌, map, length, get_or, drop, refl, sym, subst, ◌∙◌, arith, append_assoc, length-append}
+use Rattle.std.proofs.Common.{◌≡◌, ℕ, ◌+◌, ◌<◌, ◌≤◌, List, [], ◌∷◌, ◌++◌, map, length, get_or, drop, sym, subst, ◌∙◌, arith, append_assoc, length-append}
 use Rattle.std.proofs.lemmas.List.{append-nil}
 use Rattle.rob_algebra.specs.Fraction.{Fraction}
 use Rattle.rob_dualize.specs.Models.{IsWideIn}
 use Rattle.rob_meaning.specs.RobustModel.{RobustModel}
 use Rattle.rob_model.proofs.PartLemmas.{drop_at, drop_past}
 use Rattle.rob_model.specs.declared.place.Spot.{Spot}
-use Rattle.rob_number.specs.Counts.{Rose}
 use Rattle.rob_reach.specs.Sweeps.{Answers, SweepAnswer, Swept, with_budget}
 use Rattle.rob_sweep.specs.Answering.{AreWritten, EachAnswer, NamesEmpty}
-use Rattle.rob_sweep.specs.Stops.{CountsSweepStop, HasCause, IsLimitStop, IsWideAtLimit, KeepsRules}
+use Rattle.rob_sweep.specs.Stops.{HasCause, IsLimitStop, IsWideAtLimit, KeepsRules}
 use Rattle.rob_sweep.specs.declared.answer.SweepStop.{SweepStop}
 use Rattle.rob_sweep.specs.declared.answer.SweepStop.TheVariants.{Rule, Wide, Memory}
 use Rattle.rob_elab.specs.Written.{IsWritten}
@@ -58,17 +57,6 @@ module _ (limit : ℕ) (m : RobustModel) (n : ℕ) where
   written_of [] (a ∷ answers) h = absurd h
   written_of (g ∷ limits) [] h = absurd h
   written_of (g ∷ limits) (a ∷ answers) h = (h.0.written, written_of limits answers h.1)
-
-  -- nothing is answered yet
-  pub has_swept_none : (all : List Fraction) (answers : List SweepAnswer) → answers ≡ []
-      → HasSwept limit m n all all 0 answers
-  has_swept_none all answers e =
-      record {
-        before = [];
-        order = refl;
-        count = refl;
-        swept = subst (EachAnswer (IsAnswered limit) m n []) (sym e) tt;
-      }
 
   -- all limits
   pub has_swept_all : (all : List Fraction) (number : ℕ) (answers : List SweepAnswer)
@@ -134,11 +122,3 @@ module _ (limit : ℕ) (m : RobustModel) (n : ℕ) where
   stops_there all others g number next answers (Wide other spot) rules h e c =
       (rules, has_swept_wide all others g number other answers spot h (c.0 ∙ e) c.1)
   stops_there all others g number next answers Memory rules h e c = rules
-
--- what was counted before it is counted too
-pub counts_there : (limit : ℕ) (m : RobustModel) (number before between now : ℕ) (stop : SweepStop) → before ≤ between
-    → IsLimitStop limit m number stop → CountsSweepStop between now stop → CountsSweepStop before now stop
-counts_there limit m number before between now (Rule rule) h c counts = absurd c
-counts_there limit m number before between now (Wide other spot) h c counts =
-    let rose : Rose before now = omega (arith, h, counts) in rose
-counts_there limit m number before between now Memory h c counts = tt

@@ -1,5 +1,5 @@
 -- The symbols of the definitions are those of the code, one for one.
-use Rattle.std.proofs.Common.{◌≡◌, List, [], ◌∷◌, refl, ap, sym, ◌∙◌}
+use Rattle.std.proofs.Common.{◌≡◌, refl, ap}
 use Rattle.rob_index.specs.Symbols as index
 use Rattle.rob_syntax.specs.declared.symbol.Mark.{Mark}
 use Rattle.rob_syntax.specs.declared.symbol.Mark.TheVariants as mark
@@ -7,7 +7,7 @@ use Rattle.rob_syntax.specs.declared.symbol.Keyword.{Keyword}
 use Rattle.rob_syntax.specs.declared.symbol.Keyword.TheVariants as word
 use Rattle.rob_syntax.specs.declared.symbol.Symbol.{Symbol}
 use Rattle.rob_syntax.specs.declared.symbol.Symbol.TheVariants.{Name, Digits, Sign, Reserved}
-use Rattle.rob_syntax.specs.SeenSymbols.{seen_mark, seen_keyword, seen_symbol, seen_line}
+use Rattle.rob_syntax.specs.SeenSymbols.{seen_mark, seen_keyword, seen_symbol}
 
 -- the code's sign
 abbrev pub own_mark : index.Mark → Mark
@@ -91,12 +91,3 @@ own-seen_symbol (Name k) = refl
 own-seen_symbol (Digits n) = refl
 own-seen_symbol (Sign m) = ap Sign (own-seen_mark m)
 own-seen_symbol (Reserved w) = ap Reserved (own-seen_keyword w)
-
--- different symbols are seen as different ones
-pub seen_apart : (s t : Symbol) → seen_symbol s ≡ seen_symbol t → s ≡ t
-seen_apart s t same = sym (own-seen_symbol s) ∙ ap own_symbol same ∙ own-seen_symbol t
-
--- no symbol is seen where there is none
-pub seen_empty : (symbols : List Symbol) → seen_line symbols ≡ [] → symbols ≡ []
-seen_empty [] same = refl
-seen_empty (s ∷ symbols) same = cc

@@ -1,7 +1,7 @@
 -- The first line with a token, and the version that it names.
 use Rattle.std.proofs.Common.{◌≡◌, ℕ, Bool, true, false, List, [], ◌∷◌, map, refl, ap}
 use Rattle.std.specs.Prelude.{if◌then◌else◌}
-use Rattle.rob_index.specs.Reading.{one, two, version_of, body_of}
+use Rattle.rob_index.specs.Reading.{one, two, version_of}
 use Rattle.rob_lex.specs.declared.token.Token.{Token}
 use Rattle.rob_syntax.specs.Versions.{first_line, line_bytes, names_version, body}
 
@@ -16,20 +16,6 @@ version-first text ((t ∷ ts) ∷ lines) = refl
 body_begun : (text : List ℕ) (lines : List (List Token)) → body text true lines ≡ lines
 body_begun text [] = refl
 body_begun text (line ∷ lines) = ap (λ (l : List (List Token)). line ∷ l) (body_begun text lines)
-
--- the bytes of what is read of the lines are the body of the bytes of the lines
-pub line_bytes-body : (text : List ℕ) (lines : List (List Token))
-    → map (line_bytes text) (body text false lines) ≡ body_of (map (line_bytes text) lines)
-line_bytes-body text [] = refl
-line_bytes-body text ([] ∷ lines) = ap (λ (l : List (List (List ℕ))). [] ∷ l) (line_bytes-body text lines)
-line_bytes-body text ((t ∷ ts) ∷ lines) = by (names_version text (t ∷ ts))
-  where
-    by : (b : Bool)
-        → map (line_bytes text) ((if b then [] else t ∷ ts) ∷ body text true lines)
-        ≡ (if b then [] else line_bytes text (t ∷ ts)) ∷ map (line_bytes text) lines
-    by true = ap (λ (l : List (List Token)). [] ∷ map (line_bytes text) l) (body_begun text lines)
-    by false = ap (λ (l : List (List Token)). line_bytes text (t ∷ ts) ∷ map (line_bytes text) l)
-        (body_begun text lines)
 
 -- in a text of version 1 each line is read as it is
 pub body_of_version_one : (text : List ℕ) (lines : List (List Token)) → version_of (map (line_bytes text) lines) ≡ one

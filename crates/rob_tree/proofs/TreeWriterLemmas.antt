@@ -57,8 +57,3 @@ module _ (m : RobustModel) where
       ∙ append_assoc (out ++ L) P Q
       ∙ append_assoc out L (P ++ Q)
       ∙ ap (λ l. out ++ (L ++ l)) (sym (pieces_text-append (pieces below) (pieces above)))
-
--- the three parts of a tree's text
-pub tree_parts : (out a b c p q r : List ℕ) → out ≡ [] → a ≡ out ++ p → b ≡ a ++ q → c ≡ b ++ r → c ≡ p ++ (q ++ r)
-tree_parts out a b c p q r none first second third =
-    third ∙ ap (λ l. l ++ r) (second ∙ ap (λ l. l ++ q) (first ∙ ap (λ l. l ++ p) none)) ∙ append_assoc p q r

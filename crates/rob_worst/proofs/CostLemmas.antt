@@ -1,5 +1,5 @@
 -- The numbers of a form at a whole vector, summed column by column, are the costs of its search.
-use Rattle.std.proofs.Common.{◌≡◌, ℕ, suc, ◌+◌, ◌-◌, ◌^◌, ◌<◌, ◌≤◌, List, [], ◌∷◌, ◌++◌, length, refl, sym, ap, ap₂, ◌∙◌, subst, arith, inl, inr, to_z, of_z, w64, get_or}
+use Rattle.std.proofs.Common.{◌≡◌, ℕ, suc, ◌+◌, ◌-◌, ◌^◌, ◌<◌, ◌≤◌, List, [], ◌∷◌, ◌++◌, length, sym, ap, ap₂, ◌∙◌, subst, arith, inl, inr, to_z, of_z, w64, get_or}
 use Rattle.std.proofs.lemmas.Bool.{cases_lt}
 use Rattle.std.proofs.lemmas.Int.{ints}
 use lib.IntN.{ℤ, pos, neg_ℤ, nat_abs, ◌+ℤ◌, ◌*ℤ◌}
@@ -21,13 +21,9 @@ use Rattle.rob_runs.specs.Spots.{HasWidePrefix, cost_term}
 use Rattle.rob_runs.proofs.SumLemmas.{cost_is_number}
 use Rattle.rob_sets.proofs.RowLemmas.{tabulate-more}
 use Rattle.std.specs.Prelude.{Option, Some, None, MatchOption}
-use Rattle.rob_model.specs.declared.place.Spot.TheVariants.{Sum}
-use Rattle.rob_model.specs.declared.place.Where.TheVariants.{Cost}
-use Rattle.rob_cert.specs.declared.ending.Stop.{Stop}
 use Rattle.rob_dualize.specs.SetProgram.{in_pairs}
 use Rattle.rob_dualize.proofs.SetProgramLemmas.{in_pairs-push}
-use Rattle.rob_worst.specs.Costs.{product_at, part_at, column_part, IsWidePart, StopsAtPart}
-use Rattle.rob_dualize.specs.Ending.{IsWideStop}
+use Rattle.rob_worst.specs.Costs.{product_at, part_at, column_part, IsWidePart}
 
 -- a number of a list within a limit, as the machine holds it
 pub held_small : (limit : ℕ) (xs : List ℤ) (j : ℕ) → limit ≤ 2 ^ 62 - 1 → Each (λ a. nat_abs a ≤ limit) xs
@@ -67,11 +63,6 @@ module _ (forms : Forms) (i : ℕ) (whole : List ℤ) where
       (λ v. (v ≡ column_part forms i whole c) × (nat_abs v ≤ limit))
   told_inside limit c k l e None h = (l, subst (λ n. IsWidePart forms i limit n whole) e h)
   told_inside limit c k l e (Some v) h = (h.0 ∙ ap (λ n. part_at forms i n whole) e ∙ sym (column_inside c l), h.1)
-
-  -- the stop at a part
-  pub part_stop : (limit k : ℕ) (stop : Stop) → k ≤ forms.params → IsWideStop (Sum (Cost i) k) stop
-      → IsWidePart forms i limit k whole → StopsAtPart forms i limit whole stop
-  part_stop limit k stop l h w = subst (StopsAtPart forms i limit whole) (sym h) ((k, l, refl, w), refl)
 
   -- one column more
   pub costs_next : (c : ℕ) (list new : List ℤ) (v : ℤ) → list ≡ in_pairs (tabulate c (column_part forms i whole))

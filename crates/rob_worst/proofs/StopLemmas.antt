@@ -41,11 +41,6 @@ module _ (limit : ℕ) (m : RobustModel) (by_step : Bool) (i : ℕ) (z : List Fr
   clearing_spot false e w = (e, w)
   clearing_spot true e w = (e, w)
 
-  pub denominator_cause : (stop : Stop) → IsWideStop (spot.Clearing (place_for by_step)) stop → limit < denominator z
-      → HasSearchCause limit m by_step i z stop
-  denominator_cause stop h w = named_cause (spot.Clearing (place_for by_step)) stop h
-      (clearing_spot by_step refl (inl w))
-
   pub cleared_cause : (stop : Stop) (d : ℕ) → IsWideStop (spot.Clearing (place_for by_step)) stop → d ≡ denominator z
       → Some_of (λ q. IsWideWhole limit (whole_at d q)) z
       → HasSearchCause limit m by_step i z stop
@@ -90,6 +85,3 @@ module _ (limit : ℕ) (m : RobustModel) (by_step : Bool) (i : ℕ) (z : List Fr
   row_cause (Wide place trace) basis p h w r =
       (subst (IsWideAt limit m by_step i z) (sym h.0) (row_spot by_step basis p refl w r), h.1)
   row_cause Memory basis p h w r = tt
-
-  pub memory_cause : (stop : Stop) → stop ≡ Memory → HasSearchCause limit m by_step i z stop
-  memory_cause stop e = subst (HasSearchCause limit m by_step i z) (sym e) tt

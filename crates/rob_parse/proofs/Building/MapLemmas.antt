@@ -1,8 +1,6 @@
 -- Loops that make of the items of a list those of another.
 use Rattle.std.proofs.Common.{◌≡◌, ℕ, ◌+◌, ◌<◌, ◌≤◌, List, [], ◌∷◌, ◌++◌, map, length, get_or, drop, refl, ap, sym, ◌∙◌, subst, append_assoc, append-nil, arith, false}
-use Rattle.std.specs.Prelude.{Option, Some, None, slice_get, Vec, zero, suc}
-use Rattle.std.specs.declared.alloc.Global.{Global}
-use Rattle.rob_syntax.specs.Known.{texts}
+use Rattle.std.specs.Prelude.{Option, None, zero, suc}
 use Rattle.rob_meaning.specs.Expressions.{Expression, term, factor}
 use Rattle.rob_model.specs.View.{Signed as SignedPart, terms_of, factors_of}
 use Rattle.rob_model.proofs.PartLemmas.{drop_at, drop_past}
@@ -11,7 +9,7 @@ use Rattle.rob_syntax.specs.declared.syntax.Member.{Member}
 use Rattle.rob_syntax.specs.declared.syntax.Syntax.{Syntax}
 use Rattle.rob_syntax.specs.declared.syntax.Summand.{Summand}
 use Rattle.rob_parse.specs.Building.{FitsTree, FitsSummands, FitsOperands}
-use Rattle.rob_parse.specs.Written.{expression, terms, factors, word_of}
+use Rattle.rob_parse.specs.Written.{expression, terms, factors}
 use Rattle.rob_parse.specs.Models.{factors_taken, taken, terms_taken}
 use Rattle.rob_syntax.specs.Trees.{Part, tree_of, part_of, summands_of, operands_of}
 use Rattle.rob_rules.proofs.WalkLemmas.{part_is}
@@ -91,19 +89,6 @@ module _ (limit : ℕ) where
       → FitsTree limit (tree_of x) × FitsOperands limit (operands_of (map tree_of (drop (i + 1) xs)))
   operands_fit xs i x inside is fits =
       subst (λ (l : List Syntax). FitsOperands limit (operands_of (map tree_of l))) (drop_at xs i x inside is) fits
-
--- ---- words by their numbers
-pub word_there : (keys : List (Vec ℕ Global)) (k : ℕ) (o : Option (Vec ℕ Global)) (v : Vec ℕ Global)
-    → o ≡ slice_get keys k → o ≡ Some v → v.items ≡ word_of (texts keys) k
-word_there [] k o v is some = cc
-word_there (x ∷ keys) zero o v is some = let same : v ≡ x = cc in ap (λ (w : Vec ℕ Global). w.items) same
-word_there (x ∷ keys) (suc k) o v is some = word_there keys k o v is some
-
-pub word_missing : (keys : List (Vec ℕ Global)) (k : ℕ) (o : Option (Vec ℕ Global)) → o ≡ slice_get keys k → o ≡ None
-    → ◌≡◌ {A = List ℕ} [] (word_of (texts keys) k)
-word_missing [] k o is none = refl
-word_missing (x ∷ keys) zero o is none = cc
-word_missing (x ∷ keys) (suc k) o is none = word_missing keys k o is none
 
 -- ---- items by their places
 pub any_default : {A : Type 0} (xs : List A) (i : ℕ) (d e : A) → i < length xs → get_or xs i d ≡ get_or xs i e

@@ -63,9 +63,6 @@ clean_one d c = (at_most_one d.decision (neither _ _ c.decisions).0, go d.recour
         ∙ (neither _ _ c.uncertain).0)
 
 module _ (m : RobustModel) (sorts before : List (Option Sort)) where
-  depends : ℕ → ℕ
-  depends y = meaning.one_if_some (list_of m y)
-
   -- a name that may be used stands for the same behind the last line, and names what exists
   abbrev pub Stands : ℕ → Type 0
   Stands k =

@@ -15,7 +15,7 @@ use Rattle.rob_lex.specs.Pieces.{Piece, IsRun, Stands, IsPlace}
 use Rattle.rob_lex.specs.Places.{start, tokens_of}
 use Rattle.rob_lex.specs.Slices.{Lexed, lexed, lexed_at, lexed_of}
 use Rattle.rob_lex.proofs.SliceLemmas.{slices}
-use Rattle.rob_meaning.specs.Named.{AreDistinct, IsPlain}
+use Rattle.rob_meaning.specs.Named.{AreDistinct}
 use Rattle.rob_meaning.specs.Places.{Each}
 use Rattle.rob_parse.specs.Written.{word_of}
 use Rattle.rob_syntax.specs.Names.{GoesOn, IsWord}
@@ -89,17 +89,6 @@ module _ (words : List (List ℕ)) (w : List ℕ) where
       go true is = d
       go false is = distinct_push words w d (others words w is)
 
-  added_plain : Each IsPlain words → IsPlain w → Each IsPlain (add_word words w)
-  added_plain a b = go (list_any (bytes_eq w) words)
-    where
-      push : (xs : List (List ℕ)) → Each IsPlain xs → Each IsPlain (xs ++ w ∷ [])
-      push [] h = (b, tt)
-      push (x ∷ xs) h = (h.0, push xs h.1)
-
-      go : (b : Bool) → Each IsPlain (if b then words else words ++ w ∷ [])
-      go true = a
-      go false = push words a
-
   added_in : (v : List ℕ) → In words v → In (add_word words w) v
   added_in v h = go (list_any (bytes_eq w) words)
     where
@@ -118,11 +107,6 @@ pub words_distinct : (ws words : List (List ℕ)) → AreDistinct words → AreD
 words_distinct [] words d = d
 words_distinct (w ∷ ws) words d = words_distinct ws (add_word words w) (added_distinct words w d)
 
-pub words_plain : (ws words : List (List ℕ)) → Each IsPlain words → Each IsPlain ws
-    → Each IsPlain (fold add_word words ws)
-words_plain [] words a b = a
-words_plain (w ∷ ws) words a b = words_plain ws (add_word words w) (added_plain words w a b.0) b.1
-
 words_stay : (ws words : List (List ℕ)) (v : List ℕ) → In words v → In (fold add_word words ws) v
 words_stay [] words v h = h
 words_stay (w ∷ ws) words v h = words_stay ws (add_word words w) v (added_in words w v h)
@@ -138,42 +122,13 @@ byte_plain b h e = let p : goes_on_word 46 ≡ true = subst (λ (x : ℕ). goes_
 pub first_plain : (b : ℕ) → begins_word b ≡ true → b ≢ 46
 first_plain b h e = let p : begins_word 46 ≡ true = subst (λ (x : ℕ). begins_word x ≡ true) e h in cc
 
-run_plain : (bytes after : List ℕ) → IsRun goes_on_word bytes after → IsPlain bytes
-run_plain [] after run = tt
-run_plain (b ∷ bytes) after run = (byte_plain b run.0, run_plain bytes after run.1)
-
 abbrev pub word_lexed : Lexed → List (List ℕ)
 word_lexed l = word_at l.kind l.bytes
-
-piece_plain : (s : Shape) (bytes after : List ℕ) (more : List Lexed) → Stands s bytes after
-    → Each IsPlain (flat_map word_lexed more) → Each IsPlain (flat_map word_lexed (lexed_at s bytes ++ more))
-piece_plain (shape.Lexeme kind.Word) [] after more stands rest = absurd stands
-piece_plain (shape.Lexeme kind.Word) (b ∷ bytes) after more stands rest =
-    ((first_plain b stands.0, run_plain bytes after stands.1), rest)
-piece_plain (shape.Lexeme kind.Digits) bytes after more stands rest = rest
-piece_plain (shape.Lexeme kind.Sign) bytes after more stands rest = rest
-piece_plain (shape.Lexeme kind.LineEnd) bytes after more stands rest = rest
-piece_plain shape.Gap bytes after more stands rest = rest
-piece_plain shape.Comment bytes after more stands rest = rest
-
-pieces_plain : (text : List ℕ) (pieces : List Piece) (rest : List ℕ) → IsPlace text pieces rest
-    → Each IsPlain (flat_map word_lexed (lexed_of pieces))
-pieces_plain text [] rest place = tt
-pieces_plain text (p ∷ pieces) rest place =
-    piece_plain p.shape p.bytes place.0 (lexed_of pieces) place.2 (pieces_plain place.0 pieces rest place.3)
 
 pub lexed_words : (text : List ℕ) (ts : List Token)
     → flat_map word_lexed (map (lexed text) ts) ≡ flat_map (word_in text) ts
 lexed_words text [] = refl
 lexed_words text (t ∷ ts) = ap (λ (l : List (List ℕ)). word_in text t ++ l) (lexed_words text ts)
-
-pub tokens_plain : (text : List ℕ) (tokens : List Token) → AreTokens text tokens → Each IsPlain (words_of text tokens)
-tokens_plain text tokens are =
-    words_plain (flat_map (word_in text) tokens) [] tt
-    (subst (λ (ts : List Token). Each IsPlain (flat_map (word_in text) ts)) are.tokens
-    (subst (Each IsPlain) (lexed_words text (tokens_of start are.pieces))
-    (subst (λ (l : List Lexed). Each IsPlain (flat_map word_lexed l)) (sym (slices text are.pieces are.whole))
-    (pieces_plain text are.pieces [] are.whole))))
 
 -- ---- words by their numbers
 found : (words : List (List ℕ)) (w : List ℕ) → In words w → (position_or_len (bytes_eq w) words < length words)

@@ -6,7 +6,7 @@ use Rattle.rob_index.specs.Statements.{Atom, Step, Index}
 use Rattle.rob_index.specs.Statements as stated
 use Rattle.rob_index.specs.Grammar.{sign_of, spell_atom, spell_steps, spell_index, spell_more, spell_indices}
 use Rattle.rob_syntax.specs.Fronts.{BeginsNot, BeginsNone, Ends, EndsIndex, EndsRef, EndsList, Found, IsMissing, ReadsMore}
-use Rattle.rob_syntax.proofs.Fronts.PartLemmas.{heads, tails, one, one_found, one_missing, led, led_found, led_missing, trailed, trailed_found, trailed_missing, not_trailed, both, both_found, first_missing, second_missing, found_as, missing_as}
+use Rattle.rob_syntax.proofs.Fronts.PartLemmas.{heads, one, one_found, one_missing, led, led_found, led_missing, trailed, trailed_found, trailed_missing, not_trailed, both, both_found, first_missing, second_missing, found_as, missing_as}
 use Rattle.rob_syntax.proofs.Fronts.ChainLemmas.{Chain}
 
 pub list_cases : {A : Type 0} (s : List A) → (s ≡ []) ⊎ ((x : A) × (xs : List A) × (s ≡ x ∷ xs))
@@ -82,12 +82,6 @@ index_found a first second =
 
 pub no_index : {symbols : List Symbol} → BeginsNone spell_atom symbols → IsMissing spell_index EndsIndex symbols
 no_index none = record { none = λ other end same stop. none other.first _ same }
-
-pub no_index_behind : {symbols middle : List Symbol} (a : Atom) → symbols ≡ spell_atom a ∷ middle
-    → IsMissing spell_steps EndsIndex middle → IsMissing spell_index EndsIndex symbols
-no_index_behind a first missing = record {
-  none = λ other end same stop. missing.none other.more end (tails (sym first ∙ same)) stop;
-}
 
 -- ---- what commas part
 -- a comma and the item behind it

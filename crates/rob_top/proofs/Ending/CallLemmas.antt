@@ -1,11 +1,11 @@
 -- How a call ends, from what was put.
 use Rattle.std.proofs.Common.{◌≡◌, ℕ, true, false, List, [], ◌∷◌, ◌++◌, Result, Ok, Err}
-use Rattle.rob_outside.specs.Puts.{PutAll, PutUntil, put_of}
-use Rattle.rob_outside.specs.Taken.{Took, TookPrefix, Takes}
+use Rattle.rob_outside.specs.Puts.{PutAll, put_of}
+use Rattle.rob_outside.specs.Taken.{Took, Takes}
 use Rattle.rob_outside.proofs.TakenLemmas.{took_is_prefix}
 use Rattle.rob_top.specs.Answers.{memory_text}
 use Rattle.rob_top.specs.Calls.{Call, Output}
-use Rattle.rob_top.specs.Headline.{Means, Ends, PutRefused}
+use Rattle.rob_top.specs.Headline.{Means, Ends}
 use Rattle.rob_top.specs.Lines.{PutMemory, text_lines}
 use Rattle.rob_top.specs.declared.ended.Ended.{Ended}
 use Rattle.rob_top.specs.declared.ended.Ended.TheVariants.{Optimal, Infeasible, Unbounded, Printed, Accepted, Rejected, Words, Missing, TooLong, Model, EmptySet, TooWide, WideNode, WideBudget, Cert, Scenarios, Whole, Sweep, Cells, Tree, TreeRejected, NoRow, ReadFault, WriteFault, Memory}
@@ -104,13 +104,6 @@ ends_whole call output (Cells rule) text means took puts = record {
   puts = puts;
 }
 ends_whole call output ReadFault text means took puts = record { text = text; means = means; took = took; puts = puts }
-
--- a put of the text was refused
-pub ends_refused : (call : Call) (output : Output) (ended : Ended) (text : List ℕ) → Means call ended text
-    → TookPrefix output.before output.now text → PutUntil output.puts_before output.puts_now (text_lines text)
-    → PutRefused call output
-ends_refused call output ended text means took puts =
-    record { answer = ended; text = text; means = means; took = took; puts = puts }
 
 -- a put of the line of a want of memory, whatever it answers
 pub ends_memory : {T E : Type 0} (output : Output) (result : Result T E)

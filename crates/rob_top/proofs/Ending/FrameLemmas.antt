@@ -1,24 +1,20 @@
 -- What a call answers, from what came of its files and what the work on them answers.
-use Rattle.std.proofs.Common.{◌≡◌, ℕ, List, Result, Ok, Err, IfOk, refl, subst, sym}
+use Rattle.std.proofs.Common.{◌≡◌, ℕ, Result, Ok, Err, IfOk, subst, sym}
 use Rattle.rob_meaning.specs.Places.{Each}
 use Rattle.rob_number.specs.declared.memory.Memory.{Memory as Want}
 use Rattle.rob_outside.specs.Files.{whole}
-use Rattle.rob_top.specs.Answers.{words_text}
-use Rattle.rob_top.specs.Calls.{Call, Count, Source, WasRaised, call_of}
+use Rattle.rob_top.specs.Calls.{Call, Count, Source, WasRaised}
 use Rattle.rob_top.specs.Files.{IsFoundIn, requests}
 use Rattle.rob_top.specs.ComparedWork.{AnswersNumber}
 use Rattle.rob_top.specs.Headline.{Means}
-use Rattle.rob_top.specs.Replies.{AreFound, CameIn, HasTexts, IsAbsence, IsAbsentAmong, IsFetched, IsLine, Replies, text_of}
-use Rattle.rob_top.specs.declared.ended.Ended.{Ended}
-use Rattle.rob_top.specs.declared.ended.Ended.TheVariants.{Words}
+use Rattle.rob_top.specs.Replies.{AreFound, CameIn, HasTexts, IsAbsence, IsAbsentAmong, IsFetched, IsLine, text_of}
 use Rattle.rob_top.specs.declared.files.Files.{Files}
 use Rattle.rob_top.specs.declared.files.Files.TheVariants as fetch
 use Rattle.rob_top.specs.declared.files.Texts.{Texts}
 use Rattle.rob_top.specs.declared.reply.Reply.{Reply}
 use Rattle.rob_top.proofs.Fetching.FilesLemmas.{means_absent}
 use Rattle.rob_words.specs.Answers.{line_of}
-use Rattle.rob_words.specs.Commands.{Line, IsCommandLine, IsSpelled}
-use Rattle.rob_words.specs.Values.{Word}
+use Rattle.rob_words.specs.Commands.{Line}
 use Rattle.rob_words.specs.Verbs.{own_of}
 use Rattle.rob_words.specs.declared.line.CommandLine.{CommandLine}
 
@@ -64,12 +60,6 @@ module _ (line : CommandLine) (source : Source) (faults wides : Count) where
       (λ r. subst (λ (c : Count). WasRaised c) (sym faults_is) r)
       (subst (λ (s : Source). IsAbsence s h.request faults reply.ended reply.text) (sym source_is) h.absent)
 
-  -- the call of these words
-  pub line_answers : (words : List Word) (r : Result Reply Want) → IsSpelled words (line_of line) → IfOk r AnswersLine
-      → IfOk r (λ reply. Means (call_of words source faults wides) reply.ended reply.text)
-  line_answers words (Err want) spelled h = tt
-  line_answers words (Ok reply) spelled h = h (call_of words source faults wides) spelled refl refl refl
-
 -- what a command's work on a number answers, it answers each call of the line
 pub number_answers_line : (line : Line) (texts : Texts) (wides : Count) (r : Result Reply Want)
     → IfOk r (AnswersNumber line wides)
@@ -77,12 +67,3 @@ pub number_answers_line : (line : Line) (texts : Texts) (wides : Count) (r : Res
     → Means call reply.ended reply.text)
 number_answers_line line texts wides (Err want) h = tt
 number_answers_line line texts wides (Ok reply) h = λ call came wides_is. h call came.spelled wides_is
-
--- the words are no command line
-pub wordless_answers : (words : List Word) (source : Source) (faults wides : Count) (r : Result Reply Want)
-    → (IsCommandLine words → ⊥)
-    → IfOk r (Replies Words words_text)
-    → IfOk r (λ reply. Means (call_of words source faults wides) reply.ended reply.text)
-wordless_answers words source faults wides (Err want) none is = tt
-wordless_answers words source faults wides (Ok reply) none is =
-    subst (λ (ended : Ended). Means (call_of words source faults wides) ended reply.text) (sym is.0) (none, is.1)

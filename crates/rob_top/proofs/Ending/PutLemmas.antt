@@ -1,6 +1,5 @@
 -- A text that is put piece by piece.
 use Rattle.std.proofs.Common.{◌≡◌, ℕ, true, List, [], ◌∷◌, ◌++◌, Ok, Err, refl, sym, ◌∙◌, ap, subst, append_assoc}
-use Rattle.std.proofs.lemmas.List.{append-nil}
 use Rattle.rob_outside.specs.Puts.{Put, PutAll, PutUntil, put_as, put_of}
 use Rattle.rob_outside.specs.Taken.{Took, TookPrefix}
 use Rattle.rob_outside.proofs.PutsLemmas.{put_none, put_one, put_then, put_until_of_more}
@@ -42,13 +41,6 @@ puts_piece before middle now noted some notes text rest piece behind p e f took 
   puts = put_then {T = Unit {0}} {E = Unit {0}} noted some notes p.lines (piece ∷ []) (Ok tt) p.puts put;
 }
 
--- at the end all of the text is taken
-pub puts_all : (before now : List ℕ) (noted notes : List Put) (text rest : List ℕ)
-    → PutsMore before now noted notes text rest → rest ≡ [] → Took before now text
-puts_all before now noted notes text rest p empty =
-    let whole : text ≡ p.done = p.whole ∙ ap (λ (r : List ℕ). p.done ++ r) empty ∙ append-nil p.done in
-    subst (λ (t : List ℕ). Took before now t) (sym whole) p.took
-
 -- after an error in a piece a prefix of the text is taken
 pub puts_prefix : (before middle now : List ℕ) (noted some : List Put) (text rest piece behind : List ℕ)
     → PutsMore before middle noted some text rest → rest ≡ piece ++ behind → TookPrefix middle now piece
@@ -63,14 +55,6 @@ puts_prefix before middle now noted some text rest piece behind p e took =
           ∙ sym (append_assoc p.done piece behind);
     }
     part
-
--- at the end all of its lines were put
-pub lines_all : (before now : List ℕ) (noted notes : List Put) (text rest : List ℕ)
-    → PutsMore before now noted notes text rest → rest ≡ [] → PutAll noted notes (text_lines text)
-lines_all before now noted notes text rest p empty =
-    let lines : text_lines text ≡ p.lines =
-    p.split ∙ ap (λ (r : List ℕ). p.lines ++ text_lines r) empty ∙ append-nil p.lines in
-    subst (λ (list : List (List ℕ)). PutAll noted notes list) (sym lines) p.puts
 
 -- after an error in a line none was put behind it
 pub lines_some : {E : Type 0} (before middle : List ℕ) (noted some notes : List Put)

@@ -1,5 +1,5 @@
 -- What came of a command's files, from what came of each.
-use Rattle.std.proofs.Common.{◌≡◌, ◌≤◌, ◌==◌, ◌⊎◌, inl, inr, Bool, true, false, ℕ, ◌-◌, List, [], ◌∷◌, ◌++◌, length, map, take, drop, append_assoc, slice_index_or, Option, Some, None, Result, Ok, Err, IfOk, IfSome, refl, sym, ◌∙◌, ap, subst, arith, Vec, Global}
+use Rattle.std.proofs.Common.{◌≡◌, ◌≤◌, ◌==◌, Bool, true, false, ℕ, ◌-◌, List, [], ◌∷◌, ◌++◌, length, map, take, drop, append_assoc, slice_index_or, Option, Some, None, Result, Ok, Err, IfOk, IfSome, refl, sym, ◌∙◌, ap, subst, arith, Vec, Global}
 use Rattle.std.specs.Str.{bytes_eq}
 use Rattle.std.proofs.lemmas.Bool.Decides.{nat_tests}
 use Rattle.std.proofs.Math.Seq.{drop-append_seam, take-length}
@@ -13,7 +13,7 @@ use Rattle.rob_outside.specs.declared.shelf.Fetched.{Fetched}
 use Rattle.rob_top.specs.Calls.{Call, Count, Source, WasRaised, behind, count, source_of}
 use Rattle.rob_top.specs.Files.{Came, IsFoundIn, Request, answer_to, file_of, files_of, first_or, later, most_of, request_of, requests, with_first}
 use Rattle.rob_top.specs.Headline.{Means}
-use Rattle.rob_top.specs.Replies.{AreFound, Asks, AsksOnce, CameIn, IsAbsence, IsAbsentAmong, IsFetched, IsGot, IsNothing, text_of, with_file, with_text}
+use Rattle.rob_top.specs.Replies.{AreFound, Asks, AsksOnce, CameIn, IsAbsence, IsAbsentAmong, IsFetched, IsGot, text_of, with_file, with_text}
 use Rattle.rob_top.specs.declared.ended.Ended.{Ended}
 use Rattle.rob_top.specs.declared.ended.Ended.TheVariants.{Optimal, Infeasible, Unbounded, Printed, Accepted, Rejected, Words, Missing, TooLong, Model, EmptySet, TooWide, WideNode, WideBudget, Cert, Scenarios, Whole, Sweep, Cells, Tree, TreeRejected, NoRow, ReadFault, WriteFault, Memory}
 use Rattle.rob_top.specs.declared.files.Files.{Files}
@@ -216,27 +216,6 @@ module _ (told : Option (List File)) (request : Request) (files : List Request) 
   absence_behind other earlier faults Memory text raised h = absurd h
 
 -- ---- the files of own words
-
--- there are none
-none_found : (source : Source) (kinds : List Own) (names : List Word) (texts : Texts)
-    → (length kinds ≡ 0) ⊎ (length names ≡ 0)
-    → AreFound source kinds names texts
-none_found source [] names texts e = record {
-  came = tt;
-  found = λ kind r named. absurd (let no : None ≡ Some r = named in cc);
-}
-none_found source (kind ∷ kinds) [] texts e = record {
-  came = tt;
-  found = λ other r named. absurd (let no : None ≡ Some r = named in cc);
-}
-none_found source (kind ∷ kinds) (name ∷ names) texts (inl e) = absurd (omega (arith, e))
-none_found source (kind ∷ kinds) (name ∷ names) texts (inr e) = absurd (omega (arith, e))
-
-pub none_fetched : (source : Source) (faults : Count) (kinds : List Own) (names : List Word) (found_files : Files)
-    → IsNothing found_files
-    → (length kinds ≡ 0) ⊎ (length names ≡ 0) → IsFetched kinds names source faults found_files
-none_fetched source faults kinds names (files.Texts texts) none e = none_found source kinds names texts e
-none_fetched source faults kinds names (files.Answer reply) none e = absurd none
 
 -- the first didn't come
 pub first_absent : (kind : Own) (most : ℕ) → most_of kind ≡ Some most

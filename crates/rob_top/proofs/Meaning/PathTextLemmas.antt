@@ -29,7 +29,3 @@ pub branch_text : {E : Type 0} (r : Result (Unit {0}) E) (names : List Name) (j 
 branch_text (Ok done) names j told tail out a b c same first second third =
     line_text names j tail out a b c first second (third ∙ ap (λ l. b ++ l) same)
 branch_text (Err e) names j told tail out a b c same first second third = tt
-
--- one branch more
-pub path_text : (line rest out a b : List ℕ) → a ≡ out ++ line → b ≡ a ++ rest → b ≡ out ++ (line ++ rest)
-path_text line rest out a b first second = second ∙ ap (λ l. l ++ rest) first ∙ append_assoc out line rest

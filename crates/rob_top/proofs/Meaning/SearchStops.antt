@@ -1,7 +1,6 @@
 -- The answers of `worst` where the search stops, and what the search asks for.
 use Rattle.std.proofs.Common.{◌≡◌, ◌≢◌, ℕ, ◌<◌, ◌≤◌, nat_abs, List, [], ◌∷◌, false, length, map, Result, Ok, Err, IfOk, inl, inr, refl, subst, sym, ap, ◌∙◌, arith, length-append}
 use Rattle.std.proofs.lemmas.List.{length-map}
-use Rattle.std.specs.Prelude.{MatchResult}
 use Rattle.rob_algebra.specs.Fraction.{Fraction, of_int}
 use Rattle.rob_algebra.specs.Width.{Fits}
 use Rattle.rob_cert.specs.Shape.{HasParts, HasShape}
@@ -26,7 +25,7 @@ use Rattle.rob_report.specs.Places.{IsSpotOf}
 use Rattle.rob_report.specs.Spots.{too_wide_line}
 use Rattle.rob_top.proofs.Meaning.DefaultRoutes.{told_alone}
 use Rattle.rob_words.specs.Verbs.{takes_route}
-use Rattle.rob_worst.specs.Finding.{FindsWorst, HasCause, IsWideAt, Tells}
+use Rattle.rob_worst.specs.Finding.{HasCause, IsWideAt, Tells}
 use Rattle.rob_worst.specs.Vectors.{plan_of}
 use Rattle.rob_top.proofs.Meaning.RouteLemmas.{no_rounds}
 use Rattle.rob_top.proofs.Meaning.SearchingLemmas.{found_answers_as, form_matrix}
@@ -182,15 +181,3 @@ module _ {N : Type 0} (value : N → Fraction) (limit : ℕ) (m : RobustModel) (
       → IfOk r (AnswersPlan before now) → IfOk r (AnswersSought limit (count before now) m c form)
   sought_answers before now c (Err want) same h = tt
   sought_answers before now c (Ok reply) same h = h c same
-
-  -- no count falls
-  pub search_counted : (z : List Fraction) (before now : ℕ) (r : Result (ending.Worst N) Stop)
-      → FindsWorst value limit m false form z before now r
-      → before ≤ now
-  search_counted z before now r h = by r h.counted
-    where
-      by : (r : Result (ending.Worst N) Stop) → MatchResult r (λ _. now ≡ before) (CountsStop before now) → before ≤ now
-      by (Ok worst) e = omega (arith, e)
-      by (Err (stop.EmptySet weights)) e = omega (arith, e)
-      by (Err (stop.Wide place trace)) e = omega (arith, e)
-      by (Err stop.Memory) e = e

@@ -2,7 +2,7 @@
 use Rattle.std.proofs.Common.{pos, ◌≡◌, ◌≤◌, ◌<◌, ◌==◌, ◌+◌, ◌∙◌, ℕ, List, [], ◌∷◌, ◌++◌, length, map, Option, None, Some, Bool, true, false, inl, inr, refl, sym, ap, subst, arith}
 use Rattle.std.proofs.lemmas.Bool.{cases_Bool}
 use Rattle.std.proofs.lemmas.List.{length-map, map-append}
-use Rattle.std.proofs.lemmas.Option.{get_or_from_slice_get, slice_get-get_or, slice_get_within}
+use Rattle.std.proofs.lemmas.Option.{get_or_from_slice_get, slice_get_within}
 use Rattle.std.specs.Prelude.{slice_get}
 use Rattle.rob_algebra.specs.Fraction.{of_pair}
 use Rattle.rob_cert.proofs.CoverLemmas.{one_number}
@@ -12,7 +12,7 @@ use Rattle.rob_meaning.specs.RobustModel.{Parameter, RobustModel}
 use Rattle.rob_meaning.specs.Values.{signed}
 use Rattle.rob_meaning.specs.WellFormed.{IsModel}
 use Rattle.rob_model.proofs.OwnNames.{parameters_distinct}
-use Rattle.rob_model.specs.Naming.{Finds, FindsOwn}
+use Rattle.rob_model.specs.Naming.{Finds}
 use Rattle.rob_pieces.specs.Cuts.{AreCuts, Cut}
 use Rattle.rob_top.proofs.Telling.ToldLemmas as lists
 use Rattle.rob_top.specs.Split.{AreCutsAt, IsCutAt}
@@ -90,24 +90,10 @@ module _ (m : RobustModel) where
             spells.denominator;
       }
 
-  pub cut_missing : (word : Word) → FindsOwn (parameter_names m) (cut_name word) None → (cut : Cut)
-      → IsCutAt m word cut → ⊥
-  cut_missing word own cut h =
-      let inside : cut.parameter < length (parameter_names m) =
-      subst (λ n. cut.parameter < n) (sym (length-map m.parameters (λ (p : Parameter). p.name))) h.inside
-      in
-      let no : None ≡ Some cut.parameter =
-      own cut.parameter (slice_get-get_or (parameter_names m) cut.parameter [] inside ∙ ap Some h.named)
-      in
-      cc
-
   -- ---- cuts one by one: of all words those in front of the rest spell these
   -- cuts, 3 at most; the rest are cuts, where all are
   abbrev pub HasTold : ℕ → List Word → List Cut → List Word → Type 0
   HasTold greatest all cuts rest = lists.HasTold (IsCut greatest) (AreCutsAt m) 3 all cuts rest
-
-  pub told_nothing : (greatest : ℕ) (all : List Word) → HasTold greatest all [] all
-  told_nothing greatest all = lists.told_nothing (IsCut greatest) (AreCutsAt m) 3 all
 
   module _ (greatest : ℕ) (all : List Word) (cuts : List Cut) where
     pub told_part : (o : Option Word) (word first : Word) (behind : Option Word)

@@ -2,8 +2,7 @@
 -- read up to some name, and that there is one list of numbers.
 use Rattle.std.proofs.Common.{◌≡◌, ◌≢◌, ℕ, suc, ◌<◌, ◌≤◌, List, [], ◌∷◌, ◌++◌, map, length, Option, Some, None, IfSome, refl, sym, ◌∙◌, ap, subst, inl, inr, arith, append_assoc}
 use Rattle.std.proofs.lemmas.List.{append-nil, append_cancel_left, map-append}
-use Rattle.std.proofs.lemmas.Option.{get_or_from_slice_get, slice_get-get_or}
-use Rattle.std.specs.Prelude.{option_map, slice_get}
+use Rattle.std.specs.Prelude.{option_map}
 use Rattle.rob_cert.proofs.CoverLemmas.{one_number}
 use Rattle.rob_cert.specs.Spelling.{name_at}
 use Rattle.rob_meaning.proofs.DistinctLemmas.{Apart, distinct_apart, distinct_append}
@@ -16,7 +15,6 @@ use Rattle.rob_meaning.specs.Places.{Each}
 use Rattle.rob_meaning.specs.RobustModel.{RobustModel, column_count}
 use Rattle.rob_meaning.specs.WellFormed.{IsModel}
 use Rattle.rob_model.proofs.OwnNames.{columns_distinct}
-use Rattle.rob_model.specs.Naming.{Finds, FindsOwn}
 use Rattle.rob_reach.specs.Ranges.{KeepsNames}
 use Rattle.rob_reach.specs.Trees.{IsIn}
 use Rattle.rob_top.specs.Inputs.{AreVariables}
@@ -55,15 +53,6 @@ module _ (m : RobustModel) where
       subst (λ n. k < n) (sym (length-column_names m)) (omega arith)
 
   -- ---- one name
-  pub named_found : (name : Name) (k : ℕ) → slice_get (column_names m) k ≡ Some name → name_of k ≡ name
-  named_found name k e = get_or_from_slice_get (column_names m) k name [] e
-
-  pub variable_found : (name : Name) (found : Option ℕ) → FindsOwn (column_names m) name found → (k : ℕ)
-      → k < length m.variables
-      → name_of k ≡ name → found ≡ Some k
-  variable_found name found own k inside is =
-      own k (slice_get-get_or (column_names m) k [] (column_in k inside) ∙ ap Some is)
-
   -- the variable of a name, and no other
   pub record IsVariable (name : Name) (j : ℕ) : Type 0 where
     pub inside : j < length m.variables
@@ -74,16 +63,6 @@ module _ (m : RobustModel) where
       → (j < length m.variables) × (name_of j ≡ name)
       × ((k : ℕ) → k < length m.variables → name_of k ≡ name → k ≡ j) → IsVariable name j
   variable_is name j h = record { inside = h.0; named = h.1; alone = h.2 }
-
-  pub found_variable : (name : Name) (found : Option ℕ) (j : ℕ) → Finds (column_names m) name found
-      → FindsOwn (column_names m) name found
-      → found ≡ Some j → j < length m.variables → IsVariable name j
-  found_variable name None j finds own e inside = absurd (let no : None ≡ Some j = e in cc)
-  found_variable name (Some i) j finds own e inside = record {
-    inside = inside;
-    named = let same : i ≡ j = cc in subst (λ k. name_of k ≡ name) same (named_found name i finds.0);
-    alone = λ k h is. let same : Some i ≡ Some k = variable_found name (Some i) own k h is in cc;
-  }
 
   -- ---- names one by one
 

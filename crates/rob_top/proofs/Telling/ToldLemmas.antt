@@ -28,15 +28,6 @@ module _ {X : Type 0} (Part : Word → Type 0) (Tell : List Word → List X → 
     pub counted : length told + length rest ≡ length all
     pub few : length told ≤ most
 
-  pub told_nothing : (all : List Word) → HasTold all [] all
-  told_nothing all = record {
-    adds = λ more h. h;
-    has = λ things h. (things, h);
-    parts = λ h. h;
-    counted = omega arith;
-    few = omega arith;
-  }
-
   module _ (all : List Word) (told : List X) where
     -- the next word stands in front of the rest
     pub told_part : (o : Option Word) (word first : Word) (behind : Option Word) → HasTold all told (parts_behind o)
