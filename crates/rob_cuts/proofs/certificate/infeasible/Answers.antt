@@ -4,16 +4,14 @@ use Rattle.rob_model.specs.View.{scenario_of}
 use Rattle.rob_meaning.specs.Places.{at}
 use Rattle.rob_simplex.specs.Solutions.{weights_of}
 use Rattle.rob_dualize.specs.Ending.{infeasible_with}
-use Rattle.rob_dualize.proofs.CertificateLemmas.{count_told}
+use Rattle.rob_dualize.proofs.CertificateLemmas.{are_told, count_told}
 use Rattle.rob_dualize.proofs.ReadingLemmas.{told_at}
 use Rattle.rob_cuts.proofs.ItemLemmas.{items_told-same}
 use Rattle.rob_cuts.proofs.certificate.infeasible.Goals as goal
 
 pub items-requires-2-clause-weights : goal.items-requires-2-clause-weights
 items-requires-2-clause-weights g c =
-    count_told g.N.Exact.value c.items.result.now (length c.args.rounds.now)
-    (λ q. of_int (weights_of c.args.solver.now q))
-    (ap (map g.N.Exact.value) c.items.ensures.list ∙ c.in_ok-weights.ensures.numbers)
+    count_told (are_told g.N.Exact.value c.items.ensures.list c.in_ok-weights.ensures.numbers)
 
 pub returns : goal.returns
 returns g c =

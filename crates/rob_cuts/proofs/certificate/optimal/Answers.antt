@@ -3,21 +3,20 @@ use Rattle.rob_cert.specs.View.{cover_of}
 use Rattle.rob_meaning.specs.Certificates.{optimal}
 use Rattle.rob_meaning.specs.Places.{at}
 use Rattle.rob_simplex.specs.Solutions.{dual_of}
-use Rattle.rob_dualize.proofs.CertificateLemmas.{count_told, parts_same}
+use Rattle.rob_dualize.proofs.CertificateLemmas.{are_told, count_told, parts_same}
 use Rattle.rob_dualize.proofs.ReadingLemmas.{told_at}
 use Rattle.rob_cuts.proofs.ItemLemmas.{items_told-same}
 use Rattle.rob_cuts.proofs.certificate.optimal.Goals as goal
 
 pub items-requires-2-clause-weights : goal.items-requires-2-clause-weights
 items-requires-2-clause-weights g c =
-    count_told g.N.Exact.value c.items.result.now (length c.args.rounds.now) (dual_of c.args.solver.now)
-    (ap (map g.N.Exact.value) c.items.ensures.list ∙ c.in_ok-weights.ensures.numbers)
+    count_told (are_told g.N.Exact.value c.items.ensures.list c.in_ok-weights.ensures.numbers)
 
 pub returns : goal.returns
 returns g c =
     let value = g.N.Exact.value in
     record {
-      certificate = parts_same optimal _ _ _ _ _ _ _ _ _ _ _ _ _ _ _ _ _
+      certificate = parts_same optimal
           refl
           refl
           refl

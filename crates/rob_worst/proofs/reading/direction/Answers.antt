@@ -1,8 +1,8 @@
-use Rattle.std.proofs.Common.{◌≡◌, ◌*◌, map, length, ap, ◌∙◌, arith}
+use Rattle.std.proofs.Common.{◌≡◌, ◌*◌, map, length, ◌∙◌, arith}
 use Rattle.rob_simplex.specs.Solutions.{ray_of}
 use Rattle.rob_counterpart.specs.ReadNumbers.{differences}
 use Rattle.rob_dualize.specs.Numbers.{told}
-use Rattle.rob_dualize.proofs.CertificateLemmas.{count_told, pairs_told, differences_read}
+use Rattle.rob_dualize.proofs.CertificateLemmas.{are_told, count_told, pairs_told, differences_read}
 use Rattle.rob_dualize.proofs.MakingLemmas.{ok_weaker}
 use Rattle.rob_worst.proofs.reading.direction.Goals as goal
 
@@ -11,16 +11,14 @@ ray-requires-clause-inside g c = omega (arith, c.requires.inside)
 
 pub pair_differences-requires-clause-inside : goal.pair_differences-requires-clause-inside
 pair_differences-requires-clause-inside g c =
-    let value = g.N.Exact.value in
-    let n : length c.items.result.now ≡ 2 * c.args.count = count_told value c.items.result.now (2 * c.args.count)
-    (ray_of c.args.solver.now) (ap (map value) c.items.ensures.list ∙ c.in_ok-numbers.ensures.numbers) in
+    let n : length c.items.result.now ≡ 2 * c.args.count =
+    count_told (are_told g.N.Exact.value c.items.ensures.list c.in_ok-numbers.ensures.numbers) in
     omega arith
 
 pub pair_differences-requires-clause-pairs : goal.pair_differences-requires-clause-pairs
 pair_differences-requires-clause-pairs g c =
-    let value = g.N.Exact.value in
-    pairs_told value c.items.result.now (2 * c.args.count) (ray_of c.args.solver.now)
-    (ap (map value) c.items.ensures.list ∙ c.in_ok-numbers.ensures.numbers) c.args.count (omega arith) c.requires.pairs
+    pairs_told (are_told g.N.Exact.value c.items.ensures.list c.in_ok-numbers.ensures.numbers) c.args.count (omega arith)
+    c.requires.pairs
 
 pub returns : goal.returns
 returns g c =
@@ -28,7 +26,7 @@ returns g c =
     record {
       parameters = ok_weaker (λ list. map value list ≡ differences c.args.count (told value c.items.result.now))
           (λ list. map value list ≡ differences c.args.count (ray_of c.args.solver.now))
-          (λ list h. h ∙ differences_read value c.items.result.now (2 * c.args.count) (ray_of c.args.solver.now)
-          (ap (map value) c.items.ensures.list ∙ c.in_ok-numbers.ensures.numbers) c.args.count (omega arith))
+          (λ list h. h ∙ differences_read (are_told value c.items.ensures.list c.in_ok-numbers.ensures.numbers) c.args.count
+          (omega arith))
           c.pair_differences.result c.pair_differences.ensures.differences;
     }
