@@ -1,6 +1,7 @@
 pub mod BudgetLemmas
 pub mod ColumnLemmas
 pub mod ConditionLemmas
+pub mod CopyLemmas
 pub mod FlatNames
 pub mod FrontLemmas
 pub mod GroupCounts
