@@ -8,12 +8,12 @@ use Rattle.rob_linear.proofs.Multiples.{zero_clears}
 use Rattle.rob_entries.specs.Updates.{IsWideCleared}
 use Rattle.rob_entries.proofs.ClearingLemmas.{cleared_ext}
 use Rattle.rob_simplex.specs.Tables.{row_at, HasBounds, AreCleared, IsStopped}
-use Rattle.rob_simplex.proofs.Places.{row_within}
+use Rattle.rob_simplex.proofs.Places.{row_inside, row_within}
 
 -- ---- a row of the table
 pub row_in : (limit width : ℕ) (rows : List ℤ) (bounds : List ℕ) → HasBounds limit width rows bounds → (i : ℕ)
     → i < length bounds → i * width + width ≤ length rows
-row_in limit width rows bounds h i il = let r = row_within (length bounds) width i il in omega (arith, h.size)
+row_in limit width rows bounds h i il = row_inside width i il h.size
 
 -- numbers outside of row i stay: other rows do
 pub rows_apart : (rows new : List ℤ) (width i : ℕ)

@@ -10,6 +10,10 @@ use Rattle.rob_simplex.specs.Tables.{row_at}
 pub row_within : (count width i : ℕ) → i < count → i * width + width ≤ count * width
 row_within count width i l = let h : suc i * width ≤ count * width = mul-le-mul_right width l in omega arith
 
+pub row_inside : {count size : ℕ} (width i : ℕ) → i < count → size ≡ count * width → i * width + width ≤ size
+row_inside {count} width i l e =
+    let h : i * width + width ≤ count * width = row_within count width i l in omega (arith, e)
+
 -- a number that an index has read
 pub read_at : (items : List ℕ) (k x : ℕ) → k < length items → x ≡ get_or items k x → x ≡ get_or items k 0
 read_at items k x l e = e ∙ get_or_default items k x 0 l
