@@ -11,10 +11,19 @@ use std::alloc::Global;
 use std::marker::Model;
 
 /// The values of a range that are left. Contracts see them, upwards.
-#[derive(Drop)]
 pub struct Run {
     next: Whole,
     last: Whole,
+}
+
+impl Drop for Run {
+    /// Lets go of it in one call. A derived drop would stand in each function that does.
+    fn drop(self) {
+        let Run {
+            next: _next,
+            last: _last,
+        } = self;
+    }
 }
 
 impl Model for Run {
