@@ -15,9 +15,9 @@ use crate::place::{place, place_name, place_over};
 use crate::placed::Placed;
 use crate::scope::Scope;
 use crate::tokens::{bounds_tokens, number_tokens, over_tokens, signed_tokens};
+use rob_index_forms::ends_of;
 use rob_number::{List, Memory};
 use rob_ranges::Ends;
-use rob_ranges::index::ends_of;
 use rob_syntax::syntax::{Entry, Indexed, Range, Ranged, Ref, Rule, Share, Shares, Sides, Target};
 use std::alloc::Global;
 

@@ -11,8 +11,8 @@ ghost use Rattle.rob_expand.specs.Scopes.{IsAlike, IsIndex, IsPart, IsPlaced, Pa
 
 use crate::placed::{Named, Part, Placed};
 use crate::scope::{Scope, is_nothing};
+use rob_index_forms::index_form;
 use rob_number::{List, Memory};
-use rob_ranges::index::index_form;
 use rob_ranges::{Ends, Form};
 use rob_syntax::syntax;
 use rob_syntax::syntax::{Index, Range, Ref, Tree};

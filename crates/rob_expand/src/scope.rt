@@ -6,8 +6,8 @@ ghost use Rattle.rob_index.specs.Forms.{length_form, plus_times};
 ghost use Rattle.rob_syntax.specs.Seen.{seen_index, seen_range};
 ghost use Rattle.rob_expand.specs.Scopes.{AddNothing, AreEqual, inside, IsIndex, IsNothing, IsPutIn, outside, with_first};
 
+use rob_index_forms::{ends_of, index_form};
 use rob_number::Memory;
-use rob_ranges::index::{ends_of, index_form};
 use rob_ranges::{Form, Whole};
 use rob_syntax::syntax::{Index, Range};
 use std::alloc::Global;

@@ -6,8 +6,8 @@ ghost use Rattle.rob_syntax.specs.Seen.{seen_atom, seen_index, seen_range};
 ghost use Rattle.rob_places.specs.Around.{binds, has_loose, inside, is_loose, nothing_around, outside};
 ghost use Rattle.rob_places.specs.Tests.{form_of, length_of};
 
+use rob_index_forms::{ends_of, index_form};
 use rob_number::Memory;
-use rob_ranges::index::{ends_of, index_form};
 use rob_ranges::{Form, Nest};
 use rob_syntax::syntax::{Atom, Index, Range};
 use std::alloc::Global;

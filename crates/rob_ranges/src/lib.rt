@@ -4,7 +4,6 @@
 
 mod digits;
 pub mod form;
-pub mod index;
 pub mod nest;
 mod products;
 pub mod reach;

@@ -1,7 +1,7 @@
 use Rattle.std.proofs.Common.{◌≡◌, ◌≤◌, length, map, drop}
 use Rattle.rob_index.specs.Fast.{steps_form}
 use Rattle.rob_syntax.specs.Seen.{seen_step}
-use Rattle.rob_ranges.proofs.index.steps_form.Given as goal
+use Rattle.rob_index_forms.proofs.index.steps_form.Given as goal
 
 -- the steps behind this place are summed
 abbrev pub invariant-back : goal.invariant-back

@@ -5,8 +5,8 @@ ghost use Rattle.rob_index.specs.Forms.{plus_times};
 ghost use Rattle.rob_index.specs.Fast as fast;
 ghost use Rattle.rob_syntax.specs.Seen.{seen_atom, seen_step, seen_index, seen_range};
 
-use crate::form::{Ends, Form};
 use rob_number::Memory;
+use rob_ranges::{Ends, Form};
 use rob_syntax::syntax::{Atom, Index, Range, Step};
 use std::alloc::Global;
 
