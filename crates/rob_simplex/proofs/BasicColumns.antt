@@ -22,14 +22,15 @@ use Rattle.rob_linear.proofs.MultipleStages.{multiple_last, multiple_cleared, mu
 use Rattle.rob_linear.proofs.Multiples.{parallel_refl}
 use Rattle.rob_linear.proofs.WithoutColumn.{cleared_without, parallel_without}
 use Rattle.rob_entries.specs.Updates.{IsWideCleared}
+use Rattle.rob_table.specs.Lowering.{IsLowered}
+use Rattle.rob_table.proofs.ClearingTops.{cleared_by_times}
 use Rattle.rob_simplex.specs.Dictionaries.{Table, positions, width_of, columns_of, spare_column, rows_of, kept_row_of, IsFree, IsAlone, IsOpen}
 use Rattle.rob_simplex.specs.Pivots.{CanClear}
-use Rattle.rob_simplex.specs.Lowering.{IsLowered, amount_of, HasCleared, HasRefusedCost, HasWay, IsBasicAt}
+use Rattle.rob_simplex.specs.Lowering.{amount_of, HasCleared, HasRefusedCost, HasWay, IsBasicAt}
 use Rattle.rob_simplex.specs.Phases.{StandsFor}
 use Rattle.rob_simplex.proofs.FreeColumns.{basic_column_low, basics_inside, way_free}
 use Rattle.rob_simplex.proofs.JudgingLemmas.{stands_own}
 use Rattle.rob_simplex.proofs.OwnEntries.{own_positive, keeps_positive, keeps_set}
-use Rattle.rob_simplex.proofs.ClearingTops.{cleared_by_times}
 use Rattle.rob_simplex.proofs.CostStages.{narrowed, cleared_parallel, equal_parallel, rows_is, columns_is, width_is, half, auxiliary_zero, spare_zero, half_wide, next_stands}
 use Rattle.rob_simplex.proofs.PivotLemmas.{set_twice, zero_stays, free_opened}
 use Rattle.rob_simplex.proofs.ReadRows.{basic_low, basic_high}

@@ -12,10 +12,10 @@ use Rattle.rob_linear.specs.Systems.{IsPrimitive}
 use Rattle.rob_linear.specs.Multiples.{IsClearedBy, IsParallel}
 use Rattle.rob_linear.proofs.Multiples.{parallel_sym, parallel_positive}
 use Rattle.rob_entries.specs.Updates.{IsWideCleared}
+use Rattle.rob_table.proofs.ClearingTops.{times_ring}
 use Rattle.rob_simplex.specs.Dictionaries.{Table, positions, width_of, columns_of, basic_columns, spare_column, rows_of, IsFree, IsAlone, IsOpen, IsClosed, IsPivoted, IsExchanged, KeepsOwn, ClearsTable, StopsTable}
 use Rattle.rob_simplex.specs.Pivots.{CanClear}
 use Rattle.rob_simplex.specs.Begun.{IsBroken}
-use Rattle.rob_simplex.proofs.ClearingTops.{times_ring}
 use Rattle.rob_simplex.proofs.OwnEntries.{basic_set}
 use Rattle.rob_simplex.proofs.PivotLemmas.{set_twice, zero_stays, free_opened}
 use Rattle.rob_simplex.proofs.Views.{free_as}

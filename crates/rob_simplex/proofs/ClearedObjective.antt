@@ -11,11 +11,12 @@ use Rattle.rob_linear.specs.Systems.{IsPrimitive}
 use Rattle.rob_linear.specs.Multiples.{IsClearedBy, IsParallel}
 use Rattle.rob_linear.proofs.Multiples.{primitive_least}
 use Rattle.rob_entries.specs.Updates.{IsWideCleared}
+use Rattle.rob_table.specs.Lowering.{IsLowered}
+use Rattle.rob_table.proofs.ClearingTops.{cleared_by_times}
 use Rattle.rob_simplex.specs.Dictionaries.{Table, positions, width_of, columns_of, spare_column, rows_of, IsFree, IsAlone, IsOpen, ClearsTable, StopsTable}
 use Rattle.rob_simplex.specs.Pivots.{CanClear}
-use Rattle.rob_simplex.specs.Lowering.{IsLowered, amount_of, HasCleared, HasRefusedCost}
+use Rattle.rob_simplex.specs.Lowering.{amount_of, HasCleared, HasRefusedCost}
 use Rattle.rob_simplex.proofs.CostStages.{cleared_parallel}
-use Rattle.rob_simplex.proofs.ClearingTops.{cleared_by_times}
 
 module _ {t : Table} {count' i column : ℕ} (a : CanClear count' t i column) (t2 : Table) (b2 : t2.basis ≡ t.basis)
     (n2 : t2.columns ≡ t.columns)

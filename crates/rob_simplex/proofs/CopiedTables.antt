@@ -3,8 +3,8 @@ use Rattle.std.proofs.Common.{◌≡◌, ℕ, zero, suc, ◌+◌, ◌-◌, ◌*�
 use Rattle.std.proofs.lemmas.Bool.{cases_lt}
 use lib.IntN.{ℤ, nat_abs}
 use Rattle.rob_linear.specs.Vectors.{at}
+use Rattle.rob_table.specs.Tables.{HasBounds}
 use Rattle.rob_simplex.specs.declared.state.State.{State}
-use Rattle.rob_simplex.specs.Tables.{HasBounds}
 use Rattle.rob_simplex.specs.Dictionaries.{Table, IsSound}
 use Rattle.rob_simplex.specs.Solvers.{Solver}
 

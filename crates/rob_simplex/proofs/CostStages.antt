@@ -24,10 +24,11 @@ use Rattle.rob_linear.proofs.Turns.{own_low}
 use Rattle.rob_linear.proofs.MultipleStages.{multiple_next, multiple_half_wide, multiple_new_cost}
 use Rattle.rob_linear.proofs.Multiples.{parallel_refl}
 use Rattle.rob_linear.proofs.CondensedNumbers.{primitive_without}
+use Rattle.rob_table.specs.Lowering.{IsLowered, IsWideLowered}
+use Rattle.rob_table.proofs.LoweredRows.{nothing}
 use Rattle.rob_simplex.specs.Dictionaries.{Table, positions, width_of, columns_of, spare_column, rows_of}
-use Rattle.rob_simplex.specs.Lowering.{IsLowered, IsWideLowered, amount_of}
+use Rattle.rob_simplex.specs.Lowering.{amount_of}
 use Rattle.rob_simplex.specs.Phases.{StandsFor}
-use Rattle.rob_simplex.proofs.LoweredRows.{nothing}
 
 -- a row that is 0 in the auxiliary and the spare column is as wide without them
 pub narrowed : (limit : ℕ) (P : Program) (w : Vector) → w (P.n + P.m) ≡ pos 0 → w (P.n + P.m + 3) ≡ pos 0

@@ -8,7 +8,7 @@ use Rattle.rob_linear.specs.CondensedRows.{IsPlaced}
 use Rattle.rob_linear.specs.Beside.{exchanged}
 use Rattle.rob_linear.proofs.BesidePaths.{exchanged_q, exchanged_p, exchanged_other, exchanged_low}
 use Rattle.rob_linear.proofs.CondensedRows.{placed_swapped, swapped_entry}
-use Rattle.rob_simplex.specs.Tables.{row_at, bound_at, HasBounds}
+use Rattle.rob_table.specs.Tables.{row_at, bound_at, HasBounds}
 use Rattle.rob_simplex.specs.Dictionaries.{Table, columns_of, basic_columns, right_column, read_row, rows_of, kept_row_of, IsSound, IsFree}
 use Rattle.rob_simplex.proofs.ReadRows.{read_near, read_own, read_none, read_same, basic_low, basic_high}
 

@@ -5,10 +5,10 @@ use lib.IntN.{ℤ, pos}
 use lib.Signed.{◌<ℤ◌, ◌≤ℤ◌}
 use Rattle.rob_linear.specs.Vectors.{at}
 use Rattle.rob_linear.proofs.CondensedSigns.{condensed_first, condensed_none}
-use Rattle.rob_simplex.specs.Tables.{row_at, bound_at}
+use Rattle.rob_table.specs.Tables.{row_at, bound_at}
+use Rattle.rob_table.proofs.Places.{row_within}
 use Rattle.rob_simplex.specs.Dictionaries.{Table, columns_of, basic_columns, right_column, read_row, rows_of, IsSound, FirstNegative}
 use Rattle.rob_entries.specs.Choices.{IsLowest}
-use Rattle.rob_simplex.proofs.Places.{row_within}
 use Rattle.rob_simplex.proofs.ReadRows.{read_near, read_own, read_none, basic_low}
 
 module _ {limit n : ℕ} {basis places near : List ℕ} {table : List ℤ} {bounds : List ℕ} {workspace : ℕ}

@@ -1,12 +1,8 @@
 pub mod Sizes
 pub mod Views
-pub mod Places
-pub mod Clearing
-pub mod ClearingTops
 pub mod Replacing
 pub mod TableClearing
 pub mod RowEdits
-pub mod RowMoves
 pub mod EditLemmas
 pub mod StartLemmas
 pub mod WrittenStarts
@@ -38,11 +34,10 @@ pub mod Prepared
 pub mod ExplicitStart
 pub mod PathsFrom
 pub mod Causes
-pub mod LoweredRows
+pub mod LoweredColumns
 pub mod CostStages
 pub mod BasicColumns
 pub mod NewCosts
-pub mod LoweringSteps
 pub mod LoweredTables
 pub mod ClearedObjective
 pub mod CopiedTables

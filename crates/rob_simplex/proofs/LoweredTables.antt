@@ -7,11 +7,12 @@ use Rattle.rob_linear.specs.Vectors.{Vector}
 use Rattle.rob_linear.specs.Systems.{IsPrimitive}
 use Rattle.rob_linear.specs.Stages.{unit_row}
 use Rattle.rob_linear.proofs.Stages.{unit_one, unit_zero}
-use Rattle.rob_simplex.specs.Tables.{row_at}
-use Rattle.rob_simplex.specs.Lowering.{HasWay, IsLowered, IsWideLowered, step_row, amount_of}
+use Rattle.rob_table.specs.Tables.{row_at}
+use Rattle.rob_table.specs.Lowering.{IsLowered, IsWideLowered, step_row}
+use Rattle.rob_simplex.specs.Lowering.{HasWay, amount_of}
 use Rattle.rob_simplex.specs.Dictionaries.{columns_of, basic_columns, rows_of, IsSound, IsFree}
 use Rattle.rob_simplex.proofs.EditLemmas.{table_with, free_place, objective_place}
-use Rattle.rob_simplex.proofs.LoweredRows.{lowered_read, wide_lowered_read}
+use Rattle.rob_simplex.proofs.LoweredColumns.{lowered_read, wide_lowered_read}
 use Rattle.rob_simplex.proofs.ReadRows.{read_near, read_own, read_none, basic_high}
 
 -- two places of a row, at one of which it is 0

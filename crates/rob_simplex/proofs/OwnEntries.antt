@@ -14,9 +14,9 @@ use Rattle.rob_linear.specs.Stages.{unit_row}
 use Rattle.rob_linear.specs.Multiples.{HasMultipleRows}
 use Rattle.rob_linear.proofs.Stages.{unit_zero}
 use Rattle.rob_linear.proofs.Turns.{own_low, own_high}
+use Rattle.rob_table.specs.Lowering.{IsLowered}
 use Rattle.rob_simplex.specs.Dictionaries.{Table, positions, width_of, columns_of, basic_columns, spare_column, rows_of, kept_row_of, IsFree, KeepsOwn}
 use Rattle.rob_simplex.specs.Judging.{HasOwn}
-use Rattle.rob_simplex.specs.Lowering.{IsLowered}
 use Rattle.rob_simplex.specs.Phases.{InBeside, IsOpenBeside}
 use Rattle.rob_simplex.specs.Explicit.{HoldsExplicit, IsPrepared}
 use Rattle.rob_simplex.specs.Pivots.{CanClear, CanPivot}

@@ -9,9 +9,9 @@ use Rattle.rob_algebra.specs.Integer.{mul-zero, one-mul}
 use Rattle.rob_algebra.specs.IntegerOrder.{mul_cancel_zero, mul_cancel_lt}
 use Rattle.rob_linear.specs.Multiples.{IsClearedBy}
 use Rattle.rob_entries.specs.Updates.{IsWideCleared}
+use Rattle.rob_table.proofs.ClearingTops.{cleared_by_times}
 use Rattle.rob_simplex.specs.Dictionaries.{Table, positions, width_of, columns_of, basic_columns, right_column, spare_column, rows_of, kept_row_of, IsFree, IsAlone, IsOpen, IsClosed, IsPivoted, IsBegunPivot, ClearsTable, StopsTable, IsSized}
 use Rattle.rob_simplex.specs.Pivots.{CanPivot, RefusesPivot}
-use Rattle.rob_simplex.proofs.ClearingTops.{cleared_by_times}
 use Rattle.rob_simplex.proofs.Views.{free_as}
 use Rattle.rob_simplex.proofs.ReadRows.{basic_low, basic_high}
 

@@ -5,14 +5,11 @@ use Rattle.std.proofs.lemmas.List.{get_or-set_same, get_or-set_other, length-set
 use lib.IntN.{ℤ, pos}
 use Rattle.rob_linear.specs.CondensedRows.{IsPlaced, IsReplaced, IsTurnedRow}
 use Rattle.rob_linear.proofs.CondensedRows.{placed_again, turned_entry}
-use Rattle.rob_simplex.specs.Tables.{row_at, bound_at, HasBounds}
+use Rattle.rob_table.specs.Tables.{row_at, bound_at, HasBounds}
+use Rattle.rob_table.proofs.Places.{row_within, set_here, set_elsewhere}
+use Rattle.rob_table.proofs.RowMoves.{exchanged_entries}
 use Rattle.rob_simplex.specs.Dictionaries.{Table, columns_of, basic_columns, right_column, read_row, rows_of, kept_row_of, IsSound, IsFree, IsAlone, IsExchanged}
 use Rattle.rob_simplex.proofs.ReadRows.{read_near, read_zero, read_ext, basic_low, basic_high}
-use Rattle.rob_simplex.proofs.Places.{row_within, set_here, set_elsewhere}
-
--- two entries of a row exchanged
-abbrev pub exchanged_entries : List ℤ → ℕ → ℕ → List ℤ
-exchanged_entries rows a b = set (set rows a (get_or rows b (pos 0))) b (get_or rows a (pos 0))
 
 -- ---- a column that comes to a position
 module _ {limit n : ℕ} {basis places near : List ℕ} {table : List ℤ} {bounds : List ℕ} {workspace : ℕ}

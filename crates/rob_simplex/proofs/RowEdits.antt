@@ -6,7 +6,7 @@ use lib.IntN.{ℤ, neg_ℤ, ◌*ℤ◌}
 use Rattle.rob_algebra.specs.Integer.{mul-zero}
 use Rattle.rob_linear.specs.Vectors.{Vector, Columns}
 use Rattle.rob_entries.proofs.WrittenRows.{back_whole}
-use Rattle.rob_simplex.specs.Tables.{row_at, bound_at, HasBounds}
+use Rattle.rob_table.specs.Tables.{row_at, bound_at, HasBounds}
 use Rattle.rob_simplex.specs.Dictionaries.{read_row, IsSound}
 use Rattle.rob_simplex.proofs.ReadRows.{read_near, read_own, read_none}
 

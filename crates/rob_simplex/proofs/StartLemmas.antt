@@ -9,7 +9,7 @@ use Rattle.rob_linear.specs.CondensedRows.{IsPlaced}
 use Rattle.rob_linear.specs.Programs.{Program, kept_row, auxiliary_tag}
 use Rattle.rob_linear.proofs.Programs.{auxiliary_tag-slack, auxiliary_tag-objective}
 use Rattle.rob_linear.proofs.TwoPhases.{kept_one, kept_zero}
-use Rattle.rob_simplex.specs.Tables.{row_at, bound_at, HasBounds}
+use Rattle.rob_table.specs.Tables.{row_at, bound_at, HasBounds}
 use Rattle.rob_simplex.specs.Dictionaries.{columns_of, basic_columns, spare_column, read_row, IsSound}
 use Rattle.rob_simplex.specs.Starts.{start_place, start_column, start_entry, IsStartingTable}
 use Rattle.rob_simplex.proofs.ReadRows.{read_near, read_own, read_none, basic_low, basic_high}

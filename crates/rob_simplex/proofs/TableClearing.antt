@@ -14,10 +14,10 @@ use Rattle.rob_linear.specs.CondensedRows.{IsPlaced}
 use Rattle.rob_linear.specs.Multiples.{IsClearedBy}
 use Rattle.rob_linear.proofs.CondensedNumbers.{entry_primitive}
 use Rattle.rob_entries.specs.Updates.{AreOwn, IsMultipleOf, IsWideCleared}
+use Rattle.rob_table.specs.Tables.{row_at, AreCleared, IsStopped}
+use Rattle.rob_table.proofs.ClearingTops.{cleared_whole, part_positive, part_zero}
 use Rattle.rob_simplex.proofs.ReadRows.{read_near, read_own, read_none, read_same, basic_high}
 use Rattle.rob_simplex.proofs.Replacing.{row_in, free_low, left_at}
-use Rattle.rob_simplex.proofs.ClearingTops.{cleared_whole, part_positive, part_zero}
-use Rattle.rob_simplex.specs.Tables.{row_at, AreCleared, IsStopped}
 use Rattle.rob_simplex.specs.Dictionaries.{Table, columns_of, basic_columns, spare_column, read_row, rows_of, IsSound, ClearsTable, StopsTable}
 use Rattle.rob_simplex.specs.Pivots.{CanClear}
 

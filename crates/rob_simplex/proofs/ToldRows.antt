@@ -3,9 +3,9 @@ use Rattle.std.proofs.Common.{◌≡◌, ℕ, ◌+◌, ◌<◌, ◌≤◌, ◌<�
 use Rattle.std.specs.Bool.{OnFalse, OnTrue}
 use Rattle.std.specs.Prelude.{Bool, true, false, Option, Some, None, IfSome}
 use Rattle.rob_algebra.specs.Width.{Fits, IsWide}
+use Rattle.rob_table.proofs.Places.{read_at}
 use Rattle.rob_simplex.specs.Dictionaries.{Table, columns_of, positions, right_column, rows_of, width_of}
 use Rattle.rob_simplex.specs.Judging.{HasOwn, TellsAt, TellsWideAt, ratio_of}
-use Rattle.rob_simplex.proofs.Places.{read_at}
 
 module _ {view t : Table} (seen : view ≡ t) {i own : ℕ} (has : HasOwn t) (inside : i < positions t)
     (own_at : own ≡ get_or view.basis i own) where

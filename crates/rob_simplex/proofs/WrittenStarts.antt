@@ -1,7 +1,7 @@
 -- The dictionary at the start, from what was told while it was written, and from lists that were lent and written back.
 use Rattle.std.proofs.Common.{◌≡◌, ℕ, ◌+◌, ◌<◌, sym, ap, ◌∙◌, subst, arith, List, length}
 use lib.IntN.{ℤ, pos, neg_ℤ}
-use Rattle.rob_simplex.specs.Tables.{row_at}
+use Rattle.rob_table.specs.Tables.{row_at}
 use Rattle.rob_simplex.specs.Dictionaries.{columns_of, IsSound}
 use Rattle.rob_simplex.specs.Starts.{start_place, start_column, start_entry, IsStartingTable}
 use Rattle.rob_simplex.proofs.StartLemmas.{IsNumbered, starting}

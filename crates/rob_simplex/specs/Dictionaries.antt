@@ -14,7 +14,7 @@ use Rattle.rob_linear.specs.Turns.{ComesBefore}
 use Rattle.rob_linear.specs.CondensedRows.{IsPlaced}
 use Rattle.rob_linear.specs.Multiples.{IsParallel, IsClearedBy}
 use Rattle.rob_entries.specs.Updates.{IsWideCleared}
-use Rattle.rob_simplex.specs.Tables.{row_at, HasBounds}
+use Rattle.rob_table.specs.Tables.{row_at, HasBounds}
 
 -- what contracts see: the limit, the number of structural columns, the basic column of each position, the place of each
 -- column, and the rows one behind another. Public clauses speak of the rows as functions of the column

@@ -1,4 +1,3 @@
-pub mod Tables
 pub mod Dictionaries
 pub mod Judging
 pub mod Pivots

@@ -1,46 +1,12 @@
 -- A row that loses an amount in one column: how the cost of a column is put into the objective's row.
-use Rattle.std.specs.Prelude.{◌≡◌, ◌≢◌, ◌⊎◌, ℕ, suc, ◌+◌, ◌^◌, ◌<◌, ◌≤◌, nat_eq, cond, ℤ, pos, ◌-ℤ◌, ◌*ℤ◌, ◌<ℤ◌, nat_abs, List, length}
-use Rattle.std.specs.Int.RustNames.{unsigned_abs}
+use Rattle.std.specs.Prelude.{◌≡◌, ◌≢◌, ◌⊎◌, ℕ, suc, ◌+◌, ◌^◌, ◌<◌, ◌≤◌, ℤ, pos, ◌*ℤ◌, nat_abs, List, length}
 use Rattle.rob_linear.specs.Vectors.{Vector}
-use Rattle.rob_linear.specs.Systems.{IsPrimitive}
-use Rattle.rob_linear.specs.Stages.{unit_row}
 use Rattle.rob_linear.specs.Multiples.{IsClearedBy}
 use Rattle.rob_entries.specs.Updates.{IsWideCleared}
 use Rattle.rob_rows.specs.PrimitiveParts.{IsWithin}
-use Rattle.rob_simplex.specs.declared.lowering.Lowering.{Lowering}
-use Rattle.rob_simplex.specs.Tables.{row_at, HasBounds}
+use Rattle.rob_table.specs.Lowering.{IsLowered, IsWideLowered}
 use Rattle.rob_simplex.specs.Dictionaries.{Table, positions, width_of, columns_of, rows_of, IsAlone, IsFree}
 use Rattle.rob_simplex.specs.Pivots.{CanClear}
-
--- the row has a way, where it is 0, and isn't 0 at its own entry; the row behind it is there too
-pub record CanLower (limit : ℕ) (there : Lowering) (rows : List ℤ) (bounds : List ℕ) (workspace : ℕ) : Type 0 where
-  pub few : there.n < 2 ^ 31
-  pub bounded : HasBounds limit (there.n + 4) rows bounds
-  pub inside : there.row + 1 < length bounds
-  pub workspace_is : workspace ≡ there.n + 4
-  pub way_in : there.way < there.n + 3
-  pub place_in : there.place < there.n + 3
-  pub apart : there.place ≢ there.way
-  pub zero : row_at rows (there.n + 4) there.row there.way ≡ pos 0
-  pub own : row_at rows (there.n + 4) there.row (there.n + 3) ≢ pos 0
-
--- the amount is subtracted in that column, up to a positive factor
-pub record IsLowered (n column : ℕ) (amount : ℤ) (row new : Vector) : Type 0 where
-  pub divisor : ℤ
-  pub p : ℤ
-  pub divides : pos 0 <ℤ divisor
-  pub positive : pos 0 <ℤ p
-  pub entries : (k : ℕ) → k < n → divisor *ℤ new k ≡ p *ℤ (row k -ℤ (amount *ℤ unit_row column k))
-
--- what the row becomes, in lowest terms, has an entry over the limit
-abbrev pub IsWideLowered : ℕ → ℕ → ℕ → ℤ → Vector → Type 0
-IsWideLowered limit n column amount row =
-    (new : Vector) × IsLowered n column amount row new × IsPrimitive n new
-    × ((k : ℕ) × (k < n) × (limit < unsigned_abs (new k)))
-
--- the row that subtracts: 1 at one place, a number at another, and 0 elsewhere
-abbrev pub step_row : ℕ → ℕ → ℤ → Vector
-step_row one place number k = cond (nat_eq k one) (pos 1) (cond (nat_eq k place) number (pos 0))
 
 -- what is subtracted in the objective's row for the cost of a column: that many times the objective's entry
 abbrev pub amount_of : Table → ℤ → ℤ

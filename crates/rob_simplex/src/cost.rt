@@ -6,17 +6,18 @@ ghost use Rattle.rob_linear.specs.Programs.{Program, with_cost};
 ghost use Rattle.rob_linear.specs.Stages.{truncated, unit_row};
 ghost use Rattle.rob_linear.specs.WideRows.{IsOwnWideAt, HasWideRowFrom};
 ghost use Rattle.rob_number.specs.Counts.{CountsOnly};
+ghost use Rattle.rob_table.specs.Lowering.{IsLowered, IsWideLowered};
 ghost use Rattle.rob_simplex.specs.Dictionaries.{positions, width_of, columns_of, rows_of, IsSized};
-ghost use Rattle.rob_simplex.specs.Lowering.{IsLowered, IsWideLowered, amount_of, HasCleared, HasRefusedCost, CanLowerAndClear, CanLowerObjective, IsBasicAt, IsCostOf};
+ghost use Rattle.rob_simplex.specs.Lowering.{amount_of, HasCleared, HasRefusedCost, CanLowerAndClear, CanLowerObjective, IsBasicAt, IsCostOf};
 ghost use Rattle.rob_simplex.specs.Phases.{StandsFor, EndsFrom};
 ghost use Rattle.rob_simplex.specs.Judging.{Tells};
 ghost use Rattle.rob_simplex.specs.PathEnds.{PathStopsFrom};
 
 use crate::dictionary::Dictionary;
-use crate::lowering::{Lowering, Step, lower_row, write_step};
 use crate::state::{Cause, Halt};
 use rob_entries::Entry;
 use rob_number::{Exact, Ledger, Wide};
+use rob_table::lowering::{Lowering, Step, lower_row, write_step};
 
 impl<E: Entry> Dictionary<E> {
     /// Makes the objective's row that of the cost 0: 1 in its own column, and 0 elsewhere.

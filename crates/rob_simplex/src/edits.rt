@@ -5,8 +5,8 @@ ghost use Rattle.rob_linear.specs.Beside.{exchanged};
 ghost use Rattle.rob_simplex.specs.Dictionaries.{positions, width_of, columns_of, rows_of, kept_row_of, IsFree, IsSized};
 
 use crate::dictionary::Dictionary;
-use crate::row_moves::{copy_row, empty_place, exchange_rows, write_unit};
 use rob_entries::Entry;
+use rob_table::row_moves::{copy_row, empty_place, exchange_rows, write_unit};
 
 impl<E: Entry> Dictionary<E> {
     /// Two positions exchange their rows and columns.

@@ -7,9 +7,9 @@ ghost use Rattle.rob_simplex.specs.Dictionaries.{positions, rows_of, IsBegunPivo
 ghost use Rattle.rob_simplex.specs.Pivots.{CanClear, CanPivot, HasPivoted, RefusesPivot};
 
 use crate::dictionary::Dictionary;
-use crate::table::{Pivot, clear_rows};
 use rob_entries::Entry;
 use rob_number::Ledger;
+use rob_table::table::{Pivot, clear_rows};
 
 impl<E: Entry> Dictionary<E> {
     /// Clears the column in all rows before `count` but this one, whose position is open. After an `Err`, which names

@@ -1,7 +1,7 @@
 //! A row of a table that is divided by what is common to its entries, or negated.
 
 ghost use Rattle.std.specs.Prelude.{◌≡◌, ◌≢◌, ◌<◌, ◌≤◌, ◌<ℤ◌, ◌*ℤ◌, ℕ, ℤ, pos, neg_ℤ, length};
-ghost use Rattle.rob_simplex.specs.Tables.{row_at, HasBounds, IsUnchangedBut};
+ghost use Rattle.rob_table.specs.Tables.{row_at, HasBounds, IsUnchangedBut};
 ghost use Rattle.rob_simplex.specs.Dictionaries.{positions, rows_of, kept_row_of, IsSized};
 
 use crate::dictionary::Dictionary;

@@ -4,15 +4,15 @@
 ghost use Rattle.std.specs.Prelude.{◌≡◌, ◌≢◌, ◌⊎◌, ◌<◌, ◌≤◌, ◌+◌, ◌-◌, ◌*◌, ◌^◌, ℕ, [], pos, neg_ℤ, nat_abs, slice_index_or, length, IfOk};
 ghost use Rattle.rob_linear.specs.Vectors.{at};
 ghost use Rattle.rob_rows.specs.LinearPrograms.{HasNumbersWithin, program_of};
-ghost use Rattle.rob_simplex.specs.Tables.{row_at, HasBounds, IsUnchangedBut};
+ghost use Rattle.rob_table.specs.Tables.{row_at, HasBounds, IsUnchangedBut};
 ghost use Rattle.rob_simplex.specs.Starts.{start_entry, CanTellProgram, IsStartingTable};
 
 use crate::dictionary::Dictionary;
-use crate::row_moves::write_number;
 use crate::starting_places::{number_near, number_places, number_slacks};
 use rob_entries::{Cells, Entry, PivotRow};
 use rob_number::Memory;
 use rob_rows::Rows;
+use rob_table::row_moves::write_number;
 use std::alloc::Global;
 
 impl<E: Entry> Dictionary<E> {

@@ -1,4 +1,4 @@
-use Rattle.rob_simplex.proofs.Clearing.{rows_apart}
+use Rattle.rob_table.proofs.Clearing.{rows_apart}
 use Rattle.rob_simplex.proofs.RowEdits.{negated_bounds}
 use Rattle.rob_simplex.proofs.row_edits.negate_row.Goals as goal
 

@@ -1,7 +1,7 @@
 use Rattle.std.proofs.Common.{arith, pos}
 use Rattle.std.proofs.lemmas.Int.{ints}
 use Rattle.rob_algebra.specs.Integer.{one-mul}
-use Rattle.rob_simplex.specs.Tables.{row_at}
+use Rattle.rob_table.specs.Tables.{row_at}
 use Rattle.rob_simplex.proofs.row_edits.reduce_unless_one.Goals as goal
 
 pub returns-then-size-eq1-clause-row : goal.returns-then-size-eq1-clause-row

@@ -2,8 +2,8 @@ use Rattle.std.proofs.Common.{◌≡◌, ◌∙◌, ◌<◌, ◌≤◌, ◌+◌,
 use Rattle.std.proofs.lemmas.Int.{ints}
 use lib.IntN.{neg_ℤ}
 use Rattle.rob_linear.specs.Vectors.{at}
+use Rattle.rob_table.proofs.RowMoves.{written_more, written_elsewhere, set_size}
 use Rattle.rob_simplex.specs.Starts.{start_entry}
-use Rattle.rob_simplex.proofs.RowMoves.{written_more, written_elsewhere, set_size}
 use Rattle.rob_simplex.proofs.starting_rows.write_behind.Goals as goal
 
 pub loop-k-preserved : goal.loop-k-preserved

@@ -2,8 +2,8 @@ use Rattle.std.proofs.Common.{ℕ, ◌<◌, ◌≤◌, ◌+◌, ◌^◌, sym, su
 use Rattle.std.proofs.lemmas.Int.{ints}
 use lib.IntN.{ℤ, neg_ℤ}
 use Rattle.rob_linear.specs.Vectors.{at}
-use Rattle.rob_simplex.specs.Tables.{row_at}
-use Rattle.rob_simplex.proofs.RowMoves.{written_bounds}
+use Rattle.rob_table.specs.Tables.{row_at}
+use Rattle.rob_table.proofs.RowMoves.{written_bounds}
 use Rattle.rob_simplex.proofs.StartLemmas.{entry_within, largest_within}
 use Rattle.rob_simplex.proofs.starting_rows.write_cost.Goals as goal
 

@@ -3,9 +3,9 @@ use Rattle.std.proofs.lemmas.Bool.{cases_lt}
 use Rattle.std.proofs.lemmas.Int.{to_z-of_z}
 use lib.IntN.{ℤ, neg_ℤ}
 use Rattle.rob_linear.specs.Vectors.{at}
-use Rattle.rob_simplex.specs.Tables.{row_at}
+use Rattle.rob_table.specs.Tables.{row_at}
+use Rattle.rob_table.proofs.RowMoves.{written_bounds}
 use Rattle.rob_simplex.specs.Starts.{start_entry}
-use Rattle.rob_simplex.proofs.RowMoves.{written_bounds}
 use Rattle.rob_simplex.proofs.StartLemmas.{entry_low, entry_within, largest_within}
 use Rattle.rob_simplex.proofs.starting_rows.write_row.Goals as goal
 

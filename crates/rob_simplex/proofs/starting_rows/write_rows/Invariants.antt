@@ -1,7 +1,7 @@
 -- The rows before row i are written.
 use Rattle.std.specs.Prelude.{◌≡◌, ℕ, [], ◌<◌, ◌+◌, pos, neg_ℤ, slice_index_or, length}
 use Rattle.rob_linear.specs.Vectors.{at}
-use Rattle.rob_simplex.specs.Tables.{row_at, HasBounds}
+use Rattle.rob_table.specs.Tables.{row_at, HasBounds}
 use Rattle.rob_simplex.specs.Starts.{start_entry}
 use Rattle.rob_simplex.proofs.starting_rows.write_rows.Given as goal
 

@@ -1,7 +1,7 @@
 use Rattle.std.proofs.Common.{◌≡◌, ◌<◌, ◌≤◌, ◌+◌, ◌-◌, ◌*◌, ◌^◌, arith, length, get_or, pos, nat_abs, inr, to_z, of_z, w64}
 use Rattle.rob_linear.specs.Vectors.{at}
 use Rattle.rob_number.proofs.CastLemmas.{seen_within}
-use Rattle.rob_simplex.proofs.RowMoves.{written_more, written_elsewhere, set_size}
+use Rattle.rob_table.proofs.RowMoves.{written_more, written_elsewhere, set_size}
 use Rattle.rob_simplex.proofs.starting_rows.write_structural.Goals as goal
 
 pub loop-k-preserved : goal.loop-k-preserved

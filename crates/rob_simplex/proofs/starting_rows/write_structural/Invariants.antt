@@ -1,7 +1,7 @@
 -- The entries before place k are written, and other rows are as they were.
 use Rattle.std.specs.Prelude.{◌≡◌, ◌≢◌, ℕ, ◌<◌, length}
 use Rattle.rob_linear.specs.Vectors.{at}
-use Rattle.rob_simplex.specs.Tables.{row_at}
+use Rattle.rob_table.specs.Tables.{row_at}
 use Rattle.rob_simplex.proofs.starting_rows.write_structural.Given as goal
 
 abbrev pub invariant-loop-k : goal.invariant-loop-k

@@ -1,6 +1,6 @@
 use Rattle.std.proofs.Common.{◌<◌, ◌^◌, ◌∙◌, ap, sym, subst}
+use Rattle.rob_table.proofs.Places.{read_at}
 use Rattle.rob_simplex.specs.Dictionaries.{Table, positions, columns_of}
-use Rattle.rob_simplex.proofs.Places.{read_at}
 use Rattle.rob_simplex.proofs.ColumnLemmas.{basic_few}
 use Rattle.rob_simplex.proofs.dictionary.Dictionary.basic.Goals as goal
 

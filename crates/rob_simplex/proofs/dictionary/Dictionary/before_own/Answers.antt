@@ -1,6 +1,6 @@
 use Rattle.std.proofs.Common.{◌≡◌, ◌≢◌, ◌<◌, ◌≤◌, ◌+◌, ◌-◌, sym, subst, arith}
+use Rattle.rob_table.proofs.Places.{read_at}
 use Rattle.rob_simplex.specs.Dictionaries.{Table, positions, columns_of}
-use Rattle.rob_simplex.proofs.Places.{read_at}
 use Rattle.rob_simplex.proofs.dictionary.Dictionary.before_own.Goals as goal
 
 pub returns-clause-not_i : goal.returns-clause-not_i

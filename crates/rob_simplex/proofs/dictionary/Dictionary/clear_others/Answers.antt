@@ -2,13 +2,13 @@ use Rattle.std.proofs.Common.{◌≡◌, ℕ, ◌<◌, ◌≤◌, ◌+◌, ◌�
 use Rattle.std.specs.Prelude.{IfErr}
 use Rattle.std.proofs.lemmas.Result.{on_ok_weaker}
 use Rattle.rob_linear.specs.Vectors.{at}
-use Rattle.rob_simplex.specs.Tables.{row_at, bound_at, IsStopped}
+use Rattle.rob_table.specs.Tables.{row_at, bound_at, IsStopped}
+use Rattle.rob_table.proofs.Places.{read_at}
+use Rattle.rob_table.proofs.ClearingTops.{multiple_in}
 use Rattle.rob_simplex.specs.Dictionaries.{Table, ClearsTable, StopsTable}
-use Rattle.rob_simplex.proofs.Places.{read_at}
 use Rattle.rob_simplex.proofs.RowEdits.{lent_bounds}
 use Rattle.rob_simplex.proofs.EditLemmas.{column_in}
 use Rattle.rob_simplex.proofs.TableClearing.{free_place, row_there, positive_entry, own_there, table_cleared, table_stopped, err_weaker, before, after}
-use Rattle.rob_simplex.proofs.ClearingTops.{multiple_in}
 use Rattle.rob_simplex.proofs.Views.{can_clear}
 use Rattle.rob_simplex.proofs.Sizes.{sized_view}
 use Rattle.rob_simplex.proofs.dictionary.Dictionary.clear_others.Goals as goal

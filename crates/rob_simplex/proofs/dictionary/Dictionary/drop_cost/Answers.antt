@@ -1,8 +1,8 @@
 use Rattle.std.proofs.Common.{◌≡◌, ◌≢◌, ℕ, suc, ◌<◌, ◌+◌, ◌∙◌, ap, subst, arith, length, pos}
 use Rattle.rob_linear.specs.Stages.{unit_row}
-use Rattle.rob_simplex.specs.Tables.{row_at}
+use Rattle.rob_table.specs.Tables.{row_at}
+use Rattle.rob_table.specs.Lowering.{step_row}
 use Rattle.rob_simplex.specs.Dictionaries.{Table, positions, rows_of, width_of}
-use Rattle.rob_simplex.specs.Lowering.{step_row}
 use Rattle.rob_simplex.proofs.RowEdits.{sound_back}
 use Rattle.rob_simplex.proofs.EditLemmas.{table_with, other_read}
 use Rattle.rob_simplex.proofs.LoweredTables.{dropped_objective}

@@ -1,8 +1,8 @@
 use Rattle.std.proofs.Common.{◌≡◌, ℕ, ◌<◌, ◌≤◌, ◌∙◌, subst, set}
 use Rattle.std.proofs.lemmas.List.{length-set}
 use Rattle.rob_linear.specs.Beside.{exchanged}
+use Rattle.rob_table.proofs.Places.{read_at}
 use Rattle.rob_simplex.specs.Dictionaries.{Table, positions, rows_of, kept_row_of, width_of}
-use Rattle.rob_simplex.proofs.Places.{read_at}
 use Rattle.rob_simplex.proofs.EditLemmas.{exchanged_table, exchanged_sound, exchanged_rows, exchanged_kept}
 use Rattle.rob_simplex.proofs.RowEdits.{lent_bounds, bounds_back, length_back}
 use Rattle.rob_simplex.proofs.Sizes.{sized_view}

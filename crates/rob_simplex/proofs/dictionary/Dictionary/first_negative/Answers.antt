@@ -1,6 +1,6 @@
 use Rattle.std.proofs.Common.{◌≡◌, ℕ, ◌<◌, ◌≤◌, ◌+◌, sym, subst, arith, length, List, pos}
 use lib.Signed.{◌≤ℤ◌}
-use Rattle.rob_simplex.specs.Tables.{row_at}
+use Rattle.rob_table.specs.Tables.{row_at}
 use Rattle.rob_simplex.specs.Dictionaries.{Table, positions, columns_of, basic_columns, rows_of, FirstNegative}
 use Rattle.rob_entries.specs.Choices.{IsLowest}
 use Rattle.rob_simplex.proofs.EntryLemmas.{row_inside, is_first, is_none}

@@ -1,10 +1,11 @@
 use Rattle.std.proofs.Common.{◌≡◌, ◌≢◌, ℕ, suc, ◌+◌, ◌<◌, ◌∙◌, ap, sym, subst, arith, length, pos, OnOk, OnErr, to_z, of_z, w64}
 use Rattle.std.proofs.lemmas.Result.{on_ok_weaker, on_err_weaker}
 use Rattle.std.proofs.lemmas.Int.{to_z-of_z}
-use Rattle.rob_simplex.specs.Tables.{row_at}
+use Rattle.rob_table.specs.Tables.{row_at}
+use Rattle.rob_table.specs.Lowering.{IsLowered, IsWideLowered}
+use Rattle.rob_table.proofs.Places.{read_at}
 use Rattle.rob_simplex.specs.Dictionaries.{Table, positions, rows_of, width_of, columns_of}
-use Rattle.rob_simplex.specs.Lowering.{HasWay, IsLowered, IsWideLowered, amount_of}
-use Rattle.rob_simplex.proofs.Places.{read_at}
+use Rattle.rob_simplex.specs.Lowering.{HasWay, amount_of}
 use Rattle.rob_simplex.proofs.RowEdits.{lent_bounds, sound_back, sound_loaded}
 use Rattle.rob_simplex.proofs.EditLemmas.{table_with, column_in}
 use Rattle.rob_simplex.proofs.ReadRows.{read_same}

@@ -1,8 +1,9 @@
 use Rattle.std.proofs.Common.{◌≡◌, ℕ, ◌+◌, ◌∙◌, ap, subst, arith, inl, to_z, of_z, w64}
 use Rattle.std.proofs.lemmas.Int.{to_z-of_z}
 use lib.IntN.{ℤ}
+use Rattle.rob_table.specs.Lowering.{IsLowered, IsWideLowered}
 use Rattle.rob_simplex.specs.Dictionaries.{Table, positions, width_of, rows_of, StopsTable}
-use Rattle.rob_simplex.specs.Lowering.{IsLowered, IsWideLowered, amount_of}
+use Rattle.rob_simplex.specs.Lowering.{amount_of}
 use Rattle.rob_rows.proofs.Reductions.{on_err}
 use Rattle.rob_simplex.proofs.OwnEntries.{keeps_lowered}
 use Rattle.rob_simplex.proofs.ReadRows.{basic_high}

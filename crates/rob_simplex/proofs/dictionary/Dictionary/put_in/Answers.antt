@@ -2,11 +2,12 @@ use Rattle.std.proofs.Common.{◌≡◌, ◌+◌, suc, ◌∙◌, ap, sym, subst
 use Rattle.std.proofs.lemmas.Result.{on_ok_weaker, on_err_weaker}
 use Rattle.std.proofs.lemmas.Int.{ints, to_z-of_z}
 use lib.Signed.{◌<ℤ◌}
+use Rattle.rob_table.specs.Lowering.{IsLowered, IsWideLowered}
 use Rattle.rob_simplex.proofs.JudgingLemmas.{stands_own}
 use lib.IntN.{ℤ, pos}
 use Rattle.rob_linear.specs.Stages.{truncated}
 use Rattle.rob_simplex.specs.Dictionaries.{positions, width_of, rows_of}
-use Rattle.rob_simplex.specs.Lowering.{IsLowered, IsWideLowered, amount_of}
+use Rattle.rob_simplex.specs.Lowering.{amount_of}
 use Rattle.rob_simplex.proofs.Positions.{position_is, position_not}
 use Rattle.rob_simplex.proofs.FreeColumns.{way_free, way_zero, column_free}
 use Rattle.rob_simplex.proofs.NewCosts.{nothing_put}

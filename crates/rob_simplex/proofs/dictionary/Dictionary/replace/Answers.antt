@@ -1,7 +1,7 @@
 use Rattle.std.proofs.Common.{◌≡◌, ℕ, ◌<◌, ◌≤◌, ◌+◌, ◌*◌, ◌∙◌, ap, sym, subst, arith, length, pos, set}
 use Rattle.std.proofs.lemmas.List.{length-set}
+use Rattle.rob_table.proofs.Places.{read_at}
 use Rattle.rob_simplex.specs.Dictionaries.{Table, positions, columns_of, rows_of, kept_row_of, IsAlone, IsExchanged}
-use Rattle.rob_simplex.proofs.Places.{read_at}
 use Rattle.rob_simplex.proofs.EntryLemmas.{small_entries}
 use Rattle.rob_simplex.proofs.Replacing.{first_in, left_in, place_low, made_sound, made_rows, made_kept, made_exchanged, made}
 use Rattle.rob_simplex.proofs.EditLemmas.{column_in}

@@ -1,8 +1,8 @@
 use Rattle.std.proofs.Common.{◌≡◌, ◌≤◌, ◌+◌, ◌∙◌, ap, sym, subst, arith, nat_abs, length, List}
 use lib.IntN.{ℤ}
 use Rattle.rob_linear.specs.Vectors.{at}
+use Rattle.rob_table.proofs.RowMoves.{set_size}
 use Rattle.rob_simplex.specs.Dictionaries.{Table, positions, rows_of}
-use Rattle.rob_simplex.proofs.RowMoves.{set_size}
 use Rattle.rob_simplex.proofs.WeightLemmas.{slack_more}
 use Rattle.rob_simplex.proofs.dictionary.Dictionary.slacks.Goals as goal
 

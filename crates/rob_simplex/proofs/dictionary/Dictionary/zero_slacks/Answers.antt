@@ -1,7 +1,7 @@
 use Rattle.std.proofs.Common.{◌≡◌, ℕ, ◌<◌, ◌≤◌, ◌+◌, sym, subst, arith, pos, length, List}
-use Rattle.rob_simplex.specs.Tables.{row_at}
+use Rattle.rob_table.specs.Tables.{row_at}
+use Rattle.rob_table.proofs.Places.{read_at}
 use Rattle.rob_simplex.specs.Dictionaries.{Table, positions, columns_of, rows_of}
-use Rattle.rob_simplex.proofs.Places.{read_at}
 use Rattle.rob_simplex.proofs.EntryLemmas.{zeros_before}
 use Rattle.rob_simplex.proofs.dictionary.Dictionary.zero_slacks.Goals as goal
 
