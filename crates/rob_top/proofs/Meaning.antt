@@ -11,10 +11,6 @@ pub mod SearchStops
 pub mod GeneratedLemmas
 pub mod ComparedLemmas
 pub mod ComparedWorkLemmas
-pub mod PathTextLemmas
-pub mod NodeLemmas
-pub mod ShownLemmas
-pub mod BoxPathLemmas
 pub mod BranchingLemmas
 pub mod TreePlaceLemmas
 pub mod TreeCheckLemmas

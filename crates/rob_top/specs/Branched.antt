@@ -1,29 +1,25 @@
 -- The answers of `whole` and `tree`: the status over plans whose named variables take whole numbers.
-use Rattle.std.specs.Fmt.{decimal}
-use Rattle.std.specs.Prelude.{◌≡◌, ◌≤◌, ◌++◌, ℕ, ℤ, nat_abs, List, Some, codes, map}
+use Rattle.std.specs.Prelude.{◌≡◌, ◌≤◌, ℕ, ℤ, nat_abs, List, Some, map}
 use Rattle.rob_algebra.specs.Fraction.{of_int}
 use Rattle.rob_branch.specs.Growth.{AreBoxesWritten, IsWrittenUpTo}
 use Rattle.rob_dualize.specs.Models.{IsWideIn}
 use Rattle.rob_dualize.specs.Solving.{IsShownEmpty}
-use Rattle.rob_meaning.specs.Certificates.{Certificate, Status, infeasible}
+use Rattle.rob_meaning.specs.Certificates.{Status}
 use Rattle.rob_meaning.specs.Places.{Each}
 use Rattle.rob_meaning.specs.RobustModel.{RobustModel}
 use Rattle.rob_model.specs.declared.place.Spot.{Spot}
 use Rattle.rob_reach.specs.Boxes.{box}
 use Rattle.rob_reach.specs.Growing.{IsGrown, Visits, start}
 use Rattle.rob_reach.specs.Ranges.{whole_rule}
-use Rattle.rob_reach.specs.Trees.{HasLeaf, ProvesTree, Tree, leaves, node_count}
-use Rattle.rob_reach.specs.Verdicts.{Shows}
-use Rattle.rob_reach.specs.WholeStatus.{HasWholeStatus, WholeBound}
-use Rattle.rob_report.specs.Lines.{line as one_line}
-use Rattle.rob_report.specs.Report.{report_of}
+use Rattle.rob_reach.specs.Trees.{ProvesTree, Tree}
+use Rattle.rob_reach.specs.WholeStatus.{HasWholeStatus}
 use Rattle.rob_report.specs.Spots.{empty_set_lines}
 use Rattle.rob_tree.specs.Reading.{TreeFits}
 use Rattle.rob_tree.specs.Shape.{HasTreeShape}
 use Rattle.rob_tree.specs.TreeText.{tree_text}
 use Rattle.rob_tree.specs.View.{branch_of}
 use Rattle.rob_tree.specs.declared.tree.Branch.{Branch}
-use Rattle.rob_top.specs.Answers.{whole_fault_text, wide_node_text}
+use Rattle.rob_commands.specs.Answers.{whole_fault_text, wide_node_text}
 use Rattle.rob_top.specs.Calls.{Call, WasRaised, limit_of}
 use Rattle.rob_top.specs.Commands.{IsBranching}
 use Rattle.rob_top.specs.Inputs.{AreVariables, HasModel, HasVariables, HasWholeVariables, TellsNames}
@@ -34,27 +30,6 @@ use Rattle.rob_words.specs.declared.verb.Verb.TheVariants.{Whole, Tree as TreeVe
 use Rattle.rob_elab.specs.Written.{IsWritten}
 
 -- ---- what is printed
-
--- the certificate is that of the leaf which shows the tree's status: its plan has the certificate's value as its bound,
--- which is the tree's where that is optimal, and whole numbers for the named variables
-pub record IsShownBy (m : RobustModel) (names : List ℕ) (t : Tree) (c : Certificate) : Type 0 where
-  pub here : HasLeaf (λ l. l.certificate ≡ Some c) (leaves m t.root) t.best
-  pub shows : Shows t.status t.value c
-  pub kept : WholeBound m names c.plan c.value
-
--- `nodes N`
-abbrev pub nodes_line : ℕ → List ℕ
-nodes_line count = one_line (codes "nodes " ++ decimal count)
-
--- the report of that certificate; or that the model is infeasible, which no leaf shows
-abbrev pub IsPlanText : RobustModel → List ℕ → Tree → Status → List ℕ → Type 0
-IsPlanText m names t infeasible text = text ≡ one_line (codes "infeasible")
-IsPlanText m names t status text = (c : Certificate) × IsShownBy m names t c × (text ≡ report_of m c)
-
--- what `whole` prints: that, and how many nodes the tree has
-abbrev pub IsReport : RobustModel → List ℕ → Tree → List ℕ → Type 0
-IsReport m names t text =
-    (plan : List ℕ) × IsPlanText m names t t.status plan × (text ≡ plan ++ nodes_line (node_count t.root))
 
 -- what is printed of a tree: that, or the tree itself; other commands print none
 abbrev pub IsPrintedTree : Verb → RobustModel → List ℕ → Tree → List ℕ → Type 0

@@ -7,7 +7,7 @@ use Rattle.rob_meaning.specs.Proves.{Proves, HasStatus}
 use Rattle.rob_meaning.specs.RobustModel.{RobustModel}
 use Rattle.rob_model.specs.declared.place.Place.{Place}
 use Rattle.rob_report.specs.Spots.{rejected_line}
-use Rattle.rob_top.specs.Answers.{accepted_text}
+use Rattle.rob_commands.specs.Answers.{accepted_text}
 use Rattle.rob_top.specs.Calls.{Call, limit_of}
 use Rattle.rob_top.specs.Inputs.{HasCertificate}
 use Rattle.rob_words.specs.Commands.{Line}

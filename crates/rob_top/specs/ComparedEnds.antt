@@ -10,8 +10,8 @@ use Rattle.rob_top.specs.Calls.{Call, limit_of}
 use Rattle.rob_top.specs.Compared.{AsksFor}
 use Rattle.rob_top.specs.Endings.{IsUnput}
 use Rattle.rob_top.specs.Routes.{IsWideOnWay}
-use Rattle.rob_top.specs.declared.ended.Ended.{Ended}
-use Rattle.rob_top.specs.declared.ended.Ended.TheVariants.{Printed, TooWide}
+use Rattle.rob_commands.specs.declared.ended.Ended.{Ended}
+use Rattle.rob_commands.specs.declared.ended.Ended.TheVariants.{Printed, TooWide}
 use Rattle.rob_words.specs.Commands.{Line}
 use Rattle.rob_words.specs.declared.route.Route.{Route}
 

@@ -33,9 +33,10 @@ use Rattle.rob_top.specs.ComparedEnds.{MustEndCompared}
 use Rattle.rob_top.specs.SplitEnds.{MustEndSplit}
 use Rattle.rob_top.specs.TreeEnds.{MustEndTree}
 use Rattle.rob_top.specs.Swept.{HasLimit, HasSweep}
-use Rattle.rob_top.specs.Work.{ended_of, verdict_ended}
-use Rattle.rob_top.specs.declared.ended.Ended.{Ended}
-use Rattle.rob_top.specs.declared.ended.Ended.TheVariants.{Printed, Accepted, Rejected, Words, Missing, TooLong, Model, TooWide, WideNode, Cert, Whole, Sweep, NoRow}
+use Rattle.rob_top.specs.Work.{verdict_ended}
+use Rattle.rob_commands.specs.Replies.{ended_of}
+use Rattle.rob_commands.specs.declared.ended.Ended.{Ended}
+use Rattle.rob_commands.specs.declared.ended.Ended.TheVariants.{Printed, Accepted, Rejected, Words, Missing, TooLong, Model, TooWide, WideNode, Cert, Whole, Sweep, NoRow}
 use Rattle.rob_words.specs.Commands.{Line, IsCommandLine, IsSpelled}
 use Rattle.rob_words.specs.Values.{Word}
 use Rattle.rob_words.specs.declared.route.Route.TheVariants.{Dual}

@@ -28,8 +28,8 @@ use Rattle.rob_tree.specs.declared.tree.Branch.{Branch}
 use Rattle.rob_tree.specs.declared.verdict.LeafFault.{LeafFault}
 use Rattle.rob_top.specs.Routes.{IsWideOnWay}
 use Rattle.rob_top.specs.Searched.{IsWideSought}
-use Rattle.rob_top.specs.declared.ended.Ended.{Ended}
-use Rattle.rob_top.specs.declared.ended.Ended.TheVariants.{Optimal, Infeasible, Unbounded, Printed, Accepted, EmptySet, TooWide, WideNode, WideBudget, TreeRejected, ReadFault, WriteFault, Memory}
+use Rattle.rob_commands.specs.declared.ended.Ended.{Ended}
+use Rattle.rob_commands.specs.declared.ended.Ended.TheVariants.{Optimal, Infeasible, Unbounded, Printed, Accepted, EmptySet, TooWide, WideNode, WideBudget, TreeRejected, ReadFault, WriteFault, Memory}
 use Rattle.rob_words.specs.declared.route.Route.{Route}
 use Rattle.rob_elab.specs.Written.{judged, IsWritten}
 

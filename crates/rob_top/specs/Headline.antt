@@ -30,8 +30,8 @@ use Rattle.rob_top.specs.Split.{IsNoCells}
 use Rattle.rob_top.specs.Swept.{IsNoSweep, IsWideBudget}
 use Rattle.rob_top.specs.TreeChecked.{IsNoTree, IsTreeRejected}
 use Rattle.rob_top.specs.Ways.{Accepts, FindsEmpty, FindsStatus, NamesCertificateLine, NamesWide, NamesWideNode, Prints}
-use Rattle.rob_top.specs.declared.ended.Ended.{Ended}
-use Rattle.rob_top.specs.declared.ended.Ended.TheVariants.{Optimal, Infeasible, Unbounded, Printed, Accepted, Rejected, Words, Missing, TooLong, Model, EmptySet, TooWide, WideNode, WideBudget, Cert, Scenarios, Whole, Sweep, Cells, Tree, TreeRejected, NoRow, ReadFault, WriteFault, Memory}
+use Rattle.rob_commands.specs.declared.ended.Ended.{Ended}
+use Rattle.rob_commands.specs.declared.ended.Ended.TheVariants.{Optimal, Infeasible, Unbounded, Printed, Accepted, Rejected, Words, Missing, TooLong, Model, EmptySet, TooWide, WideNode, WideBudget, Cert, Scenarios, Whole, Sweep, Cells, Tree, TreeRejected, NoRow, ReadFault, WriteFault, Memory}
 
 module _ (call : Call) where
   -- what each answer means, and its text; where several commands give it, specs/Ways.antt has a constructor for each.

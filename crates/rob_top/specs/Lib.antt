@@ -1,8 +1,6 @@
-pub mod Answers
 pub mod Branched
 pub mod Calls
 pub mod Checked
-pub mod Codes
 pub mod Commands
 pub mod Compared
 pub mod ComparedEnds

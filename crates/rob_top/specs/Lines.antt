@@ -3,7 +3,7 @@
 use Rattle.std.specs.Prelude.{◌≡◌, ℕ, ◌==◌, Bool, List, [], ◌∷◌, ◌++◌, if◌then◌else◌}
 use Rattle.rob_outside.specs.Puts.{put_as}
 use Rattle.rob_outside.specs.Taken.{TookPrefix}
-use Rattle.rob_top.specs.Answers.{memory_text}
+use Rattle.rob_commands.specs.Answers.{memory_text}
 use Rattle.rob_top.specs.Calls.{Output}
 
 -- the byte is a line's end

@@ -10,8 +10,8 @@ use Rattle.rob_meaning.specs.RobustModel.{RobustModel}
 use Rattle.rob_report.specs.NarrowText.{bound_line, narrow_line}
 use Rattle.rob_top.specs.Calls.{Call, limit_of}
 use Rattle.rob_top.specs.Inputs.{HasForms}
-use Rattle.rob_top.specs.declared.ended.Ended.TheVariants.{Printed}
-use Rattle.rob_top.specs.declared.reply.Reply.{Reply}
+use Rattle.rob_commands.specs.declared.ended.Ended.TheVariants.{Printed}
+use Rattle.rob_commands.specs.declared.reply.Reply.{Reply}
 use Rattle.rob_words.specs.Commands.{Line}
 use Rattle.rob_words.specs.declared.verb.Verb.TheVariants.{Narrow}
 

@@ -17,7 +17,7 @@ use Rattle.rob_replay.specs.Outcome.{is_wide, outcome}
 use Rattle.rob_replay.specs.View.{Gives}
 use Rattle.rob_report.specs.Spots.{too_wide_line}
 use Rattle.rob_sets.specs.FirstWide.{IsFirstWide}
-use Rattle.rob_top.specs.Answers.{certificate_fault_text, missing_text, model_fault_text, read_text, too_long_text, words_text}
+use Rattle.rob_commands.specs.Answers.{certificate_fault_text, missing_text, model_fault_text, read_text, too_long_text, words_text}
 use Rattle.rob_top.specs.Calls.{Call, WasRaised, limit_of}
 use Rattle.rob_top.specs.Commands.{IsElaborating, IsSolving}
 use Rattle.rob_top.specs.Files.{Came, HasFile, IsFirstAbsent, NamesFile, requests}

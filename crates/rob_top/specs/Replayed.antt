@@ -11,11 +11,11 @@ use Rattle.rob_replay.specs.Outcome.{Refusal, breaks, is_wide, outcome}
 use Rattle.rob_replay.specs.Replayed.{IsTable, ShowsBound}
 use Rattle.rob_replay.specs.View.{Gives}
 use Rattle.rob_report.specs.Tables.{table_of}
-use Rattle.rob_top.specs.Answers.{scenarios_fault_text}
+use Rattle.rob_commands.specs.Answers.{scenarios_fault_text}
 use Rattle.rob_top.specs.Calls.{Call, limit_of}
 use Rattle.rob_top.specs.Inputs.{HasScenarioFile}
-use Rattle.rob_top.specs.declared.ended.Ended.{Ended}
-use Rattle.rob_top.specs.declared.ended.Ended.TheVariants.{Printed, Scenarios, TooWide}
+use Rattle.rob_commands.specs.declared.ended.Ended.{Ended}
+use Rattle.rob_commands.specs.declared.ended.Ended.TheVariants.{Printed, Scenarios, TooWide}
 use Rattle.rob_words.specs.Commands.{Line}
 
 -- the answer for the outcome of a file's records: its table, the rule that is broken first, or the first record with a

@@ -11,21 +11,16 @@ use Rattle.rob_words.specs.Verbs.{own_of}
 use Rattle.rob_words.specs.declared.verb.Own.{Own}
 use Rattle.rob_words.specs.declared.verb.Own.TheVariants as own
 use Rattle.rob_words.specs.declared.line.CommandLine.{CommandLine}
-use Rattle.rob_top.specs.Answers.{missing_text, too_long_text, read_text}
+use Rattle.rob_commands.specs.Answers.{missing_text, too_long_text, read_text}
 use Rattle.rob_top.specs.Calls.{Call, Count, Source, WasRaised}
 use Rattle.rob_top.specs.Files.{Came, Request, AsksInOrder, IsFound, IsFoundIn, files_of, requests, request_of}
-use Rattle.rob_top.specs.declared.ended.Ended.{Ended}
-use Rattle.rob_top.specs.declared.ended.Ended.TheVariants.{Missing, TooLong, ReadFault}
+use Rattle.rob_commands.specs.declared.ended.Ended.{Ended}
+use Rattle.rob_commands.specs.declared.ended.Ended.TheVariants.{Missing, TooLong, ReadFault}
 use Rattle.rob_top.specs.declared.files.Files.{Files}
 use Rattle.rob_top.specs.declared.files.Files.TheVariants as fetch
 use Rattle.rob_top.specs.declared.files.Got.{Got}
 use Rattle.rob_top.specs.declared.files.Got.TheVariants.{Bytes, Answer}
 use Rattle.rob_top.specs.declared.files.Texts.{Texts}
-use Rattle.rob_top.specs.declared.reply.Reply.{Reply}
-
--- the reply is this answer with this text
-abbrev pub Replies : Ended → List ℕ → Reply → Type 0
-Replies ended text reply = (reply.ended ≡ ended) × (reply.text ≡ text)
 
 -- some words are the command line
 abbrev pub IsRead : CommandLine → Type 0

@@ -14,10 +14,10 @@ use Rattle.rob_report.specs.Worst.{along_text, greatest_text}
 use Rattle.rob_runs.specs.Spots.{slack_of}
 use Rattle.rob_top.specs.Calls.{Count, WasRaised}
 use Rattle.rob_top.specs.Inputs.{HasCertificate, HasCertificateFile, HasPlan, HasSought, TellsForm}
-use Rattle.rob_top.specs.Replies.{Replies}
+use Rattle.rob_commands.specs.Replies.{Replies}
 use Rattle.rob_top.specs.Work.{Answers}
-use Rattle.rob_top.specs.declared.ended.Ended.TheVariants.{Printed, TooWide}
-use Rattle.rob_top.specs.declared.reply.Reply.{Reply}
+use Rattle.rob_commands.specs.declared.ended.Ended.TheVariants.{Printed, TooWide}
+use Rattle.rob_commands.specs.declared.reply.Reply.{Reply}
 use Rattle.rob_words.specs.Values.{Word}
 use Rattle.rob_words.specs.declared.verb.Verb.TheVariants as verbs
 

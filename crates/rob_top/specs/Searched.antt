@@ -21,7 +21,7 @@ use Rattle.rob_runs.specs.Searches.{FindsRay, FindsScenario}
 use Rattle.rob_runs.specs.Spots.{IsWideSlack}
 use Rattle.rob_runs.specs.Told.{HasNoGreatestAlong}
 use Rattle.rob_worst.specs.Finding.{IsWideAt}
-use Rattle.rob_top.specs.Answers.{no_row_text}
+use Rattle.rob_commands.specs.Answers.{no_row_text}
 use Rattle.rob_top.specs.Calls.{Call, limit_of}
 use Rattle.rob_top.specs.Inputs.{HasPlan, HasSought, TellsForm}
 use Rattle.rob_words.specs.Commands.{Line}

@@ -21,10 +21,9 @@ use Rattle.rob_model.specs.declared.place.Spot.{Spot}
 use Rattle.rob_pieces.specs.Cuts.{CellHolds, Cut, IsCell, cell_count}
 use Rattle.rob_pieces.specs.Pieces.{IsPieceInfeasible, IsPieceOptimal, IsPieceUnbounded, PieceBound, piece_of}
 use Rattle.rob_pieces.specs.SplitModel.{split_model}
-use Rattle.rob_report.specs.Lines.{line as one_line}
 use Rattle.rob_report.specs.Report.{report_of}
 use Rattle.rob_report.specs.Spots.{empty_set_lines, too_wide_line}
-use Rattle.rob_top.specs.Answers.{fault_text}
+use Rattle.rob_commands.specs.Answers.{fault_text}
 use Rattle.rob_top.specs.Calls.{Call, WasRaised, limit_of}
 use Rattle.rob_top.specs.Commands.{IsSplitting}
 use Rattle.rob_top.specs.Files.{word_of}
@@ -97,10 +96,6 @@ IsPieceKept m cuts c status = PieceBound m cuts (piece_of m cuts c.plan) c.value
 -- each cell holds a scenario that the model admits
 abbrev pub EachCellAdmits : RobustModel → List Cut → Type 0
 EachCellAdmits m cuts = (c : ℕ) → IsCell cuts c → (u : List Fraction) × (AdmitsIn m 0 u × CellHolds cuts c u)
-
--- `cells K`
-abbrev pub cells_line : ℕ → List ℕ
-cells_line count = one_line (codes "cells " ++ decimal count)
 
 -- a rule of cuts is broken
 abbrev pub cells_fault_text : ℕ → List ℕ

@@ -12,9 +12,9 @@ use Rattle.rob_sets.specs.FirstWide.{IsFirstWide}
 use Rattle.rob_top.specs.Calls.{Call, limit_of}
 use Rattle.rob_top.specs.Endings.{EndsAs, IsOutside, IsWideBefore}
 use Rattle.rob_top.specs.Split.{BreaksCells, EachCellAdmits, HasSplit, HasStatusOverPieces}
-use Rattle.rob_top.specs.Work.{ended_of}
-use Rattle.rob_top.specs.declared.ended.Ended.{Ended}
-use Rattle.rob_top.specs.declared.ended.Ended.TheVariants.{Optimal, Infeasible, Unbounded, Printed, EmptySet, TooWide, Cells as CellsRule}
+use Rattle.rob_commands.specs.Replies.{ended_of}
+use Rattle.rob_commands.specs.declared.ended.Ended.{Ended}
+use Rattle.rob_commands.specs.declared.ended.Ended.TheVariants.{Optimal, Infeasible, Unbounded, Printed, EmptySet, TooWide, Cells as CellsRule}
 use Rattle.rob_words.specs.Commands.{Line}
 use Rattle.rob_words.specs.declared.verb.Verb.TheVariants.{Cells, CellText}
 use Rattle.rob_elab.specs.Written.{judged}

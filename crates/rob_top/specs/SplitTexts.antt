@@ -13,8 +13,8 @@ use Rattle.rob_top.specs.Endings.{IsOutside}
 use Rattle.rob_top.specs.Inputs.{HasModelText}
 use Rattle.rob_top.specs.Routes.{IsWideOnWay}
 use Rattle.rob_top.specs.Split.{EachCellAdmits, HasStatusOverPieces, IsSplitText}
-use Rattle.rob_top.specs.declared.ended.Ended.{Ended}
-use Rattle.rob_top.specs.declared.ended.Ended.TheVariants.{Optimal, Infeasible, Unbounded, EmptySet, TooWide}
+use Rattle.rob_commands.specs.declared.ended.Ended.{Ended}
+use Rattle.rob_commands.specs.declared.ended.Ended.TheVariants.{Optimal, Infeasible, Unbounded, EmptySet, TooWide}
 use Rattle.rob_words.specs.Commands.{Line}
 use Rattle.rob_words.specs.declared.route.Route.{Route}
 use Rattle.rob_elab.specs.Written.{judged, IsWritten}

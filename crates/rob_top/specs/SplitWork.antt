@@ -11,11 +11,12 @@ use Rattle.rob_report.specs.Report.{report_of}
 use Rattle.rob_top.specs.Calls.{Count}
 use Rattle.rob_top.specs.Inputs.{HasModel}
 use Rattle.rob_top.specs.WorkStops.{RepliesStop}
-use Rattle.rob_top.specs.Replies.{Replies}
-use Rattle.rob_top.specs.Split.{HasCuts, TellsCuts, cells_line}
-use Rattle.rob_top.specs.Work.{Answers, ended_of}
-use Rattle.rob_top.specs.declared.ended.Ended.TheVariants.{Printed}
-use Rattle.rob_top.specs.declared.reply.Reply.{Reply}
+use Rattle.rob_commands.specs.Replies.{Replies, ended_of}
+use Rattle.rob_top.specs.Split.{HasCuts, TellsCuts}
+use Rattle.rob_commands.specs.Answers.{cells_line}
+use Rattle.rob_top.specs.Work.{Answers}
+use Rattle.rob_commands.specs.declared.ended.Ended.TheVariants.{Printed}
+use Rattle.rob_commands.specs.declared.reply.Reply.{Reply}
 use Rattle.rob_words.specs.Values.{Word}
 use Rattle.rob_words.specs.declared.route.Route.TheVariants.{Dual}
 use Rattle.rob_words.specs.declared.verb.Verb.{Verb}

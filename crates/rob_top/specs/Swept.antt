@@ -9,7 +9,7 @@ use Rattle.rob_reach.specs.Sweeps.{IsBudgetAt, SweepAnswer, Swept, is_optimal, w
 use Rattle.rob_sweep.specs.Answering.{AreWritten, EachAnswer, EachGrowsHarder, NamesEmpty}
 use Rattle.rob_sweep.specs.Stops.{BreaksRule, IsWideAtLimit, KeepsRules}
 use Rattle.rob_sweep.specs.SweepText.{sweep_text}
-use Rattle.rob_top.specs.Answers.{sweep_fault_text, wide_budget_text}
+use Rattle.rob_commands.specs.Answers.{sweep_fault_text, wide_budget_text}
 use Rattle.rob_top.specs.Calls.{Call, WasRaised, limit_of}
 use Rattle.rob_top.specs.Files.{word_of}
 use Rattle.rob_top.specs.Inputs.{HasModel}

@@ -11,7 +11,7 @@ use Rattle.rob_tree.specs.TreeText.{IsTextOfTree}
 use Rattle.rob_tree.specs.View.{branch_of}
 use Rattle.rob_tree.specs.declared.tree.Branch.{Branch}
 use Rattle.rob_tree.specs.declared.verdict.LeafFault.{LeafFault}
-use Rattle.rob_top.specs.Answers.{accepted_by, rejected_leaf_text, tree_fault_text, wide_node_text}
+use Rattle.rob_commands.specs.Answers.{accepted_by, rejected_leaf_text, tree_fault_text, wide_node_text}
 use Rattle.rob_top.specs.Calls.{Call, WasRaised, limit_of}
 use Rattle.rob_top.specs.Files.{HasFile}
 use Rattle.rob_top.specs.Inputs.{HasWholeVariables}

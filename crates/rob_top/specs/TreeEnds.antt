@@ -6,8 +6,8 @@ use Rattle.rob_reach.specs.Trees.{ProvesTree, Tree}
 use Rattle.rob_tree.specs.Reading.{Breaks as BreaksTree}
 use Rattle.rob_top.specs.Calls.{Call, limit_of}
 use Rattle.rob_top.specs.TreeChecked.{HasTree, HasTreeFile}
-use Rattle.rob_top.specs.declared.ended.Ended.{Ended}
-use Rattle.rob_top.specs.declared.ended.Ended.TheVariants.{Accepted, Tree as TreeRule}
+use Rattle.rob_commands.specs.declared.ended.Ended.{Ended}
+use Rattle.rob_commands.specs.declared.ended.Ended.TheVariants.{Accepted, Tree as TreeRule}
 use Rattle.rob_words.specs.Commands.{Line}
 use Rattle.rob_top.specs.Endings.{IsOutside, EndsAs, NamesFault, NamesWidth, IsTreeAnswer}
 

@@ -7,16 +7,16 @@ use Rattle.rob_tree.specs.declared.verdict.LeafFault.{LeafFault}
 use Rattle.rob_tree.specs.declared.verdict.LeafFault.TheVariants.{At}
 use Rattle.rob_tree.specs.declared.verdict.TreeVerdict.{TreeVerdict}
 use Rattle.rob_tree.specs.declared.verdict.TreeVerdict.TheVariants as verdict
-use Rattle.rob_top.specs.Answers.{accepted_by, rejected_leaf_text, wide_node_text}
+use Rattle.rob_commands.specs.Answers.{accepted_by, rejected_leaf_text, wide_node_text}
 use Rattle.rob_top.specs.Calls.{Count}
 use Rattle.rob_top.specs.Files.{HasFile}
 use Rattle.rob_top.specs.Inputs.{HasModel, HasVariables, TellsNames}
-use Rattle.rob_top.specs.Replies.{Replies}
+use Rattle.rob_commands.specs.Replies.{Replies}
 use Rattle.rob_top.specs.TreeChecked.{HasTree, HasTreeFile}
 use Rattle.rob_top.specs.Work.{Answers}
-use Rattle.rob_top.specs.WorkStops.{IsBoxSpotOf}
-use Rattle.rob_top.specs.declared.ended.Ended.TheVariants.{Accepted, TreeRejected, WideNode}
-use Rattle.rob_top.specs.declared.reply.Reply.{Reply}
+use Rattle.rob_commands.specs.Stops.{IsBoxSpotOf}
+use Rattle.rob_commands.specs.declared.ended.Ended.TheVariants.{Accepted, TreeRejected, WideNode}
+use Rattle.rob_commands.specs.declared.reply.Reply.{Reply}
 use Rattle.rob_words.specs.Names.{parts_of}
 use Rattle.rob_words.specs.declared.verb.Own.TheVariants as own
 use Rattle.rob_words.specs.declared.verb.Verb.TheVariants.{CheckTree}

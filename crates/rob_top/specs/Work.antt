@@ -1,7 +1,6 @@
 -- What the work on a model answers, whichever call it is done for.
 use Rattle.std.specs.Prelude.{◌≡◌, ℕ, ◌^◌, ◌≤◌, List, length}
 use Rattle.rob_algebra.specs.Fraction.{Fraction}
-use Rattle.rob_meaning.specs.Certificates as meaning
 use Rattle.rob_meaning.specs.Certificates.{Certificate}
 use Rattle.rob_check.specs.declared.verdict.Verdict.{Verdict}
 use Rattle.rob_check.specs.declared.verdict.Verdict.TheVariants as verdict
@@ -14,13 +13,14 @@ use Rattle.rob_top.specs.Files.{HasFile}
 use Rattle.rob_top.specs.Generated.{TellsNumber}
 use Rattle.rob_top.specs.Headline.{Means}
 use Rattle.rob_top.specs.Inputs.{HasModel, HasForms, HasCertificateFile, HasCertificate, HasScenarioFile, HasVariables, TellsNames}
-use Rattle.rob_top.specs.Replies.{HasTexts, Replies}
-use Rattle.rob_top.specs.declared.ended.Ended.{Ended}
-use Rattle.rob_top.specs.declared.ended.Ended.TheVariants.{Optimal, Infeasible, Unbounded, Printed, Accepted, Rejected, TooWide}
+use Rattle.rob_top.specs.Replies.{HasTexts}
+use Rattle.rob_commands.specs.Replies.{Replies}
+use Rattle.rob_commands.specs.declared.ended.Ended.{Ended}
+use Rattle.rob_commands.specs.declared.ended.Ended.TheVariants.{Printed, Accepted, Rejected, TooWide}
 use Rattle.rob_top.specs.declared.files.Files.{Files}
 use Rattle.rob_top.specs.declared.files.Files.TheVariants as fetch
 use Rattle.rob_top.specs.declared.files.Texts.{Texts}
-use Rattle.rob_top.specs.declared.reply.Reply.{Reply}
+use Rattle.rob_commands.specs.declared.reply.Reply.{Reply}
 use Rattle.rob_words.specs.Commands.{Line}
 use Rattle.rob_words.specs.Names.{parts_of}
 use Rattle.rob_words.specs.Values.{Word}
@@ -125,12 +125,6 @@ module _ (limit : ℕ) (wides : Count) where
     -- that of each one for `sweep`, whose words tell this statement and these limits
     abbrev pub AnswersSweep : ℕ → List Fraction → Reply → Type 0
     AnswersSweep n limits reply = Answers verbs.Sweep (λ call line. HasSweep call line m n limits) reply
-
--- the answer for a status
-abbrev pub ended_of : meaning.Status → Ended
-ended_of meaning.optimal = Optimal
-ended_of meaning.infeasible = Infeasible
-ended_of meaning.unbounded = Unbounded
 
 -- the answer for a verdict
 abbrev pub verdict_ended : Verdict → Ended

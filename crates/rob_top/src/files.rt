@@ -10,8 +10,8 @@ ghost use Rattle.rob_top.specs.Work.{IsShortFetch};
 ghost use Rattle.rob_words.specs.Answers.{line_of};
 ghost use Rattle.rob_words.specs.Verbs.{own_of};
 
-use crate::ended::Ended;
-use crate::reply::{Reply, fault};
+use rob_commands::Ended;
+use rob_commands::reply::{Reply, fault};
 use rob_number::Memory;
 use rob_outside::{Fetched, Shelf, ShelfErr};
 use rob_words::{CommandLine, Own};

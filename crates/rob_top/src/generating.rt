@@ -6,7 +6,8 @@ ghost use Rattle.rob_top.specs.Calls.{count};
 ghost use Rattle.rob_top.specs.Commands.{reads_model};
 ghost use Rattle.rob_top.specs.ComparedWork.{AnswersNumber};
 ghost use Rattle.rob_top.specs.Generated.{TellsNumber};
-ghost use Rattle.rob_top.specs.Replies.{IsRead, Replies};
+ghost use Rattle.rob_top.specs.Replies.{IsRead};
+ghost use Rattle.rob_commands.specs.Replies.{Replies};
 ghost use Rattle.rob_top.specs.Work.{RepliesGenerated};
 ghost use Rattle.rob_words.specs.Answers.{line_of};
 ghost use Rattle.rob_words.specs.Verbs.{own_of};
@@ -15,8 +16,8 @@ ghost use Rattle.rob_words.specs.declared.verb.Verb.TheVariants.{Text as TextVer
 ghost use Rattle.rob_write.specs.Canonical.{model_text};
 
 use crate::comparing::compare_routes;
-use crate::ended::Ended;
-use crate::reply::{Reply, printed_model};
+use rob_commands::Ended;
+use rob_commands::reply::{Reply, printed_model};
 use rob_gen::generate;
 use rob_number::{Ledger, Memory};
 use rob_quick::Quick;

@@ -5,7 +5,6 @@
 mod branching;
 mod checking;
 mod comparing;
-mod ended;
 mod files;
 mod generating;
 pub mod laws;
@@ -13,11 +12,8 @@ mod limits;
 pub mod machine;
 mod names;
 mod narrowing;
-mod nodes;
-mod paths;
 mod put;
 mod replaying;
-mod reply;
 mod searching;
 mod solving;
 mod splitting;
@@ -27,6 +23,5 @@ mod tree_checking;
 mod work;
 pub mod worked;
 
-pub use ended::Ended;
 pub use machine::run_here;
 pub use top::run;

@@ -6,8 +6,8 @@ ghost use Rattle.rob_top.specs.Files.{Fetches};
 ghost use Rattle.rob_top.specs.Completeness.{IsComplete};
 ghost use Rattle.rob_top.specs.Headline.{Ends};
 
-use crate::ended::Ended;
 use crate::top::run;
+use rob_commands::Ended;
 use rob_number::Ledger;
 use rob_outside::{FileShelf, StdSink};
 use std::alloc::Global;

@@ -8,8 +8,8 @@ ghost use Rattle.rob_meaning.specs.RobustModel.{RobustModel};
 ghost use Rattle.rob_sets.specs.SetForm.{IsSetForm};
 ghost use Rattle.rob_top.specs.Narrowed.{RepliesNarrow, bounds_text};
 
-use crate::ended::Ended;
-use crate::reply::Reply;
+use rob_commands::Ended;
+use rob_commands::reply::Reply;
 use rob_dualize::bounds::ModelBounds;
 use rob_dualize::{Elaborated, model_bounds};
 use rob_number::{Exact, Memory, Text};

@@ -8,13 +8,13 @@ ghost use Rattle.rob_model.specs.View.{robust};
 ghost use Rattle.rob_replay.specs.View.{line_of};
 ghost use Rattle.rob_report.specs.Tables.{table_of};
 ghost use Rattle.rob_top.specs.Calls.{count};
-ghost use Rattle.rob_top.specs.Replies.{Replies};
+ghost use Rattle.rob_commands.specs.Replies.{Replies};
 ghost use Rattle.rob_top.specs.Work.{AnswersPlan, AnswersReplay, AnswersScenarios};
 
-use crate::ended::Ended;
-use crate::reply::{Reply, broken_rule, certificate_rule, no_plan};
 use crate::work::too_wide;
 use rob_cert::{Cert, CertErr, Status, read_cert};
+use rob_commands::Ended;
+use rob_commands::reply::{Reply, broken_rule, certificate_rule, no_plan};
 use rob_model::{Model, Plan, Spot};
 use rob_number::{Exact, Ledger, Memory};
 use rob_replay::{ReplayErr, Table, replay};

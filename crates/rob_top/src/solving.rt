@@ -1,38 +1,37 @@
 //! The answers of `solve` and `prove`.
 
-ghost use Rattle.std.specs.Prelude.{◌≡◌, ◌≤◌, length, All, IfOk, OnOk};
+ghost use Rattle.std.specs.Prelude.{◌≡◌, ◌≤◌, All, IfOk, OnOk};
 ghost use Rattle.rob_cert.specs.Shape.{HasShape};
-ghost use Rattle.rob_cert.specs.Spelling.{cert_text};
 ghost use Rattle.rob_cert.specs.View.{certificate_of, status_of};
 ghost use Rattle.rob_cuts.specs.Solving.{AreOfModel};
 ghost use Rattle.rob_dualize.specs.Wholes.{IsFew, counterpart_of};
 ghost use Rattle.rob_elab.specs.Elaborated.{IsElaborated};
 ghost use Rattle.rob_elab.specs.Forms.{IsForms};
 ghost use Rattle.rob_meaning.specs.RobustModel.{RobustModel};
-ghost use Rattle.rob_meaning.specs.SetRows.{set_rows};
 ghost use Rattle.rob_meaning.specs.WellFormed.{IsModel};
 ghost use Rattle.rob_model.specs.Valid.{IsValid};
 ghost use Rattle.rob_model.specs.View.{robust};
 ghost use Rattle.rob_report.specs.Places.{IsSpotOf};
 ghost use Rattle.rob_report.specs.Report.{report_of};
 ghost use Rattle.rob_report.specs.Rounds.{IsRoundOf};
-ghost use Rattle.rob_report.specs.Spots.{empty_set_lines, too_wide_line};
+ghost use Rattle.rob_report.specs.Spots.{too_wide_line};
 ghost use Rattle.rob_sets.specs.SetForm.{IsSetForm};
 ghost use Rattle.rob_top.specs.Calls.{count};
-ghost use Rattle.rob_top.specs.Replies.{Replies};
+ghost use Rattle.rob_commands.specs.Replies.{Replies, ended_of};
 ghost use Rattle.rob_top.specs.Routes.{SolvesBy, with_rounds};
-ghost use Rattle.rob_top.specs.Work.{AnswersRoute, ended_of};
+ghost use Rattle.rob_top.specs.Work.{AnswersRoute};
 ghost use Rattle.rob_top.specs.WorkStops.{IsStopOf, RepliesStop};
 ghost use Rattle.rob_words.specs.declared.verb.Verb.TheVariants.{Prove, Solve};
 
-use crate::ended::Ended;
-use crate::reply::Reply;
-use rob_cert::{Cert, Status, Stop, Trace, write_cert};
+use rob_cert::{Cert, Stop, Trace};
+use rob_commands::Ended;
+use rob_commands::certificates::{empty_set, ended_by, proved};
+use rob_commands::reply::Reply;
 use rob_cuts::solve_cuts;
 use rob_dualize::{Elaborated, solve_dual};
 use rob_model::{Model, Spot};
 use rob_number::{Exact, Ledger, List, Memory, Text};
-use rob_report::{empty_set_text, put_rounds, report_text, spot_text};
+use rob_report::{put_rounds, report_text, spot_text};
 use rob_words::Route;
 use std::alloc::Global;
 
@@ -131,31 +130,6 @@ fn reported<N: Exact>(
     })
 }
 
-/// A certificate, as it is printed.
-fn proved<N: Exact>(alloc: Global, model: &Model<N>, cert: &Cert<N>) -> Result<Reply, Memory>
-    requires valid { IsValid N.value model.now }
-    requires shape { HasShape (robust N.value model.now) (certificate_of N.value cert.now) }
-    ensures certificate { IfOk result (Replies (ended_of (status_of cert.now.status))
-        (cert_text (robust N.value model.now) (certificate_of N.value cert.now))) }
-{
-    let text = write_cert(alloc, model, cert)?;
-    Ok(Reply {
-        ended: ended_by(cert.status),
-        text,
-    })
-}
-
-/// The answer for a status.
-pub fn ended_by(status: Status) -> Ended
-    ensures status { result ≡ ended_of (status_of status) }
-{
-    match status {
-        Status::Optimal => Ended::Optimal,
-        Status::Infeasible => Ended::Infeasible,
-        Status::Unbounded => Ended::Unbounded,
-    }
-}
-
 /// The answer where the route stopped; by `Dual`, which stands for want of a route too, no rounds are told.
 pub fn stopped<N: Exact>(
     alloc: Global,
@@ -213,22 +187,4 @@ pub fn put_told_rounds<N: Exact>(
         Route::Dual => Ok(()),
         Route::Cuts => put_rounds(model, trace.rounds.items(), out),
     }
-}
-
-/// The answer where no scenario is admitted.
-pub fn empty_set<N: Exact>(
-    alloc: Global,
-    model: &Model<N>,
-    weights: List<i64>,
-) -> Result<Reply, Memory>
-    requires valid { IsValid N.value model.now }
-    requires count { length weights ≡ length (set_rows (robust N.value model.now)) }
-    ensures weights { IfOk result (Replies (Ended.EmptySet weights)
-        (empty_set_lines (robust N.value model.now) weights)) }
-{
-    let text = empty_set_text(alloc, model, weights.items())?;
-    Ok(Reply {
-        ended: Ended::EmptySet(weights),
-        text,
-    })
 }

@@ -1,38 +1,32 @@
 //! The answers of `cells` and `celltext`.
 
-ghost use Rattle.std.specs.Prelude.{◌≡◌, ◌≤◌, ◌<◌, ◌++◌, List as Items, IfOk, MatchOption, length, map, pos, string_bytes};
+ghost use Rattle.std.specs.Prelude.{◌≡◌, ◌≤◌, ◌<◌, List as Items, IfOk, MatchOption, length, map, pos, string_bytes};
 ghost use Rattle.rob_algebra.specs.Fraction.{of_pair};
 ghost use Rattle.rob_cells.specs.View.{cut_of};
-ghost use Rattle.rob_cert.specs.Shape.{HasShape};
-ghost use Rattle.rob_cert.specs.View.{certificate_of, status_of};
 ghost use Rattle.rob_meaning.specs.Named.{IsNamed};
 ghost use Rattle.rob_meaning.specs.Values.{signed};
 ghost use Rattle.rob_model.specs.Valid.{IsValid};
 ghost use Rattle.rob_model.specs.View.{robust};
 ghost use Rattle.rob_pieces.specs.Cuts as pieces;
 ghost use Rattle.rob_pieces.specs.Cuts.{AreCuts};
-ghost use Rattle.rob_report.specs.Report.{report_of};
 ghost use Rattle.rob_top.specs.Calls.{count};
 ghost use Rattle.rob_top.specs.Commands.{IsSplitting};
-ghost use Rattle.rob_top.specs.Replies.{Replies};
-ghost use Rattle.rob_top.specs.Split.{AreCutsAt, IsCutAt, cells_line};
+ghost use Rattle.rob_top.specs.Split.{AreCutsAt, IsCutAt};
 ghost use Rattle.rob_top.specs.SplitWork.{AnswersCutWord, AnswersCuts, RepliesPieces, RepliesSplit};
-ghost use Rattle.rob_top.specs.Work.{AnswersWords, ended_of};
+ghost use Rattle.rob_top.specs.Work.{AnswersWords};
 ghost use Rattle.rob_words.specs.Cuts.{IsCut, IsCutList};
 ghost use Rattle.rob_words.specs.Names.{parts_of};
 
-use crate::ended::Ended;
 use crate::limits::fraction;
 use crate::names::own_word;
-use crate::reply::{Reply, broken_words, printed_model};
-use crate::solving::{ended_by, stopped};
-use itoa::Buffer;
+use crate::solving::stopped;
 use rob_cells::{CellsErr, Cut, cell_count, cut_model};
-use rob_cert::Cert;
+use rob_commands::Ended;
+use rob_commands::certificates::with_cells;
+use rob_commands::reply::{Reply, broken_words, printed_model};
 use rob_dualize::solve_model;
 use rob_model::{Model, find_param};
-use rob_number::{Exact, Ledger, List, Memory, Text};
-use rob_report::put_report;
+use rob_number::{Exact, Ledger, List, Memory};
 use rob_words::{MOST_CUTS, Own, Route, Verb, cut, first_part};
 use std::alloc::Global;
 
@@ -216,28 +210,4 @@ fn solved<N: Exact + Drop, L: Ledger>(
         Ok(cert) => with_cells(alloc, model, cells, &cert),
         Err(stop) => stopped(alloc, model, Route::Dual, stop),
     }
-}
-
-/// The number of cells, and the report of a certificate.
-fn with_cells<N: Exact>(
-    alloc: Global,
-    model: &Model<N>,
-    cells: u32,
-    cert: &Cert<N>,
-) -> Result<Reply, Memory>
-    requires valid { IsValid N.value model.now }
-    requires shape { HasShape (robust N.value model.now) (certificate_of N.value cert.now) }
-    ensures report { IfOk result (Replies (ended_of (status_of cert.now.status))
-        (cells_line cells ++ report_of (robust N.value model.now)
-        (certificate_of N.value cert.now))) }
-{
-    let mut text = Text::new(alloc);
-    text.push(b"cells ")?;
-    text.push(Buffer::new().format(cells).as_bytes())?;
-    text.push(b"\n")?;
-    put_report(model, cert, &mut text)?;
-    Ok(Reply {
-        ended: ended_by(cert.status),
-        text,
-    })
 }

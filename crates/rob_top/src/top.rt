@@ -15,12 +15,12 @@ ghost use Rattle.rob_top.specs.Replies.{Asks, HasTexts, IsLine, IsRead};
 ghost use Rattle.rob_top.specs.Work.{IsShort};
 ghost use Rattle.rob_words.specs.Answers.{line_of};
 
-use crate::ended::Ended;
 use crate::files::{Files, Texts, fetch};
 use crate::generating::on_number;
 use crate::put::put_lines;
-use crate::reply::{Reply, no_line};
 use crate::work::work_at;
+use rob_commands::Ended;
+use rob_commands::reply::{Reply, no_line};
 use rob_number::{Ledger, Memory};
 use rob_outside::{Shelf, Sink, SinkErr};
 use rob_words::{CommandLine, Verb, WordsErr, read_words};

@@ -20,8 +20,8 @@ use Rattle.rob_top.specs.Endings.{EndsAs, IsSweepAnswer}
 use Rattle.rob_top.specs.Swept.{limit_value}
 use Rattle.rob_top.specs.WorkedCalls.{sweep_call}
 use Rattle.rob_top.specs.WorkedModels.{demand_within_a_budget, greatest}
-use Rattle.rob_top.specs.declared.ended.Ended.{Ended}
-use Rattle.rob_top.specs.declared.ended.Ended.TheVariants.{Printed}
+use Rattle.rob_commands.specs.declared.ended.Ended.{Ended}
+use Rattle.rob_commands.specs.declared.ended.Ended.TheVariants.{Printed}
 use Rattle.rob_words.specs.declared.verb.Verb.TheVariants as verbs
 use Rattle.rob_write.specs.WrittenModel.{written_model}
 use Rattle.rob_write.specs.ExpressionWords.{naming_of}

@@ -36,8 +36,8 @@ use Rattle.rob_top.specs.Split.{AreCutsAt, EachCellAdmits, HasCutWord, HasSplit,
 use Rattle.rob_top.specs.SplitEnds.{IsEmptyCellsAnswer}
 use Rattle.rob_top.specs.WorkedCalls.{cells_call, model_name, model_request}
 use Rattle.rob_top.specs.WorkedModels.{at_13, at_9, greatest}
-use Rattle.rob_top.specs.declared.ended.Ended.{Ended}
-use Rattle.rob_top.specs.declared.ended.Ended.TheVariants.{Printed}
+use Rattle.rob_commands.specs.declared.ended.Ended.{Ended}
+use Rattle.rob_commands.specs.declared.ended.Ended.TheVariants.{Printed}
 use Rattle.rob_words.specs.Commands.{IsPlain, IsSpelled, Line, TellsRoute, own}
 use Rattle.rob_words.specs.Cuts.{IsCutList}
 use Rattle.rob_words.specs.Kinds.{AreOfKinds}

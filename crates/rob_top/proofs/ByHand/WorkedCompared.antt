@@ -20,8 +20,8 @@ use Rattle.rob_top.specs.Completeness.{MustEnd}
 use Rattle.rob_top.specs.Headline.{Means}
 use Rattle.rob_top.specs.WorkedModels.{greatest}
 use Rattle.rob_top.specs.WorkedCompared.{first_summary, gen_call}
-use Rattle.rob_top.specs.declared.ended.Ended.{Ended}
-use Rattle.rob_top.specs.declared.ended.Ended.TheVariants.{Printed}
+use Rattle.rob_commands.specs.declared.ended.Ended.{Ended}
+use Rattle.rob_commands.specs.declared.ended.Ended.TheVariants.{Printed}
 use Rattle.rob_words.specs.Commands.{IsSpelled, Line, own}
 use Rattle.rob_words.specs.Kinds.{IsNumber, number_of}
 use Rattle.rob_words.specs.Values.{Word}

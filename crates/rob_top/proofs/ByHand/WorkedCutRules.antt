@@ -13,8 +13,8 @@ use Rattle.rob_top.specs.Endings.{EndsAs}
 use Rattle.rob_top.specs.Split.{AreCutsAt, named_set, no_parameter}
 use Rattle.rob_top.specs.WorkedCalls.{cells_call}
 use Rattle.rob_top.specs.WorkedModels.{greatest, hard_and_soft}
-use Rattle.rob_top.specs.declared.ended.Ended.{Ended}
-use Rattle.rob_top.specs.declared.ended.Ended.TheVariants.{Cells as CellsRule}
+use Rattle.rob_commands.specs.declared.ended.Ended.{Ended}
+use Rattle.rob_commands.specs.declared.ended.Ended.TheVariants.{Cells as CellsRule}
 use Rattle.rob_words.specs.Cuts.{IsCutList}
 use Rattle.rob_words.specs.Names.{parts_of}
 use Rattle.rob_words.specs.declared.verb.Verb.TheVariants.{Cells}

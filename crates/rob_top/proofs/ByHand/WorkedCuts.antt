@@ -13,7 +13,7 @@ use Rattle.rob_top.specs.Completeness.{MustEnd}
 use Rattle.rob_top.specs.Inputs.{HasForms}
 use Rattle.rob_top.specs.WorkedCalls.{cuts_call, model_name, model_request}
 use Rattle.rob_top.specs.WorkedModels.{greatest}
-use Rattle.rob_top.specs.declared.ended.Ended.{Ended}
+use Rattle.rob_commands.specs.declared.ended.Ended.{Ended}
 use Rattle.rob_write.specs.Canonical.{model_text}
 use Rattle.rob_words.specs.Commands.{IsSpelled, Line, joined, own, route as route_setting}
 use Rattle.rob_words.specs.declared.route.Route.TheVariants.{Cuts}

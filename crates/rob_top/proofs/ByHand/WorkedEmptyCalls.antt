@@ -26,7 +26,7 @@ use Rattle.rob_top.specs.Endings.{IsEmptyAnswer}
 use Rattle.rob_top.specs.Inputs.{HasForms}
 use Rattle.rob_top.specs.WorkedCalls.{solve_call}
 use Rattle.rob_top.specs.WorkedModels.{greatest, never_calm}
-use Rattle.rob_top.specs.declared.ended.Ended.{Ended}
+use Rattle.rob_commands.specs.declared.ended.Ended.{Ended}
 use Rattle.rob_top.proofs.ByHand.WorkedSetCalls.{above_narrow, goal_narrow, its_names, its_parts, its_spelling}
 use Rattle.rob_elab.specs.Written.{judged, IsWritten}
 

@@ -22,7 +22,7 @@ use Rattle.rob_top.specs.Endings.{IsEmptyWholeAnswer}
 use Rattle.rob_top.specs.Inputs.{HasWholeVariables}
 use Rattle.rob_top.specs.WorkedCalls.{whole_call}
 use Rattle.rob_top.specs.WorkedModels.{greatest, impossible_demand}
-use Rattle.rob_top.specs.declared.ended.Ended.{Ended}
+use Rattle.rob_commands.specs.declared.ended.Ended.{Ended}
 use Rattle.rob_write.specs.WrittenModel.{written_model}
 use Rattle.rob_write.specs.ExpressionWords.{naming_of}
 use Rattle.rob_write.specs.Canonical.{model_text}

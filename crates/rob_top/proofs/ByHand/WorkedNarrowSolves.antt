@@ -19,11 +19,11 @@ use Rattle.rob_top.proofs.ByHand.WorkedCalls.{empty_interval_admits_none, empty_
 use Rattle.rob_top.proofs.ByHand.WorkedCuts.{by_cuts, cut_forms}
 use Rattle.rob_top.specs.Completeness.{MustEnd}
 use Rattle.rob_top.specs.Endings.{EndsAs, IsShownAnswer}
-use Rattle.rob_top.specs.Work.{ended_of}
+use Rattle.rob_commands.specs.Replies.{ended_of}
 use Rattle.rob_top.specs.WorkedCalls.{cuts_call, solve_call}
 use Rattle.rob_top.specs.WorkedModels.{empty_interval, greatest}
-use Rattle.rob_top.specs.declared.ended.Ended.{Ended}
-use Rattle.rob_top.specs.declared.ended.Ended.TheVariants.{TooWide}
+use Rattle.rob_commands.specs.declared.ended.Ended.{Ended}
+use Rattle.rob_commands.specs.declared.ended.Ended.TheVariants.{TooWide}
 
 -- ---- the smallest model
 -- this call has to answer a status that the model has

@@ -5,8 +5,8 @@ use Rattle.std.specs.Prelude.{codes}
 use Rattle.rob_top.specs.Completeness.{MustEnd}
 use Rattle.rob_top.specs.Endings.{IsUnput}
 use Rattle.rob_top.specs.WorkedCalls.{text_call}
-use Rattle.rob_top.specs.declared.ended.Ended.{Ended}
-use Rattle.rob_top.specs.declared.ended.Ended.TheVariants.{Printed}
+use Rattle.rob_commands.specs.declared.ended.Ended.{Ended}
+use Rattle.rob_commands.specs.declared.ended.Ended.TheVariants.{Printed}
 use Rattle.rob_words.specs.Commands.{IsPlain, IsSpelled, Line, own}
 use Rattle.rob_words.specs.Kinds.{IsNumber}
 use Rattle.rob_words.specs.Values.{Word}

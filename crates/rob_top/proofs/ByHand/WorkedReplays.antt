@@ -35,8 +35,8 @@ use Rattle.rob_top.specs.Replayed.{replay_ended}
 use Rattle.rob_top.specs.WorkedCalls.{certificate_name, certificate_request, model_name, model_request, replay_call, scenarios_name, two_demands_table}
 use Rattle.rob_top.specs.WorkedModels.{greatest, no_demand, no_order, order_12, order_least, two_demands}
 use Rattle.rob_top.specs.Ways.{rows, replayed, generated, compared, worst_found, priced, limited, narrowed, split_written}
-use Rattle.rob_top.specs.declared.ended.Ended.{Ended}
-use Rattle.rob_top.specs.declared.ended.Ended.TheVariants.{Cert, Printed, Scenarios, TooWide}
+use Rattle.rob_commands.specs.declared.ended.Ended.{Ended}
+use Rattle.rob_commands.specs.declared.ended.Ended.TheVariants.{Cert, Printed, Scenarios, TooWide}
 use Rattle.rob_words.proofs.Spellings.{one_line}
 use Rattle.rob_words.specs.Commands.{Line, own, IsSpelled}
 use Rattle.rob_words.specs.declared.route.Route.TheVariants.{Dual}

@@ -38,8 +38,8 @@ use Rattle.rob_top.specs.Inputs.{HasSought}
 use Rattle.rob_top.specs.Searched.{IsWideSought, certificate_vector, in_search, in_set, in_slack}
 use Rattle.rob_top.specs.WorkedCalls.{worst_call}
 use Rattle.rob_top.specs.WorkedModels.{greatest, order_12}
-use Rattle.rob_top.specs.declared.ended.Ended.{Ended}
-use Rattle.rob_top.specs.declared.ended.Ended.TheVariants.{Printed}
+use Rattle.rob_commands.specs.declared.ended.Ended.{Ended}
+use Rattle.rob_commands.specs.declared.ended.Ended.TheVariants.{Printed}
 use Rattle.rob_worst.specs.Finding.{IsWideAt}
 
 -- ---- worst one.rob one.cert objective

@@ -35,7 +35,7 @@ use Rattle.rob_top.specs.Completeness.{MustEnd}
 use Rattle.rob_top.specs.Inputs.{HasForms}
 use Rattle.rob_top.specs.WorkedCalls.{solve_call}
 use Rattle.rob_top.specs.WorkedModels.{greatest, hard_and_soft}
-use Rattle.rob_top.specs.declared.ended.Ended.{Ended}
+use Rattle.rob_commands.specs.declared.ended.Ended.{Ended}
 use Rattle.rob_words.specs.declared.route.Route.TheVariants.{Dual}
 use Rattle.rob_elab.specs.Written.{judged, IsWritten}
 

@@ -32,7 +32,7 @@ use Rattle.rob_top.specs.Inputs.{HasSought}
 use Rattle.rob_top.specs.Searched.{certificate_vector}
 use Rattle.rob_top.specs.WorkedCalls.{certificate_name, model_name, worst_call}
 use Rattle.rob_top.specs.WorkedModels.{greatest, order_least}
-use Rattle.rob_top.specs.declared.ended.Ended.{Ended}
+use Rattle.rob_commands.specs.declared.ended.Ended.{Ended}
 use Rattle.rob_words.specs.Commands.{own}
 
 -- ---- worst one.rob one.cert objective

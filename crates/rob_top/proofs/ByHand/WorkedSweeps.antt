@@ -12,8 +12,8 @@ use Rattle.rob_top.specs.Inputs.{HasModel}
 use Rattle.rob_top.specs.Swept.{limit_value}
 use Rattle.rob_top.specs.WorkedCalls.{model_name, model_request, sweep_call}
 use Rattle.rob_top.specs.WorkedModels.{greatest}
-use Rattle.rob_top.specs.declared.ended.Ended.{Ended}
-use Rattle.rob_top.specs.declared.ended.Ended.TheVariants.{Sweep}
+use Rattle.rob_commands.specs.declared.ended.Ended.{Ended}
+use Rattle.rob_commands.specs.declared.ended.Ended.TheVariants.{Sweep}
 use Rattle.rob_words.specs.Commands.{Line, own, IsSpelled}
 use Rattle.rob_words.specs.declared.route.Route.TheVariants.{Dual}
 use Rattle.rob_words.specs.declared.verb.Verb.{Verb}

@@ -29,8 +29,8 @@ use Rattle.rob_top.specs.TreeChecked.{HasTree, HasTreeFile}
 use Rattle.rob_top.specs.WorkedCalls.{model_name, model_request}
 use Rattle.rob_top.specs.WorkedModels.{greatest, half_a_demand}
 use Rattle.rob_top.specs.WorkedTrees.{cheaper_orders, not_below_6, order_7, tree_call, tree_name, whole_orders}
-use Rattle.rob_top.specs.declared.ended.Ended.{Ended}
-use Rattle.rob_top.specs.declared.ended.Ended.TheVariants.{Accepted, Tree as TreeRule}
+use Rattle.rob_commands.specs.declared.ended.Ended.{Ended}
+use Rattle.rob_commands.specs.declared.ended.Ended.TheVariants.{Accepted, Tree as TreeRule}
 use Rattle.rob_words.specs.Commands.{Line, own, IsSpelled}
 use Rattle.rob_words.specs.declared.route.Route.TheVariants.{Dual}
 use Rattle.rob_words.specs.declared.verb.Verb.TheVariants.{CheckTree}

@@ -34,8 +34,8 @@ use Rattle.rob_top.specs.Inputs.{AreVariables, HasModel, HasVariables, HasWholeV
 use Rattle.rob_top.specs.WorkedCalls.{model_name, model_request, whole_call}
 use Rattle.rob_top.specs.WorkedModels.{greatest, half_a_demand}
 use Rattle.rob_top.specs.WorkedTrees.{whole_orders}
-use Rattle.rob_top.specs.declared.ended.Ended.{Ended}
-use Rattle.rob_top.specs.declared.ended.Ended.TheVariants.{Optimal, Infeasible, Unbounded, Printed, Accepted, Rejected, Words, Missing, TooLong, Model, EmptySet, TooWide, WideNode, WideBudget, Cert, Scenarios, Whole as RuleOfWhole, Sweep, Cells, Tree as RuleOfTree, TreeRejected, NoRow, ReadFault, WriteFault, Memory}
+use Rattle.rob_commands.specs.declared.ended.Ended.{Ended}
+use Rattle.rob_commands.specs.declared.ended.Ended.TheVariants.{Optimal, Infeasible, Unbounded, Printed, Accepted, Rejected, Words, Missing, TooLong, Model, EmptySet, TooWide, WideNode, WideBudget, Cert, Scenarios, Whole as RuleOfWhole, Sweep, Cells, Tree as RuleOfTree, TreeRejected, NoRow, ReadFault, WriteFault, Memory}
 use Rattle.rob_words.specs.Commands.{Line, own, IsSpelled}
 use Rattle.rob_words.specs.Values.{Word}
 use Rattle.rob_words.specs.declared.route.Route.TheVariants.{Dual}

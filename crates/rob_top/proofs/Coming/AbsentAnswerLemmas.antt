@@ -6,8 +6,8 @@ use Rattle.rob_top.proofs.Courses.StageLemmas.{Stage, absent, answers_number, br
 use Rattle.rob_top.specs.Calls.{Call, Known}
 use Rattle.rob_top.specs.Files.{Came, IsFirstAbsent, IsFound, Request, requests}
 use Rattle.rob_top.specs.Headline.{Means}
-use Rattle.rob_top.specs.declared.ended.Ended.{Ended}
-use Rattle.rob_top.specs.declared.ended.Ended.TheVariants.{Missing, TooLong, ReadFault, Memory}
+use Rattle.rob_commands.specs.declared.ended.Ended.{Ended}
+use Rattle.rob_commands.specs.declared.ended.Ended.TheVariants.{Missing, TooLong, ReadFault, Memory}
 use Rattle.rob_words.specs.Commands.{Line}
 use Rattle.rob_words.specs.Values.{Word}
 use Rattle.rob_words.proofs.Spellings.{one_line}

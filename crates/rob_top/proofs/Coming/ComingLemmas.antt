@@ -3,8 +3,8 @@ use Rattle.std.proofs.Common.{◌≡◌, ◌⊎◌, ℕ, List, inl, inr, subst, 
 use Rattle.rob_top.specs.Calls.{Call}
 use Rattle.rob_top.specs.Endings.{EndsAs, IsUnput}
 use Rattle.rob_top.specs.Headline.{Means}
-use Rattle.rob_top.specs.declared.ended.Ended.{Ended}
-use Rattle.rob_top.specs.declared.ended.Ended.TheVariants.{ReadFault, WriteFault, Memory}
+use Rattle.rob_commands.specs.declared.ended.Ended.{Ended}
+use Rattle.rob_commands.specs.declared.ended.Ended.TheVariants.{ReadFault, WriteFault, Memory}
 
 -- the call has an answer that is allowed, or a put or memory was refused
 abbrev pub Comes : Call → Ended → Type 0

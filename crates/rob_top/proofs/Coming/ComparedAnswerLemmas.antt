@@ -15,8 +15,8 @@ use Rattle.rob_top.specs.ComparedEnds.{IsComparedAnswer, MustEndCompared}
 use Rattle.rob_top.specs.Endings.{IsUnput}
 use Rattle.rob_top.specs.Generated.{TellsNumber}
 use Rattle.rob_top.specs.Routes.{IsWideOnWay}
-use Rattle.rob_top.specs.declared.ended.Ended.{Ended}
-use Rattle.rob_top.specs.declared.ended.Ended.TheVariants.{Optimal, Infeasible, Unbounded, Printed, Accepted, Rejected, Words, Missing, TooLong, Model, EmptySet, TooWide, WideNode, WideBudget, Cert, Scenarios, Whole, Sweep, Cells, NoRow, Tree, TreeRejected, ReadFault, WriteFault, Memory}
+use Rattle.rob_commands.specs.declared.ended.Ended.{Ended}
+use Rattle.rob_commands.specs.declared.ended.Ended.TheVariants.{Optimal, Infeasible, Unbounded, Printed, Accepted, Rejected, Words, Missing, TooLong, Model, EmptySet, TooWide, WideNode, WideBudget, Cert, Scenarios, Whole, Sweep, Cells, NoRow, Tree, TreeRejected, ReadFault, WriteFault, Memory}
 use Rattle.rob_words.specs.Commands.{Line}
 use Rattle.rob_words.specs.Kinds.{number_of}
 use Rattle.rob_words.specs.declared.route.Route.{Route}

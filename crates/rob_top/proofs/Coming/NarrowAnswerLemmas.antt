@@ -32,10 +32,10 @@ use Rattle.rob_top.specs.Inputs.{HasForms}
 use Rattle.rob_top.specs.Narrowed.{RepliesNarrow, TellsNarrow, bounds_text}
 use Rattle.rob_top.specs.Work.{AnswersWhole}
 use Rattle.rob_top.specs.Ways.{narrowed}
-use Rattle.rob_top.specs.declared.ended.Ended.{Ended}
-use Rattle.rob_top.specs.declared.ended.Ended.TheVariants.{EmptySet, Printed, ReadFault, Memory, TooWide}
+use Rattle.rob_commands.specs.declared.ended.Ended.{Ended}
+use Rattle.rob_commands.specs.declared.ended.Ended.TheVariants.{EmptySet, Printed, ReadFault, Memory, TooWide}
 use Rattle.rob_top.specs.declared.files.Texts.{Texts}
-use Rattle.rob_top.specs.declared.reply.Reply.{Reply}
+use Rattle.rob_commands.specs.declared.reply.Reply.{Reply}
 use Rattle.rob_words.specs.Commands.{Line}
 use Rattle.rob_words.specs.declared.route.Route.TheVariants.{Dual}
 use Rattle.rob_words.specs.declared.verb.Verb.TheVariants.{Narrow}

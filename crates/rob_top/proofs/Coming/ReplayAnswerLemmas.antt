@@ -10,7 +10,7 @@ use Rattle.rob_replay.specs.Outcome.{outcome}
 use Rattle.rob_replay.specs.Replayed.{ShowsBound}
 use Rattle.rob_top.proofs.Courses.CourseLemmas.{ReplayCourse, lacks_plan, replays}
 use Rattle.rob_top.proofs.Courses.ReadOnceLemmas.{one_certificate, some_plan, one_lack, well}
-use Rattle.rob_top.proofs.Meaning.SolvingLemmas.{proved_bound}
+use Rattle.rob_commands.proofs.PlanLemmas.{proved_bound}
 use Rattle.rob_top.proofs.Meaning.SoughtLemmas.{lacking_model, lacking_verb}
 use Rattle.rob_top.proofs.Courses.StageLemmas.{file_once}
 use Rattle.rob_top.proofs.Coming.TrueAnswerLemmas.{first_of_two, unformed_course}
@@ -20,8 +20,8 @@ use Rattle.rob_top.specs.Commands.{work_of}
 use Rattle.rob_top.specs.Headline.{Means}
 use Rattle.rob_top.specs.Inputs.{HasScenarioFile, LacksPlan}
 use Rattle.rob_top.specs.Replayed.{IsReplayed, replay_ended}
-use Rattle.rob_top.specs.declared.ended.Ended.{Ended}
-use Rattle.rob_top.specs.declared.ended.Ended.TheVariants.{Cert, ReadFault, Memory}
+use Rattle.rob_commands.specs.declared.ended.Ended.{Ended}
+use Rattle.rob_commands.specs.declared.ended.Ended.TheVariants.{Cert, ReadFault, Memory}
 use Rattle.rob_words.specs.Commands.{Line}
 use Rattle.rob_words.specs.declared.verb.Own.TheVariants as own
 use Rattle.rob_words.specs.declared.verb.Verb.TheVariants as verbs

@@ -29,9 +29,9 @@ use Rattle.rob_top.specs.Split.{AreCutsAt, BreaksCells, EachCellAdmits, HasCuts,
 use Rattle.rob_top.specs.Commands as works
 use Rattle.rob_top.specs.Commands.{IsSplitting}
 use Rattle.rob_top.specs.SplitEnds.{IsCellsAnswer, IsEmptyCellsAnswer, IsNarrowSplit, MustEndSplit}
-use Rattle.rob_top.specs.Work.{ended_of}
-use Rattle.rob_top.specs.declared.ended.Ended.{Ended}
-use Rattle.rob_top.specs.declared.ended.Ended.TheVariants.{Printed, EmptySet, TooWide, Cells as CellsRule, ReadFault, Memory}
+use Rattle.rob_commands.specs.Replies.{ended_of}
+use Rattle.rob_commands.specs.declared.ended.Ended.{Ended}
+use Rattle.rob_commands.specs.declared.ended.Ended.TheVariants.{Printed, EmptySet, TooWide, Cells as CellsRule, ReadFault, Memory}
 use Rattle.rob_words.specs.Commands.{Line}
 use Rattle.rob_words.specs.Names.{parts_of}
 use Rattle.rob_words.specs.Values.{Word}

@@ -18,8 +18,8 @@ use Rattle.rob_top.specs.Inputs.{HasModel}
 use Rattle.rob_top.specs.Swept.{BreaksSweep, HasLimit, HasSweep, TellsLimits, TellsStatement, at_limit, at_limits, limit_value}
 use Rattle.rob_top.specs.Commands as works
 use Rattle.rob_top.specs.Commands.{IsSweeping, work_of}
-use Rattle.rob_top.specs.declared.ended.Ended.{Ended}
-use Rattle.rob_top.specs.declared.ended.Ended.TheVariants.{Printed, WideBudget, Sweep, ReadFault, Memory}
+use Rattle.rob_commands.specs.declared.ended.Ended.{Ended}
+use Rattle.rob_commands.specs.declared.ended.Ended.TheVariants.{Printed, WideBudget, Sweep, ReadFault, Memory}
 use Rattle.rob_words.specs.Commands.{Line}
 use Rattle.rob_words.specs.Kinds.{number_of}
 use Rattle.rob_words.specs.Names.{parts_of}

@@ -28,8 +28,8 @@ use Rattle.rob_top.specs.Headline.{Means}
 use Rattle.rob_top.specs.Inputs.{HasModel}
 use Rattle.rob_top.specs.TreeChecked.{HasTree, HasTreeFile}
 use Rattle.rob_top.specs.TreeEnds.{MustEndTree}
-use Rattle.rob_top.specs.declared.ended.Ended.{Ended}
-use Rattle.rob_top.specs.declared.ended.Ended.TheVariants.{Accepted, Memory, ReadFault, Tree as TreeRule, Whole}
+use Rattle.rob_commands.specs.declared.ended.Ended.{Ended}
+use Rattle.rob_commands.specs.declared.ended.Ended.TheVariants.{Accepted, Memory, ReadFault, Tree as TreeRule, Whole}
 use Rattle.rob_words.specs.Commands.{Line}
 use Rattle.rob_words.specs.declared.verb.Own.TheVariants as own
 use Rattle.rob_words.specs.declared.verb.Verb.TheVariants.{CheckTree}

@@ -27,9 +27,10 @@ use Rattle.rob_top.specs.Headline.{Means}
 use Rattle.rob_top.specs.Inputs.{BreaksCertificate, HasCertificate, HasCertificateFile, HasForms, HasModel}
 use Rattle.rob_top.specs.Endings.{IsEmptyAnswer, IsSolveAnswer}
 use Rattle.rob_top.specs.Routes.{IsWideOnWay}
-use Rattle.rob_top.specs.Work.{ended_of, verdict_ended}
-use Rattle.rob_top.specs.declared.ended.Ended.{Ended}
-use Rattle.rob_top.specs.declared.ended.Ended.TheVariants.{Printed, EmptySet, TooWide, Cert, ReadFault, Memory}
+use Rattle.rob_top.specs.Work.{verdict_ended}
+use Rattle.rob_commands.specs.Replies.{ended_of}
+use Rattle.rob_commands.specs.declared.ended.Ended.{Ended}
+use Rattle.rob_commands.specs.declared.ended.Ended.TheVariants.{Printed, EmptySet, TooWide, Cert, ReadFault, Memory}
 use Rattle.rob_words.specs.Commands.{Line}
 use Rattle.rob_words.specs.declared.verb.Own.TheVariants as own
 use Rattle.rob_words.specs.declared.verb.Verb.TheVariants.{Rows}

@@ -30,9 +30,9 @@ use Rattle.rob_top.specs.Commands.{IsBranching}
 use Rattle.rob_top.specs.Endings.{IsEmptyWholeAnswer, IsNarrowBelow, IsWholeAnswer}
 use Rattle.rob_top.specs.Headline.{Means}
 use Rattle.rob_top.specs.Inputs.{AreVariables, HasModel, HasVariables, HasWholeVariables, TellsNames}
-use Rattle.rob_top.specs.Work.{ended_of}
-use Rattle.rob_top.specs.declared.ended.Ended.{Ended}
-use Rattle.rob_top.specs.declared.ended.Ended.TheVariants.{EmptySet, WideNode, Whole, ReadFault, Memory}
+use Rattle.rob_commands.specs.Replies.{ended_of}
+use Rattle.rob_commands.specs.declared.ended.Ended.{Ended}
+use Rattle.rob_commands.specs.declared.ended.Ended.TheVariants.{EmptySet, WideNode, Whole, ReadFault, Memory}
 use Rattle.rob_words.specs.Commands.{Line}
 use Rattle.rob_words.specs.Names.{parts_of}
 use Rattle.rob_words.specs.Values.{Word}

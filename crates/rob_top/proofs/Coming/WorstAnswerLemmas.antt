@@ -25,7 +25,7 @@ use Rattle.rob_runs.proofs.RunCertificates.{length-vector}
 use Rattle.rob_runs.specs.Spots.{IsWideSlack}
 use Rattle.rob_top.proofs.Meaning.SearchStops.{plan_length}
 use Rattle.rob_top.proofs.Meaning.SearchingLemmas.{form_matrix}
-use Rattle.rob_top.proofs.Meaning.SolvingLemmas.{proved_bound}
+use Rattle.rob_commands.proofs.PlanLemmas.{proved_bound}
 use Rattle.rob_top.proofs.Meaning.SoughtLemmas.{forms_sought, forms_unnamed, forms_unplanned, lacking_verb}
 use Rattle.rob_top.proofs.Coming.TrueAnswerLemmas.{first_of_two, formed_course}
 use Rattle.rob_top.proofs.Meaning.WorstSlackLemmas.{endless_slack}
@@ -36,8 +36,8 @@ use Rattle.rob_top.specs.Endings.{IsEmptyAnswer, IsWorstAnswer, NamesWideSought}
 use Rattle.rob_top.specs.Headline.{Means}
 use Rattle.rob_top.specs.Inputs.{HasForms, HasModel, HasSought, TellsForm, LacksPlan}
 use Rattle.rob_top.specs.Searched.{IsSearched, IsWideSought, NamesNoForm, ShowsKept, ShowsWorst, attained, certificate_vector, endless, in_search, in_set, in_slack}
-use Rattle.rob_top.specs.declared.ended.Ended.{Ended}
-use Rattle.rob_top.specs.declared.ended.Ended.TheVariants.{Cert, EmptySet, NoRow, Printed, ReadFault, TooWide, Memory}
+use Rattle.rob_commands.specs.declared.ended.Ended.{Ended}
+use Rattle.rob_commands.specs.declared.ended.Ended.TheVariants.{Cert, EmptySet, NoRow, Printed, ReadFault, TooWide, Memory}
 use Rattle.rob_words.specs.Commands.{Line}
 use Rattle.rob_words.specs.Values.{Word}
 use Rattle.rob_words.specs.declared.verb.Verb.TheVariants.{Worst}

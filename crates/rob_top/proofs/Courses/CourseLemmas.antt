@@ -43,9 +43,10 @@ use Rattle.rob_top.specs.Searched.{IsEmptySought, IsNoRow, IsSearched, IsWideSou
 use Rattle.rob_top.specs.Solved.{IsEmptySet as IsShownEmptySet, IsRows, IsSolved}
 use Rattle.rob_top.specs.TreeChecked.{IsNoTree, IsTreeAccepted, IsTreeRejected, IsWideLeaf}
 use Rattle.rob_top.specs.Swept.{BreaksSweep, HasLimit, HasSweep, IsLimited, IsNoSweep, IsPriced, IsWideBudget, at_limit, at_limits}
-use Rattle.rob_top.specs.Work.{ended_of, verdict_ended}
-use Rattle.rob_top.specs.declared.ended.Ended.{Ended}
-use Rattle.rob_top.specs.declared.ended.Ended.TheVariants.{Printed, Accepted, Rejected, EmptySet, TooWide, WideNode, WideBudget, Cert, Scenarios, Whole, Sweep, Tree as TreeRule, TreeRejected, NoRow}
+use Rattle.rob_top.specs.Work.{verdict_ended}
+use Rattle.rob_commands.specs.Replies.{ended_of}
+use Rattle.rob_commands.specs.declared.ended.Ended.{Ended}
+use Rattle.rob_commands.specs.declared.ended.Ended.TheVariants.{Printed, Accepted, Rejected, EmptySet, TooWide, WideNode, WideBudget, Cert, Scenarios, Whole, Sweep, Tree as TreeRule, TreeRejected, NoRow}
 use Rattle.rob_words.specs.Commands.{Line}
 use Rattle.rob_words.specs.Values.{Word}
 use Rattle.rob_words.specs.declared.verb.Verb.TheVariants.{CheckTree}

@@ -8,8 +8,8 @@ use Rattle.rob_top.specs.Calls.{Call, limit_of}
 use Rattle.rob_top.specs.Compared.{AsksFor, IsCompared, IsWideCompared, TellsFirst, by_counterpart, by_cutting}
 use Rattle.rob_top.specs.ComparedEnds.{IsComparedAnswer}
 use Rattle.rob_top.specs.Routes.{IsWideOnWay}
-use Rattle.rob_top.specs.declared.ended.Ended.{Ended}
-use Rattle.rob_top.specs.declared.ended.Ended.TheVariants.{Printed, TooWide}
+use Rattle.rob_commands.specs.declared.ended.Ended.{Ended}
+use Rattle.rob_commands.specs.declared.ended.Ended.TheVariants.{Printed, TooWide}
 use Rattle.rob_words.specs.Commands.{Line}
 use Rattle.rob_words.specs.declared.route.Route.{Route}
 use Rattle.rob_words.specs.declared.route.Route.TheVariants.{Dual, Cuts}

@@ -7,8 +7,8 @@ use Rattle.rob_top.specs.Branched.{BreaksWhole}
 use Rattle.rob_top.specs.Calls.{Call, limit_of}
 use Rattle.rob_top.specs.Endings.{IsTreeAnswer}
 use Rattle.rob_top.specs.TreeChecked.{HasTree, HasTreeFile}
-use Rattle.rob_top.specs.declared.ended.Ended.{Ended}
-use Rattle.rob_top.specs.declared.ended.Ended.TheVariants.{Whole, Tree as TreeRule}
+use Rattle.rob_commands.specs.declared.ended.Ended.{Ended}
+use Rattle.rob_commands.specs.declared.ended.Ended.TheVariants.{Whole, Tree as TreeRule}
 use Rattle.rob_words.specs.Commands.{Line}
 
 -- a rule that the named variables break; one that the tree's text breaks; or the verdict on the tree

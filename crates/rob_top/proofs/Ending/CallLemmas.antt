@@ -3,12 +3,12 @@ use Rattle.std.proofs.Common.{◌≡◌, ℕ, true, false, List, [], ◌∷◌, 
 use Rattle.rob_outside.specs.Puts.{PutAll, put_of}
 use Rattle.rob_outside.specs.Taken.{Took, Takes}
 use Rattle.rob_outside.proofs.TakenLemmas.{took_is_prefix}
-use Rattle.rob_top.specs.Answers.{memory_text}
+use Rattle.rob_commands.specs.Answers.{memory_text}
 use Rattle.rob_top.specs.Calls.{Call, Output}
 use Rattle.rob_top.specs.Headline.{Means, Ends}
 use Rattle.rob_top.specs.Lines.{PutMemory, text_lines}
-use Rattle.rob_top.specs.declared.ended.Ended.{Ended}
-use Rattle.rob_top.specs.declared.ended.Ended.TheVariants.{Optimal, Infeasible, Unbounded, Printed, Accepted, Rejected, Words, Missing, TooLong, Model, EmptySet, TooWide, WideNode, WideBudget, Cert, Scenarios, Whole, Sweep, Cells, Tree, TreeRejected, NoRow, ReadFault, WriteFault, Memory}
+use Rattle.rob_commands.specs.declared.ended.Ended.{Ended}
+use Rattle.rob_commands.specs.declared.ended.Ended.TheVariants.{Optimal, Infeasible, Unbounded, Printed, Accepted, Rejected, Words, Missing, TooLong, Model, EmptySet, TooWide, WideNode, WideBudget, Cert, Scenarios, Whole, Sweep, Cells, Tree, TreeRejected, NoRow, ReadFault, WriteFault, Memory}
 
 -- the text of an answer was put whole
 pub ends_whole : (call : Call) (output : Output) (ended : Ended) (text : List ℕ)

@@ -11,7 +11,7 @@ use Rattle.rob_top.specs.Replies.{AreFound, CameIn, HasTexts, IsAbsence, IsAbsen
 use Rattle.rob_top.specs.declared.files.Files.{Files}
 use Rattle.rob_top.specs.declared.files.Files.TheVariants as fetch
 use Rattle.rob_top.specs.declared.files.Texts.{Texts}
-use Rattle.rob_top.specs.declared.reply.Reply.{Reply}
+use Rattle.rob_commands.specs.declared.reply.Reply.{Reply}
 use Rattle.rob_top.proofs.Fetching.FilesLemmas.{means_absent}
 use Rattle.rob_words.specs.Answers.{line_of}
 use Rattle.rob_words.specs.Commands.{Line}

@@ -14,14 +14,14 @@ use Rattle.rob_top.specs.Calls.{Call, Count, Source, WasRaised, behind, count, s
 use Rattle.rob_top.specs.Files.{Came, IsFoundIn, Request, answer_to, file_of, files_of, first_or, later, most_of, request_of, requests, with_first}
 use Rattle.rob_top.specs.Headline.{Means}
 use Rattle.rob_top.specs.Replies.{AreFound, Asks, AsksOnce, CameIn, IsAbsence, IsAbsentAmong, IsFetched, IsGot, text_of, with_file, with_text}
-use Rattle.rob_top.specs.declared.ended.Ended.{Ended}
-use Rattle.rob_top.specs.declared.ended.Ended.TheVariants.{Optimal, Infeasible, Unbounded, Printed, Accepted, Rejected, Words, Missing, TooLong, Model, EmptySet, TooWide, WideNode, WideBudget, Cert, Scenarios, Whole, Sweep, Cells, Tree, TreeRejected, NoRow, ReadFault, WriteFault, Memory}
+use Rattle.rob_commands.specs.declared.ended.Ended.{Ended}
+use Rattle.rob_commands.specs.declared.ended.Ended.TheVariants.{Optimal, Infeasible, Unbounded, Printed, Accepted, Rejected, Words, Missing, TooLong, Model, EmptySet, TooWide, WideNode, WideBudget, Cert, Scenarios, Whole, Sweep, Cells, Tree, TreeRejected, NoRow, ReadFault, WriteFault, Memory}
 use Rattle.rob_top.specs.declared.files.Files.{Files}
 use Rattle.rob_top.specs.declared.files.Files.TheVariants as files
 use Rattle.rob_top.specs.declared.files.Got.{Got}
 use Rattle.rob_top.specs.declared.files.Got.TheVariants.{Bytes, Answer}
 use Rattle.rob_top.specs.declared.files.Texts.{Texts}
-use Rattle.rob_top.specs.declared.reply.Reply.{Reply}
+use Rattle.rob_commands.specs.declared.reply.Reply.{Reply}
 use Rattle.rob_top.proofs.Fetching.OwnLemmas.{later_request, text_of-other, text_of-same}
 use Rattle.rob_number.proofs.CountLemmas.{rose_later}
 use Rattle.rob_words.specs.Commands.{Line, IsSpelled}

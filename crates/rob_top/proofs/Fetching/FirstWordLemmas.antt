@@ -7,7 +7,7 @@ use Rattle.rob_top.specs.Files.{IsFoundIn, files_of, most_of}
 use Rattle.rob_top.specs.Replies.{Asks, AsksOnce, IsAbsence, IsFetched, with_file}
 use Rattle.rob_top.specs.declared.files.Files.{Files}
 use Rattle.rob_top.specs.declared.files.Files.TheVariants as files
-use Rattle.rob_top.specs.declared.reply.Reply.{Reply}
+use Rattle.rob_commands.specs.declared.reply.Reply.{Reply}
 use Rattle.rob_words.specs.Values.{Word}
 use Rattle.rob_words.specs.declared.verb.Own.{Own}
 use Rattle.rob_top.proofs.Fetching.FilesLemmas.{first_absent, more_fetched, others, passed_over, split_first}

@@ -19,25 +19,27 @@ use Rattle.rob_reach.specs.Trees.{Tree}
 use Rattle.rob_reach.specs.WholeStatus.{HasWholeStatus}
 use Rattle.rob_tree.specs.Reading.{TreeFits}
 use Rattle.rob_tree.specs.Shape.{HasTreeShape}
+use Rattle.rob_tree.specs.TreeText.{tree_text}
 use Rattle.rob_tree.specs.View.{branch_of}
 use Rattle.rob_tree.specs.declared.error.TreeStop.{TreeStop}
 use Rattle.rob_tree.specs.declared.error.TreeStop.TheVariants as ungrown
-use Rattle.rob_top.specs.Answers.{whole_fault_text}
+use Rattle.rob_commands.specs.Answers.{whole_fault_text}
 use Rattle.rob_top.specs.Branched.{IsBranched, IsPrintedTree, no_ranges, no_variables}
+use Rattle.rob_commands.specs.TreeReport.{IsReport}
 use Rattle.rob_top.specs.Calls.{Call, Count, count}
 use Rattle.rob_top.specs.Commands.{IsBranching}
 use Rattle.rob_top.specs.Files.{word_of}
 use Rattle.rob_top.specs.Headline.{Means}
 use Rattle.rob_top.specs.Inputs.{AreVariables}
-use Rattle.rob_top.specs.Replies.{Replies}
-use Rattle.rob_top.specs.Work.{AnswersModel, AnswersNames, AnswersVariables, IsCallAt, ended_of}
-use Rattle.rob_top.specs.WorkStops.{IsUngrownOf, RepliesUngrown}
+use Rattle.rob_commands.specs.Replies.{Replies, ended_of}
+use Rattle.rob_top.specs.Work.{AnswersModel, AnswersNames, AnswersVariables, IsCallAt}
+use Rattle.rob_commands.specs.Stops.{IsUngrownOf, RepliesUngrown}
 use Rattle.rob_top.specs.Ways.{branched, while_branching, while_growing}
-use Rattle.rob_top.specs.declared.ended.Ended.{Ended}
-use Rattle.rob_top.specs.declared.ended.Ended.TheVariants.{Whole}
+use Rattle.rob_commands.specs.declared.ended.Ended.{Ended}
+use Rattle.rob_commands.specs.declared.ended.Ended.TheVariants.{Whole}
 use Rattle.rob_top.specs.declared.files.Texts.{Texts}
-use Rattle.rob_top.specs.declared.reply.Reply.{Reply}
-use Rattle.rob_top.proofs.Meaning.BoxPathLemmas.{box_spot, path_columns}
+use Rattle.rob_commands.specs.declared.reply.Reply.{Reply}
+use Rattle.rob_commands.proofs.BoxPathLemmas.{box_spot, path_columns}
 use Rattle.rob_top.proofs.Fetching.OwnLemmas.{has_names, own_told}
 use Rattle.rob_words.specs.Commands.{Line}
 use Rattle.rob_words.specs.Names.{parts_of}
@@ -45,6 +47,7 @@ use Rattle.rob_words.specs.Values.{Word}
 use Rattle.rob_words.specs.Verbs.{own_of}
 use Rattle.rob_words.specs.declared.verb.Own.TheVariants as own
 use Rattle.rob_words.specs.declared.verb.Verb.{Verb}
+use Rattle.rob_words.specs.declared.verb.Verb.TheVariants.{Whole as WholeVerb, Tree as TreeVerb}
 use Rattle.rob_elab.specs.Written.{IsWritten}
 
 -- a status is an answer of a tree
@@ -53,6 +56,18 @@ means_branched : (call : Call) (status : Status) (text : List ℕ) → IsBranche
 means_branched call optimal text h = branched h
 means_branched call infeasible text h = branched h
 means_branched call unbounded text h = branched h
+
+-- what a command prints of a tree
+module _ (m : RobustModel) (names : List ℕ) (t : Tree) where
+  pub report_printed : (verb : Verb) (r : Result (List ℕ) Want) → verb ≡ WholeVerb → IfOk r (IsReport m names t)
+      → IfOk r (IsPrintedTree verb m names t)
+  report_printed verb (Err want) e h = tt
+  report_printed verb (Ok text) e h = subst (λ (v : Verb). IsPrintedTree v m names t text) (sym e) h
+
+  pub tree_printed : (verb : Verb) (r : Result (List ℕ) Want) → verb ≡ TreeVerb → IfOk r (λ text. text ≡ tree_text m t)
+      → IfOk r (IsPrintedTree verb m names t)
+  tree_printed verb (Err want) e h = tt
+  tree_printed verb (Ok text) e h = subst (λ (v : Verb). IsPrintedTree v m names t text) (sym e) h
 
 -- what is said of the numbers that were found, or of none
 module _ (m : RobustModel) (names : List ℕ) where

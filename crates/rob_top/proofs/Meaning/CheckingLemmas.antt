@@ -34,19 +34,19 @@ use Rattle.rob_number.specs.declared.memory.Memory.{Memory as Want}
 use Rattle.rob_report.specs.Places.{IsPlaceOf}
 use Rattle.rob_report.specs.Spots.{rejected_line, too_wide_line}
 use Rattle.rob_top.proofs.Meaning.DefaultRoutes.{told_alone}
-use Rattle.rob_top.specs.Answers.{accepted_text, certificate_fault_text}
+use Rattle.rob_commands.specs.Answers.{accepted_text, certificate_fault_text}
 use Rattle.rob_top.specs.Calls.{Call, Count, count, limit_of}
 use Rattle.rob_top.specs.Files.{HasFile}
 use Rattle.rob_top.specs.Headline.{Means}
 use Rattle.rob_top.specs.Inputs.{BreaksCertificate}
 use Rattle.rob_top.specs.Refused.{checking}
-use Rattle.rob_top.specs.Replies.{Replies}
+use Rattle.rob_commands.specs.Replies.{Replies}
 use Rattle.rob_top.specs.Work.{AnswersCertificate, AnswersFile, AnswersWhole}
 use Rattle.rob_top.specs.Ways.{a_certificate, in_model, not_checked}
-use Rattle.rob_top.specs.declared.ended.Ended.{Ended}
-use Rattle.rob_top.specs.declared.ended.Ended.TheVariants.{Accepted, Rejected, TooWide, Cert}
+use Rattle.rob_commands.specs.declared.ended.Ended.{Ended}
+use Rattle.rob_commands.specs.declared.ended.Ended.TheVariants.{Accepted, Rejected, TooWide, Cert}
 use Rattle.rob_top.specs.declared.files.Texts.{Texts}
-use Rattle.rob_top.specs.declared.reply.Reply.{Reply}
+use Rattle.rob_commands.specs.declared.reply.Reply.{Reply}
 use Rattle.rob_top.proofs.Fetching.OwnLemmas.{file_came, has_kind}
 use Rattle.rob_round_trip.proofs.Faultless.CanonicalScopes.{each_mapped}
 use Rattle.rob_number.proofs.CountLemmas.{rose_later}

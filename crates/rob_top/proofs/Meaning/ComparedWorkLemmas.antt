@@ -25,9 +25,9 @@ use Rattle.rob_top.proofs.Meaning.WorkLemmas.{limit_is, rose_still}
 use Rattle.rob_top.specs.Calls.{Count, count}
 use Rattle.rob_top.specs.Compared.{heading}
 use Rattle.rob_top.specs.ComparedWork.{RoseAtSpot, RepliesCompared, IsLineOf, first_ended}
-use Rattle.rob_top.specs.Replies.{Replies}
+use Rattle.rob_commands.specs.Replies.{Replies}
 use Rattle.rob_top.specs.Routes.{HasStopCause, SolvesBy}
-use Rattle.rob_top.specs.declared.reply.Reply.{Reply}
+use Rattle.rob_commands.specs.declared.reply.Reply.{Reply}
 use Rattle.rob_words.specs.Values.{bits_of, greatest_of}
 use Rattle.rob_words.specs.declared.route.Route.{Route}
 use Rattle.rob_words.specs.declared.route.Route.TheVariants.{Dual, Cuts}

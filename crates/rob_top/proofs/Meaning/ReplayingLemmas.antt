@@ -1,9 +1,7 @@
 -- The answers of `replay`, from what the reading of a certificate and the replaying of a scenario file answer.
 use Rattle.std.proofs.Common.{◌≡◌, ◌≢◌, ℕ, ◌≤◌, true, List, Result, Ok, Err, IfOk, refl, subst, sym, ap, ◌∙◌}
 use Rattle.rob_cert.specs.Apart.{FitsLines}
-use Rattle.rob_cert.specs.View.{status_of}
 use Rattle.rob_cert.specs.Whole.{IsTextOf}
-use Rattle.rob_cert.specs.declared.certificate.Status.{Status}
 use Rattle.rob_cert.specs.declared.certificate.Status.TheVariants as status
 use Rattle.rob_meaning.specs.Certificates.{Certificate, infeasible}
 use Rattle.rob_meaning.specs.Guarantee.{HasBound}
@@ -21,19 +19,19 @@ use Rattle.rob_replay.specs.View.{Gives}
 use Rattle.rob_report.specs.Spots.{too_wide_line}
 use Rattle.rob_report.specs.Tables.{table_of}
 use Rattle.rob_top.proofs.Meaning.DefaultRoutes.{told_alone}
-use Rattle.rob_top.specs.Answers.{certificate_fault_text, scenarios_fault_text}
+use Rattle.rob_commands.specs.Answers.{certificate_fault_text, scenarios_fault_text}
 use Rattle.rob_top.specs.Calls.{Count, count}
 use Rattle.rob_top.specs.Files.{HasFile}
 use Rattle.rob_top.specs.Headline.{Means}
 use Rattle.rob_top.specs.Inputs.{BreaksCertificate, planless, unread}
 use Rattle.rob_top.specs.Refused.{replaying}
-use Rattle.rob_top.specs.Replies.{Replies}
+use Rattle.rob_commands.specs.Replies.{Replies}
 use Rattle.rob_top.specs.Work.{AnswersModel, AnswersPlan, AnswersReplay, AnswersScenarios}
 use Rattle.rob_top.specs.Ways.{in_model, not_replayed, replayed}
-use Rattle.rob_top.specs.declared.ended.Ended.{Ended}
-use Rattle.rob_top.specs.declared.ended.Ended.TheVariants.{Printed, TooWide, Cert, Scenarios}
+use Rattle.rob_commands.specs.declared.ended.Ended.{Ended}
+use Rattle.rob_commands.specs.declared.ended.Ended.TheVariants.{Printed, TooWide, Cert, Scenarios}
 use Rattle.rob_top.specs.declared.files.Texts.{Texts}
-use Rattle.rob_top.specs.declared.reply.Reply.{Reply}
+use Rattle.rob_commands.specs.declared.reply.Reply.{Reply}
 use Rattle.rob_top.proofs.Fetching.OwnLemmas.{file_came, has_kind}
 use Rattle.rob_number.proofs.CountLemmas.{rose_later}
 use Rattle.rob_top.proofs.Meaning.WorkLemmas.{call_of_verb, call_within}
@@ -44,14 +42,6 @@ use Rattle.rob_words.specs.declared.verb.Own.{Own}
 use Rattle.rob_words.specs.declared.verb.Own.TheVariants as own
 use Rattle.rob_words.specs.declared.verb.Verb.{Verb}
 use Rattle.rob_words.specs.declared.verb.Verb.TheVariants.{Replay}
-
--- certificates of these statuses have a plan
-pub optimal_planned : (s : Status) → s ≡ status.Optimal → status_of s ≢ infeasible
-optimal_planned s e lacking = let clash : status_of status.Optimal ≡ infeasible = ap status_of (sym e) ∙ lacking in cc
-
-pub unbounded_planned : (s : Status) → s ≡ status.Unbounded → status_of s ≢ infeasible
-unbounded_planned s e lacking =
-    let clash : status_of status.Unbounded ≡ infeasible = ap status_of (sym e) ∙ lacking in cc
 
 module _ (limit : ℕ) (m : RobustModel) where
   -- ---- a certificate with a plan, and a scenario file

@@ -37,7 +37,7 @@ use Rattle.rob_top.proofs.Meaning.BeforeLemmas.{path_in_set}
 use Rattle.rob_top.specs.Endings.{IsEmptyAnswer}
 use Rattle.rob_top.specs.WorkStops.{IsStopOf}
 use Rattle.rob_top.specs.Routes.{HasStopCause, IsFound, IsFoundBy, IsWideBy, IsWideOnWay, SolvesBy}
-use Rattle.rob_top.specs.declared.ended.Ended.TheVariants.{TooWide}
+use Rattle.rob_commands.specs.declared.ended.Ended.TheVariants.{TooWide}
 use Rattle.rob_words.specs.declared.route.Route.{Route}
 use Rattle.rob_words.specs.declared.route.Route.TheVariants.{Dual, Cuts}
 

@@ -36,8 +36,8 @@ use Rattle.rob_top.specs.Searched.{IsWideSought, certificate_vector, in_search, 
 use Rattle.rob_top.specs.SearchWork.{AnswersSought, RepliesWorst}
 use Rattle.rob_top.specs.WorkStops.{IsStopOf, RepliesStop}
 use Rattle.rob_top.specs.Ways.{in_model, while_searching}
-use Rattle.rob_top.specs.declared.ended.Ended.{Ended}
-use Rattle.rob_top.specs.declared.reply.Reply.{Reply}
+use Rattle.rob_commands.specs.declared.ended.Ended.{Ended}
+use Rattle.rob_commands.specs.declared.reply.Reply.{Reply}
 use Rattle.rob_words.specs.declared.route.Route.TheVariants.{Dual}
 
 -- the vector has a number for each column of a form

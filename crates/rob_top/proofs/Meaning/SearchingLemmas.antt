@@ -42,21 +42,21 @@ use Rattle.rob_top.proofs.Fetching.OwnLemmas.{file_came, has_form, has_kind, own
 use Rattle.rob_number.proofs.CountLemmas.{rose_later}
 use Rattle.rob_top.proofs.Meaning.WorkLemmas.{call_of_verb, call_within}
 use Rattle.rob_top.proofs.Meaning.WorstSlackLemmas.{bound_slack, fitting_slack, scale_some, worst_found_at}
-use Rattle.rob_top.specs.Answers.{certificate_fault_text, no_row_text}
+use Rattle.rob_commands.specs.Answers.{certificate_fault_text, no_row_text}
 use Rattle.rob_top.specs.Calls.{Count, count, limit_of}
 use Rattle.rob_top.specs.Files.{HasFile, word_of}
 use Rattle.rob_top.specs.Headline.{Means}
 use Rattle.rob_top.specs.Inputs.{BreaksCertificate, planless, unread}
 use Rattle.rob_top.specs.Refused.{searching}
-use Rattle.rob_top.specs.Replies.{Replies}
+use Rattle.rob_commands.specs.Replies.{Replies}
 use Rattle.rob_top.specs.Searched.{IsWideSought, IsWorstScenario, ShowsKept, ShowsWorst, attained, certificate_vector, endless, in_slack}
 use Rattle.rob_top.specs.SearchWork.{AnswersPlanned, AnswersSearch, AnswersSearched, AnswersSought, HasScale, RepliesSlack, RepliesWorst}
 use Rattle.rob_top.specs.Work.{AnswersWhole}
 use Rattle.rob_top.specs.Ways.{in_model, not_searched, worst_found}
-use Rattle.rob_top.specs.declared.ended.Ended.{Ended}
-use Rattle.rob_top.specs.declared.ended.Ended.TheVariants.{Cert, NoRow, Printed}
+use Rattle.rob_commands.specs.declared.ended.Ended.{Ended}
+use Rattle.rob_commands.specs.declared.ended.Ended.TheVariants.{Cert, NoRow, Printed}
 use Rattle.rob_top.specs.declared.files.Texts.{Texts}
-use Rattle.rob_top.specs.declared.reply.Reply.{Reply}
+use Rattle.rob_commands.specs.declared.reply.Reply.{Reply}
 use Rattle.rob_words.specs.Values.{Word}
 use Rattle.rob_words.specs.Verbs.{own_of}
 use Rattle.rob_words.specs.declared.verb.Own.TheVariants as own

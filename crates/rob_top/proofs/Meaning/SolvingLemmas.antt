@@ -1,9 +1,9 @@
 -- The answers of `solve` and `prove`, from what their route answers.
-use Rattle.std.proofs.Common.{◌≡◌, ◌≢◌, ℕ, suc, ◌+◌, ◌*◌, ◌^◌, ◌<◌, ◌≤◌, nat_abs, List, length, Result, Ok, Err, IfOk, refl, subst, sym, ap, arith}
+use Rattle.std.proofs.Common.{◌≡◌, ℕ, suc, ◌+◌, ◌*◌, ◌^◌, ◌<◌, ◌≤◌, nat_abs, List, length, Result, Ok, Err, IfOk, refl, subst, sym, ap, arith}
 use Rattle.std.proofs.Math.Nat.{mul-le-mul}
 use Rattle.std.proofs.lemmas.List.{length-map}
 use Rattle.std.specs.Prelude.{MatchResult}
-use Rattle.rob_algebra.specs.Fraction.{Fraction, ◌<ℚ◌}
+use Rattle.rob_algebra.specs.Fraction.{Fraction}
 use Rattle.rob_algebra.specs.Width.{Fits}
 use Rattle.rob_cert.proofs.FitLemmas.{answer_fits}
 use Rattle.rob_cert.specs.Apart.{FitsLines}
@@ -21,18 +21,12 @@ use Rattle.rob_dualize.specs.Wholes.{IsFew, counterpart_of}
 use Rattle.rob_elab.specs.Forms.{IsForms}
 use Rattle.rob_elab.specs.declared.forms.Forms.{Forms}
 use Rattle.rob_meaning.specs.Certificates.{Certificate, Status, optimal, infeasible, unbounded}
-use Rattle.rob_meaning.specs.Forms.{forms, matrix_of, plan_vector}
-use Rattle.rob_meaning.specs.Guarantee.{HasBound}
-use Rattle.rob_meaning.specs.Places.{0ℚ, 1ℚ, Each}
-use Rattle.rob_meaning.specs.Proves.{EachCovered, HasStatus, Proves, ProvesAs, amounts_of}
-use Rattle.rob_meaning.specs.RobustModel.{RobustModel, column_count}
+use Rattle.rob_meaning.specs.Forms.{forms, matrix_of}
+use Rattle.rob_meaning.specs.Places.{Each}
+use Rattle.rob_meaning.specs.Proves.{HasStatus, ProvesAs}
+use Rattle.rob_meaning.specs.RobustModel.{RobustModel}
 use Rattle.rob_meaning.specs.SetRows.{set_rows}
-use Rattle.rob_meaning.specs.UncertaintySet.{Admits}
 use Rattle.rob_meaning.specs.WellFormed.{IsModel}
-use Rattle.rob_meaning.proofs.AdmittedLemmas.{admits_meets}
-use Rattle.rob_meaning.proofs.AtLemmas.{at_bound}
-use Rattle.rob_meaning.proofs.CoverLemmas.{covered_at}
-use Rattle.rob_meaning.proofs.LinearLemmas.{zero_le_one}
 use Rattle.rob_meaning.proofs.NameLemmas.{length-form_names, length-set_row_names}
 use Rattle.rob_meaning.proofs.ProvesLemmas.{certificate_true}
 use Rattle.rob_meaning.proofs.StatusLemmas.{optimum_is_worst_case}
@@ -45,18 +39,19 @@ use Rattle.rob_report.specs.Report.{report_of}
 use Rattle.rob_report.specs.Spots.{too_wide_line}
 use Rattle.rob_sets.specs.SetForm.{IsSetForm, cleared_row}
 use Rattle.rob_sets.specs.declared.set_form.SetForm.{SetForm}
+use Rattle.rob_commands.proofs.PlanLemmas.{covered_bound}
 use Rattle.rob_top.specs.Calls.{Call, Count, count, limit_of}
 use Rattle.rob_top.specs.Commands.{IsSolving}
 use Rattle.rob_top.specs.Headline.{Means}
 use Rattle.rob_top.specs.Inputs.{HasForms}
-use Rattle.rob_top.specs.Replies.{Replies}
+use Rattle.rob_commands.specs.Replies.{Replies, ended_of}
 use Rattle.rob_top.specs.Routes.{HasStopCause, IsFound, IsFoundBy, IsWideBy, SolvesBy, with_rounds}
 use Rattle.rob_top.specs.Solved.{HasPlanValue, IsPrinted, IsSolved}
-use Rattle.rob_top.specs.Work.{AnswersRoute, ended_of}
+use Rattle.rob_top.specs.Work.{AnswersRoute}
 use Rattle.rob_top.specs.WorkStops.{RepliesStop}
 use Rattle.rob_top.specs.Ways.{on_way, solved, while_solving}
-use Rattle.rob_top.specs.declared.ended.Ended.{Ended}
-use Rattle.rob_top.specs.declared.reply.Reply.{Reply}
+use Rattle.rob_commands.specs.declared.ended.Ended.{Ended}
+use Rattle.rob_commands.specs.declared.reply.Reply.{Reply}
 use Rattle.rob_words.specs.Commands.{Line}
 use Rattle.rob_words.specs.declared.route.Route.{Route}
 use Rattle.rob_words.specs.declared.verb.Verb.{Verb}
@@ -100,29 +95,12 @@ solve_counted {N = N} way value limit m before now r h = by r h.counted
 
 -- ---- what a certificate that proves says of its plan
 module _ (m : RobustModel) (model : IsModel m) where
-  covered_bound : (c : Certificate) → Admits m c.inside → length c.plan ≡ column_count m → 0ℚ <ℚ c.scale
-      → EachCovered m c.covers c.scale (plan_vector 1ℚ c.plan c.value) → HasBound m c.plan c.value
-  covered_bound c inside columns some covered =
-      at_bound m model c.plan c.value c.inside inside columns
-      (λ u admitted i k.
-      covered_at m model i k c.scale (plan_vector 1ℚ c.plan c.value) (amounts_of m c.covers i) (covered i k) 1ℚ u some
-      zero_le_one (admits_meets m model u admitted))
-
   kept_as : (call : Call) (c : Certificate) (status : Status) → ProvesAs status m c → HasStatus m status c.value
       → HasPlanValue call m c status
   kept_as call c optimal h true_of =
-      optimum_is_worst_case m c.plan c.value true_of (covered_bound c h.inside h.columns h.scale h.covered)
+      optimum_is_worst_case m c.plan c.value true_of (covered_bound m model c h.inside h.columns h.scale h.covered)
   kept_as call c infeasible h true_of = tt
-  kept_as call c unbounded h true_of = covered_bound c h.inside h.columns h.scale h.covered
-
-  -- the plan of one has its bound
-  pub proved_bound : (c : Certificate) → Proves m c → c.status ≢ infeasible → HasBound m c.plan c.value
-  proved_bound c = by c.status
-    where
-      by : (status : Status) → ProvesAs status m c → status ≢ infeasible → HasBound m c.plan c.value
-      by optimal h some = covered_bound c h.inside h.columns h.scale h.covered
-      by infeasible h some = absurd (some refl)
-      by unbounded h some = covered_bound c h.inside h.columns h.scale h.covered
+  kept_as call c unbounded h true_of = covered_bound m model c h.inside h.columns h.scale h.covered
 
 -- the command solves as the known one does
 solves_as : (verb same : Verb) → verb ≡ same → IsSolving same → IsSolving verb

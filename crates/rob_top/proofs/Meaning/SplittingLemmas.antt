@@ -24,12 +24,12 @@ use Rattle.rob_pieces.proofs.PieceLemmas.{bound_piece}
 use Rattle.rob_pieces.specs.Cuts.{AreCuts, Cut, cell_count}
 use Rattle.rob_pieces.specs.SplitModel.{split_model}
 use Rattle.rob_report.specs.Report.{report_of}
-use Rattle.rob_top.proofs.Meaning.BoxPathLemmas.{spot_in}
+use Rattle.rob_commands.proofs.BoxPathLemmas.{spot_in}
 use Rattle.rob_top.proofs.Courses.CommandLemmas.{is_splitting_work}
 use Rattle.rob_top.proofs.Courses.CourseLemmas.{inside_admitted}
 use Rattle.rob_top.proofs.Fetching.OwnLemmas.{has_kind, own_of_kind, own_told, second_of}
 use Rattle.rob_top.proofs.Meaning.RouteLemmas.{no_rounds}
-use Rattle.rob_top.proofs.Meaning.SolvingLemmas.{proved_bound}
+use Rattle.rob_commands.proofs.PlanLemmas.{proved_bound}
 use Rattle.rob_number.proofs.CountLemmas.{rose_later}
 use Rattle.rob_top.proofs.Meaning.WorkLemmas.{call_within}
 use Rattle.rob_top.specs.Calls.{Call, Count, count, limit_of}
@@ -37,15 +37,16 @@ use Rattle.rob_top.specs.Files.{word_of}
 use Rattle.rob_top.specs.Headline.{Means}
 use Rattle.rob_top.specs.Inputs.{HasModel}
 use Rattle.rob_top.specs.WorkStops.{IsStopOf, RepliesStop}
-use Rattle.rob_top.specs.Replies.{Replies}
-use Rattle.rob_top.specs.Split.{AreCutsAt, EachCellAdmits, HasCuts, HasCutWord, HasSplit, HasStatusOverPieces, IsPieceKept, IsPieced, TellsCuts, cells_fault_text, cells_line, named_set, no_parameter, of_split}
+use Rattle.rob_commands.specs.Replies.{Replies, ended_of}
+use Rattle.rob_top.specs.Split.{AreCutsAt, EachCellAdmits, HasCuts, HasCutWord, HasSplit, HasStatusOverPieces, IsPieceKept, IsPieced, TellsCuts, cells_fault_text, named_set, no_parameter, of_split}
+use Rattle.rob_commands.specs.Answers.{cells_line}
 use Rattle.rob_top.specs.Commands.{IsSplitting, Work, work_of}
 use Rattle.rob_top.specs.SplitWork.{AnswersCutWord, AnswersCuts, RepliesPieces, RepliesSplit}
 use Rattle.rob_top.specs.Ways.{in_cells, in_split, pieced, split_written}
-use Rattle.rob_top.specs.Work.{AnswersWords, IsCallAt, ended_of}
-use Rattle.rob_top.specs.declared.ended.Ended.{Ended}
-use Rattle.rob_top.specs.declared.ended.Ended.TheVariants.{Printed, Cells as CellsRule}
-use Rattle.rob_top.specs.declared.reply.Reply.{Reply}
+use Rattle.rob_top.specs.Work.{AnswersWords, IsCallAt}
+use Rattle.rob_commands.specs.declared.ended.Ended.{Ended}
+use Rattle.rob_commands.specs.declared.ended.Ended.TheVariants.{Printed, Cells as CellsRule}
+use Rattle.rob_commands.specs.declared.reply.Reply.{Reply}
 use Rattle.rob_words.proofs.EachValue.{each_value}
 use Rattle.rob_words.specs.Commands.{Line}
 use Rattle.rob_words.specs.Cuts.{IsCutList}

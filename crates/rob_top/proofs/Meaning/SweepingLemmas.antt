@@ -1,15 +1,12 @@
 -- The answers of `sweep` and `sweeptext`, from what the words tell and what the sweep answers.
-use Rattle.std.proofs.Common.{◌≡◌, ◌≤◌, ◌++◌, ℕ, ◌-◌, suc, true, List, [], ◌∷◌, length, map, Some, Result, Ok, Err, IfOk, get_or, inl, inr, refl, subst, sym, ap, ◌∙◌, arith}
+use Rattle.std.proofs.Common.{◌≡◌, ◌≤◌, ℕ, ◌-◌, suc, true, List, [], ◌∷◌, length, map, Some, Result, Ok, Err, IfOk, inl, inr, refl, subst, sym, ap, ◌∙◌}
 use Rattle.std.proofs.lemmas.List.{length-map}
 use Rattle.rob_algebra.specs.Fraction.{Fraction}
 use Rattle.rob_algebra.specs.Width.{Fits}
-use Rattle.rob_dualize.specs.Models.{IsWideIn}
 use Rattle.rob_meaning.specs.Places.{Each}
 use Rattle.rob_meaning.specs.RobustModel.{RobustModel}
-use Rattle.rob_model.specs.declared.place.Spot.{Spot}
 use Rattle.rob_number.specs.declared.memory.Memory.{Memory as Want}
-use Rattle.rob_reach.specs.Sweeps.{IsBudgetAt, SweepAnswer, Swept, with_budget}
-use Rattle.rob_report.specs.Places.{IsSpotOf}
+use Rattle.rob_reach.specs.Sweeps.{SweepAnswer, Swept}
 use Rattle.rob_sweep.specs.Answering.{AreWritten, EachAnswer, EachGrowsHarder, NamesEmpty}
 use Rattle.rob_sweep.specs.Stops.{CountsSweepStop, HasCause, IsWideAtLimit, KeepsRules}
 use Rattle.rob_sweep.specs.SweepText.{sweep_text}
@@ -18,21 +15,20 @@ use Rattle.rob_sweep.specs.declared.answer.SweepAnswer as answer
 use Rattle.rob_sweep.specs.declared.answer.SweepAnswer.TheVariants.{Optimal, Infeasible, Unbounded, Empty}
 use Rattle.rob_sweep.specs.declared.answer.SweepStop.{SweepStop}
 use Rattle.rob_sweep.specs.declared.answer.SweepStop.TheVariants as unswept
-use Rattle.rob_top.specs.Answers.{wide_budget_text, words_text}
+use Rattle.rob_commands.specs.Answers.{wide_budget_text, words_text}
 use Rattle.rob_top.specs.Calls.{Call, Count, count, limit_of}
 use Rattle.rob_top.specs.Files.{word_of}
 use Rattle.rob_top.specs.Headline.{Means}
 use Rattle.rob_top.specs.Inputs.{HasModel}
-use Rattle.rob_top.specs.Replies.{Replies}
+use Rattle.rob_commands.specs.Replies.{Replies}
 use Rattle.rob_top.specs.Swept.{HasLimit, ValueFits, at_limit, at_limits, limit_value}
 use Rattle.rob_top.specs.Work.{AnswersModel, AnswersSweep, AnswersWords, IsCallAt}
-use Rattle.rob_top.specs.WorkStops.{RepliesLimit, RepliesUnswept}
+use Rattle.rob_commands.specs.Stops.{RepliesLimit, RepliesUnswept}
 use Rattle.rob_top.specs.Ways.{priced, limited}
-use Rattle.rob_top.specs.declared.ended.Ended.{Ended}
-use Rattle.rob_top.specs.declared.ended.Ended.TheVariants.{Printed, WideBudget, Words}
+use Rattle.rob_commands.specs.declared.ended.Ended.{Ended}
+use Rattle.rob_commands.specs.declared.ended.Ended.TheVariants.{Printed, WideBudget, Words}
 use Rattle.rob_top.specs.declared.files.Texts.{Texts}
-use Rattle.rob_top.specs.declared.reply.Reply.{Reply}
-use Rattle.rob_top.proofs.Meaning.BoxPathLemmas.{spot_in}
+use Rattle.rob_commands.specs.declared.reply.Reply.{Reply}
 use Rattle.rob_top.proofs.Fetching.OwnLemmas.{has_kind, own_of_kind, own_told}
 use Rattle.rob_number.proofs.CountLemmas.{rose_later}
 use Rattle.rob_top.proofs.Meaning.WorkLemmas.{call_within}
@@ -45,7 +41,6 @@ use Rattle.rob_words.specs.declared.verb.Own.{Own}
 use Rattle.rob_words.specs.declared.verb.Own.TheVariants as own
 use Rattle.rob_words.specs.declared.verb.Verb.{Verb}
 use Rattle.rob_words.specs.declared.verb.Verb.TheVariants as verbs
-use Rattle.rob_write.specs.Canonical.{model_text}
 
 -- ---- the command's own words are the line's
 module _ (limit : ℕ) (wides : Count) (m : RobustModel) (verb : Verb) (kind : Own)
@@ -89,12 +84,6 @@ answers_fit value limit fits (Optimal v ∷ answers) = (fits v, answers_fit valu
 answers_fit value limit fits (Infeasible ∷ answers) = (tt, answers_fit value limit fits answers)
 answers_fit value limit fits (Unbounded ∷ answers) = (tt, answers_fit value limit fits answers)
 answers_fit value limit fits (Empty ∷ answers) = (tt, answers_fit value limit fits answers)
-
--- why a sweep stopped at a wide number
-pub wide_cause : (limit : ℕ) (m : RobustModel) (n : ℕ) (gs : List Fraction) (s : SweepStop) (number : ℕ) (spot : Spot)
-    → s ≡ unswept.Wide number spot → HasCause limit m n gs s → KeepsRules m.set_lines n gs
-    × IsWideAtLimit limit m n gs number spot
-wide_cause limit m n gs s number spot is cause = subst (λ (x : SweepStop). HasCause limit m n gs x) is cause
 
 -- ---- `sweep`
 module _ (limit : ℕ) (m : RobustModel) where
@@ -231,44 +220,6 @@ module _ (limit : ℕ) (m : RobustModel) where
       by call line has (inr is) =
           subst (λ (ended : Ended). Means call ended reply.text) (sym is.1.0)
           (record { line = line; m = m; breaks = at_limit n g has is.0 refl; printed = is.1.1 })
-
-  -- ---- a number that is wide at a limit
-  -- the limit of a number of the list
-  limit_at : (before after : List Fraction) (here : Fraction) (k : ℕ) (d : Fraction) → k ≡ length before
-      → get_or (before ++ here ∷ after) k d ≡ here
-  limit_at [] after here k d e = ap (λ (i : ℕ). get_or (here ∷ after) i d) e
-  limit_at (g ∷ before) after here k d e =
-      ap (λ (i : ℕ). get_or ((g ∷ before) ++ here ∷ after) i d) e ∙ limit_at before after here (length before) d refl
-
-  pub wide_here : (n : ℕ) (gs : List Fraction) (number : ℕ) (spot : Spot) (g d : Fraction)
-      (h : IsWideAtLimit limit m n gs number spot)
-      → g ≡ get_or gs (number - 1) d → h.here ≡ g
-  wide_here n gs number spot g d h is =
-      let back : number - 1 ≡ length h.before = omega (arith, h.counted) in
-      sym (is ∙ ap (λ (xs : List Fraction). get_or xs (number - 1) d) h.order
-      ∙ limit_at h.before h.after h.here (number - 1) d back)
-
-  pub wide_there : (n : ℕ) (gs : List Fraction) (number : ℕ) (spot : Spot) (g d : Fraction)
-      (h : IsWideAtLimit limit m n gs number spot)
-      → g ≡ get_or gs (number - 1) d → IsSpotOf (with_budget m n g) spot
-  wide_there n gs number spot g d h is =
-      spot_in limit (with_budget m n g) spot
-      (subst (λ (x : Fraction). IsWideIn limit (with_budget m n x) spot) (wide_here n gs number spot g d h is) h.wide)
-
-  pub wide_replies : (n : ℕ) (gs : List Fraction) (number : ℕ) (spot : Spot) (g d : Fraction) (r : Result Reply Want)
-      → g ≡ get_or gs (number - 1) d → IfOk r (Replies (WideBudget number spot) (wide_budget_text m n g spot))
-      → IfOk r (RepliesUnswept limit m n gs (unswept.Wide number spot))
-  wide_replies n gs number spot g d (Err want) is h = tt
-  wide_replies n gs number spot g d (Ok reply) is h = λ wide.
-      subst (λ (x : Fraction). Replies (WideBudget number spot) (wide_budget_text m n x spot) reply)
-      (sym (wide_here n gs number spot g d wide is)) h
-
--- the reply to `sweeptext`, where the statement is a budget
-pub limit_replies : (m changed : RobustModel) (n : ℕ) (g : Fraction) (r : Result Reply Want) → IsBudgetAt m.set_lines n
-    → changed ≡ with_budget m n g → IfOk r (Replies Printed (model_text changed)) → IfOk r (RepliesLimit m n g)
-limit_replies m changed n g (Err want) budget same is = tt
-limit_replies m changed n g (Ok reply) budget same is =
-    inl (budget, subst (λ (x : RobustModel). Replies Printed (model_text x) reply) same is)
 
 -- ---- the command's own words are the line's
 module _ (limit : ℕ) (m : RobustModel) where

@@ -17,20 +17,20 @@ use Rattle.rob_tree.specs.declared.verdict.TreeVerdict.TheVariants as verdict
 use Rattle.rob_top.proofs.Fetching.OwnLemmas.{file_came, has_kind, own_told}
 use Rattle.rob_number.proofs.CountLemmas.{rose_later}
 use Rattle.rob_top.proofs.Meaning.WorkLemmas.{call_of_verb, call_within}
-use Rattle.rob_top.specs.Answers.{tree_fault_text, whole_fault_text}
+use Rattle.rob_commands.specs.Answers.{tree_fault_text, whole_fault_text}
 use Rattle.rob_top.specs.Branched.{no_ranges, no_variables}
 use Rattle.rob_top.specs.Calls.{Count, count}
 use Rattle.rob_top.specs.Files.{HasFile, word_of}
 use Rattle.rob_top.specs.Headline.{Means}
 use Rattle.rob_top.specs.Inputs.{AreVariables}
-use Rattle.rob_top.specs.Replies.{Replies}
+use Rattle.rob_commands.specs.Replies.{Replies}
 use Rattle.rob_top.specs.TreeWork.{AnswersTree, AnswersTreeFile, AnswersTreeNames, AnswersTreeNumbers, RepliesVerdict}
 use Rattle.rob_top.specs.Work.{AnswersModel}
 use Rattle.rob_top.specs.Ways.{a_tree, while_checking}
-use Rattle.rob_top.specs.declared.ended.Ended.{Ended}
-use Rattle.rob_top.specs.declared.ended.Ended.TheVariants.{Whole, Tree as TreeRule}
+use Rattle.rob_commands.specs.declared.ended.Ended.{Ended}
+use Rattle.rob_commands.specs.declared.ended.Ended.TheVariants.{Whole, Tree as TreeRule}
 use Rattle.rob_top.specs.declared.files.Texts.{Texts}
-use Rattle.rob_top.specs.declared.reply.Reply.{Reply}
+use Rattle.rob_commands.specs.declared.reply.Reply.{Reply}
 use Rattle.rob_words.specs.Commands.{Line}
 use Rattle.rob_words.specs.Names.{parts_of}
 use Rattle.rob_words.specs.Values.{Word}

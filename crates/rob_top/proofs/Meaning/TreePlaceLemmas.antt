@@ -31,7 +31,7 @@ use Rattle.rob_tree.specs.declared.tree.Branch as declared
 use Rattle.rob_tree.specs.declared.verdict.LeafFault.{LeafFault}
 use Rattle.rob_tree.specs.declared.verdict.TreeVerdict.{TreeVerdict}
 use Rattle.rob_tree.specs.declared.verdict.TreeVerdict.TheVariants as verdict
-use Rattle.rob_top.proofs.Meaning.BoxPathLemmas.{first_moves, judged_spot}
+use Rattle.rob_commands.proofs.BoxPathLemmas.{first_moves, judged_spot}
 use Rattle.rob_top.proofs.Meaning.CheckingLemmas.{rejected_place, too_wide_place}
 use Rattle.rob_top.specs.TreeWork.{IsFaultOf, IsVerdictOf}
 use Rattle.rob_elab.specs.Written.{judged}

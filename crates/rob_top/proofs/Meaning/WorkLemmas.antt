@@ -16,20 +16,21 @@ use Rattle.rob_report.specs.Rows.{rows_of}
 use Rattle.rob_sets.specs.FirstWide.{HasCause, IsFirstWide, RoseIfWide}
 use Rattle.rob_sets.specs.declared.error.ElabErr.{ElabErr}
 use Rattle.rob_sets.specs.declared.error.ElabErr.TheVariants as refused
-use Rattle.rob_top.specs.Answers.{model_fault_text}
+use Rattle.rob_commands.specs.Answers.{model_fault_text}
 use Rattle.rob_top.specs.Calls.{Call, Count, count, WasRaised}
 use Rattle.rob_top.specs.Commands.{IsElaborating, IsOnModel}
 use Rattle.rob_top.specs.Headline.{Means}
 use Rattle.rob_top.specs.Refused.{elaborating}
-use Rattle.rob_top.specs.Replies.{HasTexts, Replies}
+use Rattle.rob_top.specs.Replies.{HasTexts}
+use Rattle.rob_commands.specs.Replies.{Replies}
 use Rattle.rob_top.specs.Routes.{with_rounds}
 use Rattle.rob_top.specs.Work.{AnswersModel, AnswersRoute, AnswersTexts, AnswersWhole, IsCallAt}
 use Rattle.rob_top.specs.WorkStops.{IsRefusedOf, RepliesRefused, RepliesUnread}
 use Rattle.rob_top.specs.Ways.{in_model, rows}
-use Rattle.rob_top.specs.declared.ended.Ended.{Ended}
-use Rattle.rob_top.specs.declared.ended.Ended.TheVariants.{Printed, Model, TooWide}
+use Rattle.rob_commands.specs.declared.ended.Ended.{Ended}
+use Rattle.rob_commands.specs.declared.ended.Ended.TheVariants.{Printed, Model, TooWide}
 use Rattle.rob_top.specs.declared.files.Texts.{Texts}
-use Rattle.rob_top.specs.declared.reply.Reply.{Reply}
+use Rattle.rob_commands.specs.declared.reply.Reply.{Reply}
 use Rattle.rob_top.proofs.Fetching.OwnLemmas.{file_came, has_model}
 use Rattle.rob_words.specs.Commands.{Line}
 use Rattle.rob_words.specs.Values.{bits_of}
@@ -40,7 +41,7 @@ use Rattle.rob_words.specs.declared.verb.Verb.TheVariants.{Rows}
 use Rattle.rob_words.specs.declared.width.Width.{Width}
 use Rattle.rob_words.specs.declared.width.Width.TheVariants.{Eight, Sixteen, ThirtyTwo, SixtyTwo}
 use Rattle.rob_elab.specs.Written.{judged, IsWritten}
-use Rattle.rob_top.proofs.Meaning.BoxPathLemmas.{judged_spot}
+use Rattle.rob_commands.proofs.BoxPathLemmas.{judged_spot}
 
 -- ---- counts and widths
 

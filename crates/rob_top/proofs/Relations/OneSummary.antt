@@ -15,7 +15,7 @@ use Rattle.rob_top.specs.Generated.{TellsNumber}
 use Rattle.rob_top.specs.Headline.{Means}
 use Rattle.rob_top.specs.Ways as ways
 use Rattle.rob_top.specs.Ways.{Prints}
-use Rattle.rob_top.specs.declared.ended.Ended.TheVariants.{Printed}
+use Rattle.rob_commands.specs.declared.ended.Ended.TheVariants.{Printed}
 use Rattle.rob_words.proofs.Spellings.{one_line}
 use Rattle.rob_words.specs.Commands.{IsSpelled, Line}
 use Rattle.rob_words.specs.declared.route.Route.{Route}

@@ -12,8 +12,8 @@ use Rattle.rob_top.specs.Calls.{Call, Known, known_call, limit_of}
 use Rattle.rob_top.specs.Completeness.{MustEnd}
 use Rattle.rob_top.specs.Endings.{EndsAs, NamesWidth}
 use Rattle.rob_top.specs.TreeChecked.{HasTree, HasTreeFile, IsTreeAccepted}
-use Rattle.rob_top.specs.declared.ended.Ended.{Ended}
-use Rattle.rob_top.specs.declared.ended.Ended.TheVariants.{Accepted}
+use Rattle.rob_commands.specs.declared.ended.Ended.{Ended}
+use Rattle.rob_commands.specs.declared.ended.Ended.TheVariants.{Accepted}
 use Rattle.rob_words.specs.Commands.{Line}
 use Rattle.rob_words.specs.Values.{bits_of}
 use Rattle.rob_words.specs.declared.verb.Verb.{Verb}

@@ -19,7 +19,7 @@ use Rattle.rob_top.specs.Inputs.{HasModel, HasScenarioFile, HasCertificate, HasC
 use Rattle.rob_top.specs.Replayed.{IsReplayed}
 use Rattle.rob_top.specs.Solved.{IsSolved}
 use Rattle.rob_top.specs.Ways.{not_checked, not_replayed, not_searched}
-use Rattle.rob_top.specs.declared.ended.Ended.TheVariants.{Cert}
+use Rattle.rob_commands.specs.declared.ended.Ended.TheVariants.{Cert}
 use Rattle.rob_words.proofs.Spellings.{one_line}
 use Rattle.rob_words.specs.Commands.{Line, IsSpelled}
 use Rattle.rob_words.specs.declared.verb.Verb.TheVariants.{Prove}

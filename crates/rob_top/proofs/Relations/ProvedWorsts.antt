@@ -17,7 +17,7 @@ use Rattle.rob_top.specs.Inputs.{HasModel, HasSought, HasCertificate, HasCertifi
 use Rattle.rob_top.specs.Searched.{IsSearched, ShowsKept, certificate_vector}
 use Rattle.rob_top.specs.Solved.{IsSolved}
 use Rattle.rob_top.specs.Ways.{not_checked, not_replayed, not_searched}
-use Rattle.rob_top.specs.declared.ended.Ended.TheVariants.{Cert}
+use Rattle.rob_commands.specs.declared.ended.Ended.TheVariants.{Cert}
 use Rattle.rob_words.proofs.Spellings.{one_line}
 use Rattle.rob_words.specs.Commands.{Line, IsSpelled}
 use Rattle.rob_words.specs.declared.verb.Verb.TheVariants.{Prove}

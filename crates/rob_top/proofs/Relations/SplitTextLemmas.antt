@@ -44,9 +44,9 @@ use Rattle.rob_top.specs.Solved.{IsSolved}
 use Rattle.rob_top.specs.Split.{AreCutsAt, EachCellAdmits, HasStatusOverPieces, IsSplitText}
 use Rattle.rob_top.specs.SplitTexts.{IsNarrowOnWay, IsPiecesAnswer, TakesSplit, written_split}
 use Rattle.rob_top.specs.Swept.{limit_value}
-use Rattle.rob_top.specs.Work.{ended_of}
-use Rattle.rob_top.specs.declared.ended.Ended.{Ended}
-use Rattle.rob_top.specs.declared.ended.Ended.TheVariants.{Model, EmptySet, TooWide, ReadFault, Memory}
+use Rattle.rob_commands.specs.Replies.{ended_of}
+use Rattle.rob_commands.specs.declared.ended.Ended.{Ended}
+use Rattle.rob_commands.specs.declared.ended.Ended.TheVariants.{Model, EmptySet, TooWide, ReadFault, Memory}
 use Rattle.rob_words.proofs.LimitLemmas.{limit_fits}
 use Rattle.rob_words.proofs.Spellings.{one_line}
 use Rattle.rob_words.specs.Commands.{Line}

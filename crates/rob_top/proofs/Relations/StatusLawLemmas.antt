@@ -27,8 +27,8 @@ use Rattle.rob_top.specs.Solved.{IsEmptySet, IsSolved}
 use Rattle.rob_top.specs.Ways.{FindsEmpty, FindsStatus, branched, in_cells, pieced, solved, while_branching, while_searching, while_solving}
 use Rattle.rob_top.specs.Split.{HasStatusOverPieces}
 use Rattle.rob_top.specs.SplitEnds.{IsCellsAnswer}
-use Rattle.rob_top.specs.Work.{ended_of}
-use Rattle.rob_top.specs.declared.ended.Ended.TheVariants.{EmptySet}
+use Rattle.rob_commands.specs.Replies.{ended_of}
+use Rattle.rob_commands.specs.declared.ended.Ended.TheVariants.{EmptySet}
 use Rattle.rob_words.proofs.Spellings.{one_line}
 use Rattle.rob_words.specs.Commands.{Line}
 use Rattle.rob_words.specs.declared.route.Route.{Route}

@@ -1,6 +1,6 @@
 use Rattle.rob_model.specs.View.{robust}
 use Rattle.rob_tree.specs.View.{tree_of}
-use Rattle.rob_top.proofs.Meaning.ShownLemmas.{report_printed, tree_printed}
+use Rattle.rob_top.proofs.Meaning.BranchingLemmas.{report_printed, tree_printed}
 use Rattle.rob_top.proofs.branching.printed.Goals as goal
 
 pub write_tree-requires-clause-shape : goal.write_tree-requires-clause-shape

@@ -3,8 +3,8 @@ use Rattle.rob_meaning.specs.RobustModel.{RobustModel}
 use Rattle.rob_number.specs.Lowest.{limit_of}
 use Rattle.rob_top.proofs.Meaning.WorkLemmas.{limit_is}
 use Rattle.rob_top.proofs.generating.print_model.Goals as goal
-use Rattle.rob_top.specs.Replies.{Replies}
-use Rattle.rob_top.specs.declared.ended.Ended.TheVariants.{Printed}
+use Rattle.rob_commands.specs.Replies.{Replies}
+use Rattle.rob_commands.specs.declared.ended.Ended.TheVariants.{Printed}
 use Rattle.rob_words.specs.declared.width.Width.TheVariants.{SixtyTwo}
 use Rattle.rob_write.specs.Canonical.{model_text}
 

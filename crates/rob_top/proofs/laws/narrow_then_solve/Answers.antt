@@ -1,7 +1,7 @@
 use Rattle.std.proofs.Common.{refl}
 use Rattle.rob_top.proofs.Coming.CompletenessLemmas.{means_complete}
 use Rattle.rob_top.proofs.Relations.NarrowLawLemmas.{narrow_has_status, narrow_refuses_none, narrow_shows_empty, says_narrow}
-use Rattle.rob_top.specs.declared.ended.Ended.TheVariants.{TooWide}
+use Rattle.rob_commands.specs.declared.ended.Ended.TheVariants.{TooWide}
 use Rattle.rob_top.proofs.laws.narrow_then_solve.Goals as goal
 
 pub returns : goal.returns

@@ -1,6 +1,7 @@
 use Rattle.std.proofs.Common.{ap}
 use Rattle.rob_cert.specs.View.{certificate_of, status_of}
-use Rattle.rob_top.proofs.Meaning.ReplayingLemmas.{optimal_planned, plan_answers, planless_answers, unbounded_planned}
+use Rattle.rob_top.proofs.Meaning.ReplayingLemmas.{plan_answers, planless_answers}
+use Rattle.rob_commands.proofs.PlanLemmas.{optimal_planned, unbounded_planned}
 use Rattle.rob_top.proofs.replaying.replay_cert.Goals as goal
 
 pub returns-in-Infeasible-clause-answers : goal.returns-in-Infeasible-clause-answers

@@ -1,7 +1,7 @@
 use Rattle.std.proofs.Common.{ap, refl}
 use Rattle.rob_cert.specs.View.{certificate_of, status_of}
 use Rattle.rob_model.specs.View.{robust}
-use Rattle.rob_top.proofs.Meaning.ReplayingLemmas.{optimal_planned, unbounded_planned}
+use Rattle.rob_commands.proofs.PlanLemmas.{optimal_planned, unbounded_planned}
 use Rattle.rob_top.proofs.Meaning.SearchStops.{planned_size}
 use Rattle.rob_top.proofs.Meaning.SearchingLemmas.{claims_none_answers, planned_answers}
 use Rattle.rob_top.proofs.searching.search_cert.Goals as goal

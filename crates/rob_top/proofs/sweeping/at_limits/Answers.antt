@@ -3,8 +3,8 @@ use Rattle.rob_model.specs.View.{robust}
 use Rattle.rob_sweep.specs.View.{answer_of}
 use Rattle.rob_top.proofs.Meaning.SweepingLemmas.{answers_count, answers_fit, priced_answers, unswept_answers}
 use Rattle.rob_sweep.specs.SweepText.{sweep_text}
-use Rattle.rob_top.specs.Replies.{Replies}
-use Rattle.rob_top.specs.declared.ended.Ended.TheVariants.{Printed}
+use Rattle.rob_commands.specs.Replies.{Replies}
+use Rattle.rob_commands.specs.declared.ended.Ended.TheVariants.{Printed}
 use Rattle.rob_top.proofs.sweeping.at_limits.Goals as goal
 
 pub printed-requires : goal.printed-requires

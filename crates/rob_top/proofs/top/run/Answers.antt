@@ -1,6 +1,6 @@
 use Rattle.std.proofs.Common.{inr, refl}
 use Rattle.rob_top.proofs.Coming.CompletenessLemmas.{ends_complete, unput_complete}
-use Rattle.rob_top.specs.declared.ended.Ended.TheVariants.{Memory}
+use Rattle.rob_commands.specs.declared.ended.Ended.TheVariants.{Memory}
 use Rattle.rob_top.proofs.top.run.Goals as goal
 
 pub returns-in-Ok-clause-complete : goal.returns-in-Ok-clause-complete

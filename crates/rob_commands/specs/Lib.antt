@@ -1,0 +1,5 @@
+pub mod Codes
+pub mod Answers
+pub mod Replies
+pub mod Stops
+pub mod TreeReport
