@@ -17,14 +17,14 @@ use Rattle.rob_syntax.specs.Seen as seen
 use Rattle.rob_syntax.specs.Seen.{SeenPart}
 use Rattle.rob_expand.specs.declared.count.Counted.{Counted}
 use Rattle.rob_expand.specs.declared.count.Shape.TheVariants as shape
-use Rattle.rob_expand.specs.declared.judging.Finding.{Finding}
+use Rattle.rob_expand.specs.declared.finding.Finding.{Finding}
 use Rattle.rob_expand.specs.declared.scope.Binding.{Binding}
 use Rattle.rob_expand.specs.Count.{of_shape, part_left, factor_left, each_left, over_left, tree_left, parts_left, factors_left}
 use Rattle.rob_expand.specs.Growing.{printed, printed_at}
 use Rattle.rob_expand.specs.Judging.{finding, is_outside, worse, worst, indices_found, tree_found, parts_found, factors_found}
 use Rattle.rob_expand.specs.Placed.{Placed, Part, number, name, sum, product, over, parts_of, factors_of}
 use Rattle.rob_expand.specs.Placing.{placed_tree, placed_parts, placed_factors}
-use Rattle.rob_expand.specs.Room.{after}
+use Rattle.rob_settings.specs.Room.{after}
 use Rattle.rob_expand.specs.Scopes.{values_in, IsPutIn, IsNothing, IsAlike, IsPart, Pairwise}
 use Rattle.rob_expand.specs.Standing.{parts_at, factors_at}
 use Rattle.rob_expand.proofs.FindingLemmas.{worst_map}

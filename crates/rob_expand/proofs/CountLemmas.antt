@@ -1,6 +1,6 @@
 -- What is left behind an expression is what is left behind the canonical tokens of what it stands for.
-use Rattle.std.proofs.Common.{◌≡◌, ℕ, ◌+◌, Bool, true, false, List, [], ◌∷◌, map, Option, refl, sym, ap, ◌∙◌, arith}
-use Rattle.std.specs.Prelude.{ℤ}
+use Rattle.std.proofs.Common.{◌≡◌, ℕ, ◌+◌, Bool, true, false, List, [], ◌∷◌, map, Option, refl, sym, ap, ◌∙◌, arith, ◌-◌, ◌<◌, ◌≤◌}
+use Rattle.std.specs.Prelude.{ℤ, nat_le}
 use Rattle.rob_index.specs.Statements.{Name, Plain}
 use Rattle.rob_index.specs.Statements as stated
 use Rattle.rob_index.specs.Expansion.{added, summed}
@@ -10,11 +10,23 @@ use Rattle.rob_index.specs.Counting as counting
 use Rattle.rob_expand.specs.declared.count.Shape.{Shape}
 use Rattle.rob_expand.specs.declared.count.Shape.TheVariants.{Single, Sum, Product}
 use Rattle.rob_expand.specs.declared.count.Counted.{Counted}
-use Rattle.rob_expand.specs.Room.{left_of, after}
+use Rattle.rob_settings.specs.Room.{left_of, after}
 use Rattle.rob_expand.specs.Placed.{Placed, number, name, sum, product, over, Parts, no_parts, part, Factors, no_factors, factor}
 use Rattle.rob_expand.specs.Standing.{plain_at, parts_at, factors_at}
 use Rattle.rob_expand.specs.Count.{is_sum, is_compound, of_shape, part_left, factor_left, each_left, over_left, tree_left, parts_left, factors_left}
-use Rattle.rob_expand.proofs.RoomLemmas.{left_zero, left_same, left_after, shape_after}
+use Rattle.rob_settings.proofs.RoomLemmas.{left_zero, left_same, left_after, left_none, left_twice}
+use Rattle.std.proofs.lemmas.Bool.{leb-true, leb-false, le-leb, lt-leb}
+
+-- what stands around an expression behind it
+pub shape_after : (shape : Shape) (m n room : ℕ) (f : Counted → Option ℕ)
+    → ((k : ℕ) → f (record { left = k; shape = shape }) ≡ left_of n k)
+    → after (of_shape shape (left_of m room)) f ≡ left_of (m + n) room
+shape_after shape m n room f h = go (nat_le m room) refl
+  where
+    go : (b : Bool) → nat_le m room ≡ b → after (of_shape shape (left_of m room)) f ≡ left_of (m + n) room
+    go true e = let l : m ≤ room = leb-true m room e in rw (le-leb m room l) (h (room - m) ∙ left_twice m n room l)
+    go false e = let l : room < m =
+        leb-false m room e in rw (lt-leb m room l) (sym (left_none (m + n) room (omega arith)))
 
 -- what an expression is, as far as parentheses go
 abbrev pub shape_of : Plain → Shape

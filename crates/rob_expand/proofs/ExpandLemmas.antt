@@ -15,7 +15,7 @@ use Rattle.rob_syntax.specs.declared.syntax.Shares.{Shares}
 use Rattle.rob_syntax.specs.Numbered.{numbered}
 use Rattle.rob_syntax.specs.Seen.{seen_numeral, seen_over, seen_ranged, seen_share, seen_statement}
 use Rattle.rob_syntax.specs.Plain.{is_nothing}
-use Rattle.rob_expand.specs.declared.line.Item.{Item}
+use Rattle.rob_settings.specs.declared.item.Item.{Item}
 use Rattle.rob_expand.specs.declared.line.Line.{Line}
 use Rattle.rob_expand.specs.Statements.{IsLine, IsLineOf}
 use Rattle.rob_expand.specs.Names.{names_of, grown}

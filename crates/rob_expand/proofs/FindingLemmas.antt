@@ -2,8 +2,8 @@
 use Rattle.std.proofs.Common.{◌≡◌, ◌<◌, Bool, true, false, List, [], ◌∷◌, ◌++◌, length, get_or, map, refl, sym, ap, ◌∙◌, arith}
 use Rattle.std.specs.Prelude.{◌||◌, Result, Ok, Err, IfOk}
 use Rattle.std.specs.List.{flat_map, list_any}
-use Rattle.rob_expand.specs.declared.judging.Finding.{Finding}
-use Rattle.rob_expand.specs.declared.judging.Finding.TheVariants.{Nothing, Out, TooLong}
+use Rattle.rob_expand.specs.declared.finding.Finding.{Finding}
+use Rattle.rob_expand.specs.declared.finding.Finding.TheVariants.{Nothing, Out, TooLong}
 use Rattle.rob_expand.specs.Judging.{finding, is_too_long, is_out_found, worse, worst}
 
 -- ---- the worse of two

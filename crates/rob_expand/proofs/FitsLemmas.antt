@@ -1,10 +1,10 @@
 -- What is left behind all that a statement stands for, whatever its words are.
 use Rattle.std.proofs.Common.{◌≡◌, ℕ, List, Option, Some, None, sym, ap, ◌∙◌, subst}
 use Rattle.std.specs.Prelude.{Result, MatchResult, Ok, Err}
-use Rattle.rob_expand.specs.declared.room.Stop.{Stop}
-use Rattle.rob_expand.specs.Room.{HasStop}
-use Rattle.rob_expand.specs.Settings.{all_left}
-use Rattle.rob_expand.proofs.StepLemmas.{stopped}
+use Rattle.rob_settings.specs.declared.room.Stop.{Stop}
+use Rattle.rob_settings.specs.Room.{HasStop}
+use Rattle.rob_settings.specs.Settings.{all_left}
+use Rattle.rob_settings.proofs.AnswerLemmas.{stopped}
 
 -- what is said of one count is said of all that are equal to it
 pub moved_all : {A W : Type 0} (r : Result A Stop) (o : Option A) (w : W → Option A)

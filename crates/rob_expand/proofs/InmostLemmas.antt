@@ -11,18 +11,19 @@ use Rattle.rob_index.proofs.NestLemmas.{le_to}
 use Rattle.rob_ranges.proofs.DigitLemmas.{lt_no}
 use Rattle.rob_ranges.proofs.NestLemmas.{le_no, run_next, run_over}
 use Rattle.rob_expand.specs.declared.count.Counted.{Counted}
-use Rattle.rob_expand.specs.declared.judging.Finding.TheVariants.{Nothing}
+use Rattle.rob_expand.specs.declared.finding.Finding.TheVariants.{Nothing}
 use Rattle.rob_expand.specs.declared.placed.Placed.{Placed as Code}
 use Rattle.rob_expand.specs.declared.placed.Placed.TheVariants as code
-use Rattle.rob_expand.specs.declared.room.Stop.{Stop}
+use Rattle.rob_settings.specs.declared.room.Stop.{Stop}
 use Rattle.rob_expand.specs.Count.{tree_left, over_left}
 use Rattle.rob_expand.specs.Growing.{printed_at}
 use Rattle.rob_expand.specs.Inmost.{IsInmost}
 use Rattle.rob_expand.specs.Judging.{finding, length_found, tree_found, worse, worst}
 use Rattle.rob_expand.specs.Placed.{Placed, over, placed_of}
 use Rattle.rob_expand.proofs.FindingLemmas.{worse_nothing}
-use Rattle.rob_expand.specs.Room.{HasStop}
-use Rattle.rob_expand.proofs.StepLemmas.{moved, over_seen}
+use Rattle.rob_settings.specs.Room.{HasStop}
+use Rattle.rob_settings.proofs.AnswerLemmas.{moved}
+use Rattle.rob_expand.proofs.StepLemmas.{over_seen}
 
 -- a range whose ends are one number has that value alone
 one_upwards : (v : ℤ) → upwards v (count v v) ≡ v ∷ []

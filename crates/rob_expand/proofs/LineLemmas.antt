@@ -6,15 +6,15 @@ use Rattle.std.proofs.Math.Nat.{mul-le-mul_left}
 use Rattle.std.proofs.lemmas.List.{at_drop_more, at_drop_all}
 use Rattle.rob_index.specs.Forms.{extensions}
 use Rattle.rob_expand.specs.declared.count.Counted.{Counted}
-use Rattle.rob_expand.specs.declared.line.Item.{Item}
+use Rattle.rob_settings.specs.declared.item.Item.{Item}
 use Rattle.rob_expand.specs.declared.line.Line.{Line}
 use Rattle.rob_expand.specs.declared.placed.Placed.{Placed as Code}
-use Rattle.rob_expand.specs.Room.{left_of, after}
+use Rattle.rob_settings.specs.Room.{left_of, after}
 use Rattle.rob_expand.specs.Placed.{placed_of}
 use Rattle.rob_expand.specs.Count.{tree_left}
-use Rattle.rob_expand.specs.Settings.{all_left}
+use Rattle.rob_settings.specs.Settings.{all_left}
 use Rattle.rob_expand.specs.Lines.{rest_of, entries_tokens, entry_count, items_left, trees_left, line_left}
-use Rattle.rob_expand.proofs.RoomLemmas.{more_crowded}
+use Rattle.rob_settings.proofs.RoomLemmas.{more_crowded}
 
 -- ---- expressions
 module _ (limit : ℕ) (vs : List ℤ) where

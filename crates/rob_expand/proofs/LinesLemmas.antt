@@ -14,16 +14,16 @@ use Rattle.rob_index.specs.Fast.{setting_of, nest_of, names_in}
 use Rattle.rob_index.proofs.FastLemmas.{settings_are}
 use Rattle.rob_index.proofs.WorkLemmas.{settings_paid}
 use Rattle.rob_expand.specs.declared.count.Shape.{Shape}
-use Rattle.rob_expand.specs.declared.line.Item.{Item}
+use Rattle.rob_settings.specs.declared.item.Item.{Item}
 use Rattle.rob_expand.specs.declared.line.Line.{Line}
-use Rattle.rob_expand.specs.Room.{left_of, after}
+use Rattle.rob_settings.specs.Room.{left_of, after}
 use Rattle.rob_expand.specs.Placed.{placed_of}
 use Rattle.rob_expand.specs.Placing.{placed_tree}
 use Rattle.rob_expand.specs.Count.{of_shape}
-use Rattle.rob_expand.specs.Settings.{all_left}
+use Rattle.rob_settings.specs.Settings.{all_left}
 use Rattle.rob_expand.specs.Lines.{rest_of, entries_tokens, entry_count, items_left, trees_left, line_left}
 use Rattle.rob_expand.specs.Statements.{IsLine, base_of, trees_of, items_of, name_item, member_item}
-use Rattle.rob_expand.proofs.RoomLemmas.{left_zero, left_same, left_after, more_crowded}
+use Rattle.rob_settings.proofs.RoomLemmas.{left_zero, left_same, left_after, more_crowded}
 use Rattle.rob_expand.proofs.CountLemmas.{tree_left_is}
 use Rattle.rob_expand.proofs.PlacingLemmas.{placed_is}
 use Rattle.rob_expand.proofs.TreesLemmas.{trees_counted}

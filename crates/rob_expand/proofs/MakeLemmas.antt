@@ -1,6 +1,6 @@
 -- What is made of a statement in a setting is its instance, with the numbers of words for names.
 use Rattle.std.proofs.Common.{◌≡◌, ℕ, false, List, [], ◌∷◌, ◌++◌, ◌<◌, ◌≤◌, ◌-◌, map, get_or, take, drop, length, refl, sym, ap, ◌∙◌, subst, arith}
-use Rattle.std.specs.Prelude.{ℤ, Result, Ok, Err, IfOk, OnOk, Option, Some, None, unwrap_or}
+use Rattle.std.specs.Prelude.{ℤ, Option, Some, None, unwrap_or}
 use Rattle.std.specs.Option.{option_map}
 use Rattle.std.specs.List.{flat_map}
 use Rattle.std.proofs.lemmas.List.{length-append, take_all}
@@ -36,9 +36,9 @@ use Rattle.rob_syntax.specs.declared.syntax.Statement.TheVariants as code
 use Rattle.rob_syntax.specs.Numbered.{own_bounds, own_rel, own_sense, numbered_tree, numbered_parts, numbered_member, numbered_over, numbered_relation, numbered}
 use Rattle.rob_syntax.specs.Seen.{seen_bounds, seen_rel, seen_sense, seen_share, seen_ranged, seen_ranges, seen_ref, seen_tree, seen_statement}
 use Rattle.rob_syntax.specs.Symbols.{number_of}
-use Rattle.rob_expand.specs.declared.line.Item.{Item}
+use Rattle.rob_settings.specs.declared.item.Item.{Item}
 use Rattle.rob_expand.specs.declared.line.Line.{Line}
-use Rattle.rob_expand.specs.declared.placed.Named.{Named}
+use Rattle.rob_settings.specs.declared.item.Named.{Named}
 use Rattle.rob_expand.specs.declared.placed.Part.{Part as CodePart}
 use Rattle.rob_expand.specs.declared.placed.Placed.{Placed as Code}
 use Rattle.rob_expand.specs.Placed.{Placed, Part, placed_of}
@@ -53,15 +53,6 @@ use Rattle.rob_expand.proofs.TreesLemmas.{first_tree, second_tree}
 use Rattle.rob_expand.proofs.WalkLemmas.{flat_mapped}
 use Rattle.rob_expand.proofs.NameLemmas.{set_is, items_are}
 use Rattle.rob_index.proofs.FastLemmas.{map_flat, flat_same}
-
--- ---- what is said where a call succeeds
-pub moved_on : {T E P Q : Type 0} (r : Result T E) → OnOk r P → (P → Q) → OnOk r Q
-moved_on (Ok x) given to = to given
-moved_on (Err e) given to = tt
-
-pub moved_if : {T E : Type 0} (r : Result T E) (P Q : T → Type 0) → IfOk r P → ((x : T) → P x → Q x) → IfOk r Q
-moved_if (Ok x) P Q given to = to x given
-moved_if (Err e) P Q given to = tt
 
 -- ---- expressions
 module _ (own words : List Name) (vs : List ℤ) where

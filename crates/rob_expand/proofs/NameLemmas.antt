@@ -14,9 +14,9 @@ use Rattle.rob_index.specs.Rules.{is_long_name, plain_has_long, parts_have_long,
 use Rattle.rob_index.proofs.ListLemmas.{or_false, any_append, any_map}
 use Rattle.rob_syntax.specs.Symbols.{add_word}
 use Rattle.rob_syntax.specs.Plain.{is_nothing}
-use Rattle.rob_expand.specs.declared.line.Item.{Item}
+use Rattle.rob_settings.specs.declared.item.Item.{Item}
 use Rattle.rob_expand.specs.declared.line.Line.{Line}
-use Rattle.rob_expand.specs.declared.placed.Named.{Named}
+use Rattle.rob_settings.specs.declared.item.Named.{Named}
 use Rattle.rob_expand.specs.declared.placed.Part.{Part as CodePart}
 use Rattle.rob_expand.specs.declared.placed.Placed.{Placed as Code}
 use Rattle.rob_expand.specs.Placed.{Placed, over, Part, placed_of}

@@ -10,11 +10,12 @@ use Rattle.rob_expand.specs.declared.count.Many.TheVariants.{Empty, One, Several
 use Rattle.rob_expand.specs.declared.count.Shape.TheVariants.{Single, Sum}
 use Rattle.rob_expand.specs.declared.placed.Placed.{Placed as Code}
 use Rattle.rob_expand.specs.declared.placed.Placed.TheVariants as code
-use Rattle.rob_expand.specs.declared.room.Stop.{Stop}
+use Rattle.rob_settings.specs.declared.room.Stop.{Stop}
 use Rattle.rob_expand.specs.Count.{AreMany, of_shape, item_left, tree_left, each_left, over_left}
 use Rattle.rob_expand.specs.Placed.{Placed, over, placed_of}
-use Rattle.rob_expand.specs.Room.{left_of, after, HasStop}
-use Rattle.rob_expand.proofs.StepLemmas.{moved, over_seen, refused}
+use Rattle.rob_settings.specs.Room.{left_of, after, HasStop}
+use Rattle.rob_settings.proofs.AnswerLemmas.{moved, refused}
+use Rattle.rob_expand.proofs.StepLemmas.{over_seen}
 
 -- what a call answers of what is left
 abbrev Tells : Option Counted → Result Counted Stop → Type 0

@@ -5,7 +5,7 @@ use Rattle.std.specs.Option.{option_map}
 use Rattle.rob_index.specs.Statements.{Range, Ref, Tree}
 use Rattle.rob_index.specs.Forms.{Ends}
 use Rattle.rob_index.specs.Fast.{names_in, nest_of}
-use Rattle.rob_expand.specs.declared.line.Item.{Item}
+use Rattle.rob_settings.specs.declared.item.Item.{Item}
 use Rattle.rob_expand.specs.declared.line.Line.{Line}
 use Rattle.rob_expand.specs.Placing.{placed_name}
 use Rattle.rob_expand.specs.Scopes.{IsPlaced, Pairwise}

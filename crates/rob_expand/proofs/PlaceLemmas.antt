@@ -16,7 +16,7 @@ use Rattle.rob_syntax.specs.declared.syntax.Tree.{Tree as GivenTree}
 use Rattle.rob_syntax.specs.declared.syntax.Tree.TheVariants as given
 use Rattle.rob_syntax.specs.Seen.{SeenPart, seen_index, seen_numeral, seen_part, seen_range, seen_tree}
 use Rattle.rob_syntax.proofs.Fronts.TreeLemmas as shown
-use Rattle.rob_expand.specs.declared.placed.Named.{Named}
+use Rattle.rob_settings.specs.declared.item.Named.{Named}
 use Rattle.rob_expand.specs.declared.placed.Part.{Part as CodePart}
 use Rattle.rob_expand.specs.declared.placed.Placed.{Placed as Code, the_lemmas}
 use Rattle.rob_expand.specs.declared.placed.Placed.TheVariants as code

@@ -11,7 +11,7 @@ use Rattle.rob_index.proofs.NestLemmas.{lt_not}
 use Rattle.rob_number.proofs.CastLemmas.{seen}
 use Rattle.rob_ranges.specs.Digits.{base}
 use Rattle.rob_syntax.specs.Symbols.{add_word}
-use Rattle.rob_expand.specs.declared.placed.Named.{Named}
+use Rattle.rob_settings.specs.declared.item.Named.{Named}
 use Rattle.rob_expand.specs.Growing.{printed, index_bytes, add_name, named_at}
 use Rattle.rob_index.proofs.ListLemmas.{or_true}
 

@@ -1,43 +1,22 @@
--- One step of a count, and its stop; and what a sum over a range is seen as.
+-- One step of a count; and what a sum over a range is seen as.
 use Rattle.std.proofs.Common.{◌≡◌, ℕ, ◌+◌, ◌<◌, ◌≤◌, Bool, true, false, List, ◌∷◌, length, map, drop, get_or, Option, Some, None, sym, ap, ◌∙◌}
-use Rattle.std.proofs.Common.{subst}
 use Rattle.std.specs.Prelude.{ℤ, Result, MatchResult, Err}
 use Rattle.std.proofs.lemmas.List.{at_drop_more, at_drop_all}
 use Rattle.rob_index.specs.Counting.{lead, star, parens}
-use Rattle.rob_expand.specs.declared.room.Stop.{Stop}
-use Rattle.rob_expand.specs.declared.room.Stop.TheVariants.{TooMuch, Memory}
+use Rattle.rob_settings.specs.declared.room.Stop.{Stop}
 use Rattle.rob_expand.specs.declared.count.Counted.{Counted}
 use Rattle.rob_expand.specs.declared.count.Front.{Front}
 use Rattle.rob_expand.specs.declared.count.Inside.{Inside}
 use Rattle.rob_expand.specs.declared.count.Inside.TheVariants as place
 use Rattle.std.proofs.Common.{rules}
-use Rattle.rob_index.specs.Forms.{Ends, Form, value_of}
+use Rattle.rob_index.specs.Forms.{Ends}
 use Rattle.rob_expand.specs.declared.placed.Placed.{Placed as Code, the_lemmas}
 use Rattle.rob_expand.specs.declared.placed.Placed.TheVariants as code
 use Rattle.rob_expand.specs.declared.placed.Part.{Part as CodePart, fold_out-Part}
-use Rattle.rob_expand.specs.Room.{left_of, after, HasStop}
+use Rattle.rob_settings.specs.Room.{left_of, after, HasStop}
 use Rattle.rob_expand.specs.Placed.{Placed, over, Part, parts_of, factors_of, placed_step, part_step, placed_of, part_of}
 use Rattle.rob_expand.specs.Count.{is_closed, item_left, part_left, factor_left, tree_left, parts_left, factors_left}
-
--- a part that stops the count stops the whole
-pub stopped : {A B : Type 0} (o : Option A) (w : Option B) (e : Stop) → (o ≡ None → w ≡ None) → HasStop o e
-    → HasStop w e
-stopped o w TooMuch h is = h is
-stopped o w Memory h is = tt
-
--- at the exit of a `?`
-pub refused : {A B V : Type 0} (r : Result V Stop) (P : V → Type 0) (o : Option A) (w : Option B) (e f : Stop)
-    → r ≡ Err f → f ≡ e → (o ≡ None → w ≡ None) → HasStop o e → MatchResult r P (λ e. HasStop w e)
-refused r P o w e f is same up cause = rw is (subst (HasStop w) (sym same) (stopped o w e up cause))
-
--- what is said of one count is said of an equal one
-pub moved : {A : Type 0} (r : Result A Stop) (o w : Option A) → o ≡ w
-    → MatchResult r (λ c. o ≡ Some c) (λ e. HasStop o e) → MatchResult r (λ c. w ≡ Some c) (λ e. HasStop w e)
-moved {A} r o w same given = subst (λ (x : Option A). MatchResult r (λ c. x ≡ Some c) (λ e. HasStop x e)) same given
-
--- the value of a form that is told otherwise
-pub value_read : (vs : List ℤ) {n : ℤ} {f g : Form} → n ≡ value_of f vs → f ≡ g → n ≡ value_of g vs
-value_read vs n_is same = n_is ∙ ap (λ (f : Form). value_of f vs) same
+use Rattle.rob_settings.proofs.AnswerLemmas.{refused}
 
 -- a sum over a range, as it is seen
 pub over_placed : (ends : Ends) (inner : _) → placed_of (code.Over ends inner) ≡ over ends (placed_of inner.value)

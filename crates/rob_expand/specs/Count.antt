@@ -10,7 +10,7 @@ use Rattle.rob_expand.specs.declared.count.Inside.{Inside}
 use Rattle.rob_expand.specs.declared.count.Inside.TheVariants as inside
 use Rattle.rob_expand.specs.declared.count.Many.{Many}
 use Rattle.rob_expand.specs.declared.count.Many.TheVariants.{Empty, One, Several}
-use Rattle.rob_expand.specs.Room.{left_of, after}
+use Rattle.rob_settings.specs.Room.{left_of, after}
 use Rattle.rob_expand.specs.Placed.{Placed, number, name, sum, product, over, Parts, no_parts, part, Factors, no_factors, factor}
 
 -- it stands in parentheses inside a sum

@@ -9,11 +9,11 @@ use Rattle.rob_index.specs.Forms.{Form, value_of, extensions}
 use Rattle.rob_index.specs.Rules.{greatest_index, has_no_member, is_long_name}
 use Rattle.rob_syntax.specs.Symbols.{add_word}
 use Rattle.rob_syntax.specs.Plain.{is_nothing}
-use Rattle.rob_expand.specs.declared.line.Item.{Item}
+use Rattle.rob_settings.specs.declared.item.Item.{Item}
 use Rattle.rob_expand.specs.declared.line.Line.{Line}
 use Rattle.rob_expand.specs.declared.name.Refusal.{Refusal}
 use Rattle.rob_expand.specs.declared.name.Refusal.TheVariants.{NoStatement, Memory}
-use Rattle.rob_expand.specs.declared.placed.Named.{Named}
+use Rattle.rob_settings.specs.declared.item.Named.{Named}
 use Rattle.rob_expand.specs.declared.placed.Part.{Part}
 use Rattle.rob_expand.specs.declared.placed.Placed.{Placed as Code}
 use Rattle.rob_expand.specs.Names.{tree_names, part_names, factor_names}

@@ -3,11 +3,11 @@ use Rattle.std.specs.Prelude.{ℤ, pos, int_lt, ◌||◌, Bool, true, false, Lis
 use Rattle.rob_index.specs.Settings.{count, upwards}
 use Rattle.rob_index.specs.Forms.{Form, Ends, value_of, values_of, length_form, extensions}
 use Rattle.rob_index.specs.Rules.{greatest_index}
-use Rattle.rob_expand.specs.declared.judging.Finding.{Finding}
-use Rattle.rob_expand.specs.declared.judging.Finding.TheVariants.{Nothing, Out, TooLong}
-use Rattle.rob_expand.specs.declared.line.Item.{Item}
+use Rattle.rob_expand.specs.declared.finding.Finding.{Finding}
+use Rattle.rob_expand.specs.declared.finding.Finding.TheVariants.{Nothing, Out, TooLong}
+use Rattle.rob_settings.specs.declared.item.Item.{Item}
 use Rattle.rob_expand.specs.declared.line.Line.{Line}
-use Rattle.rob_expand.specs.declared.placed.Named.{Named}
+use Rattle.rob_settings.specs.declared.item.Named.{Named}
 use Rattle.rob_expand.specs.Placed.{Placed, number, name, sum, product, over, Parts, no_parts, part, Factors, no_factors, factor, placed_of}
 
 -- the finding where some range is too long or none is, and some index is out of bounds or none is

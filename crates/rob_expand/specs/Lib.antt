@@ -1,12 +1,7 @@
-pub mod Room
 pub mod Placed
 pub mod Placing
 pub mod Standing
 pub mod Count
-pub mod Live
-pub mod Settings
-pub mod Rests
-pub mod Inner
 pub mod Lines
 pub mod Statements
 pub mod Names
@@ -15,5 +10,4 @@ pub mod Instances
 pub mod Making
 pub mod Judging
 pub mod Scopes
-pub mod Spots
 pub mod Inmost

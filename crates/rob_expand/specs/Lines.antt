@@ -3,9 +3,9 @@ use Rattle.std.specs.Prelude.{ℕ, ◌+◌, ◌==◌, ◌&&◌, suc, zero, Bool,
 use Rattle.rob_index.specs.Forms.{extensions}
 use Rattle.rob_index.specs.Counting.{star}
 use Rattle.rob_expand.specs.declared.count.Counted.{Counted}
-use Rattle.rob_expand.specs.declared.line.Item.{Item}
+use Rattle.rob_settings.specs.declared.item.Item.{Item}
 use Rattle.rob_expand.specs.declared.line.Line.{Line}
-use Rattle.rob_expand.specs.Room.{left_of, after}
+use Rattle.rob_settings.specs.Room.{left_of, after}
 use Rattle.rob_expand.specs.Placed.{Placed, placed_of}
 use Rattle.rob_expand.specs.Count.{tree_left}
 

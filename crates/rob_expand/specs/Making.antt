@@ -17,9 +17,9 @@ use Rattle.rob_syntax.specs.declared.syntax.Syntax.TheVariants as syntax
 use Rattle.rob_syntax.specs.Numbered.{own_numeral, numbered_parts, numbered_factors, numbered_member, numbered_over, numbered_relation}
 use Rattle.rob_syntax.specs.Seen.{seen_numeral, seen_ranged, seen_rel, seen_share}
 use Rattle.rob_syntax.specs.Symbols.{number_of}
-use Rattle.rob_expand.specs.declared.line.Item.{Item}
+use Rattle.rob_settings.specs.declared.item.Item.{Item}
 use Rattle.rob_expand.specs.declared.line.Line.{Line}
-use Rattle.rob_expand.specs.declared.placed.Named.{Named}
+use Rattle.rob_settings.specs.declared.item.Named.{Named}
 use Rattle.rob_expand.specs.declared.placed.Part.{Part}
 use Rattle.rob_expand.specs.declared.placed.Placed.{Placed as Code}
 use Rattle.rob_expand.specs.Growing.{item_names, named_at, over_at, printed, printed_at}

@@ -8,7 +8,7 @@ use Rattle.rob_index.specs.Expansion.{ranges_of}
 use Rattle.rob_index.specs.Counting.{number_tokens, signed_tokens, bounds_tokens, over_tokens}
 use Rattle.rob_index.specs.Forms.{Ends}
 use Rattle.rob_index.specs.Fast.{nest_of, names_in}
-use Rattle.rob_expand.specs.declared.line.Item.{Item}
+use Rattle.rob_settings.specs.declared.item.Item.{Item}
 use Rattle.rob_expand.specs.declared.line.Line.{Line}
 use Rattle.rob_expand.specs.Placing.{placed_name}
 use Rattle.rob_expand.specs.Scopes.{IsPlaced, Pairwise}

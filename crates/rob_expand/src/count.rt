@@ -6,17 +6,17 @@ ghost use Rattle.rob_index.specs.Settings.{count as span, upwards};
 ghost use Rattle.rob_index.specs.Forms.{values_of};
 ghost use Rattle.rob_index.specs.Counting as counting;
 ghost use Rattle.rob_expand.specs.declared.count.Shape.TheVariants as Is;
-ghost use Rattle.rob_expand.specs.Room.{left_of, HasStop};
+ghost use Rattle.rob_settings.specs.Room.{left_of, HasStop};
 ghost use Rattle.rob_expand.specs.Placed.{placed_of, part_of, parts_of, factors_of};
 ghost use Rattle.rob_expand.specs.Count.{AreMany, is_closed, is_compound, is_sum, of_shape, item_left, tree_left, parts_left, factors_left, over_left, each_left};
 
 use crate::inmost::inmost;
 use crate::placed::{Part, Placed};
-use crate::room::{Stop, spend};
 use crate::tokens::number_tokens;
 use rob_number::Memory;
 use rob_ranges::run::Run;
 use rob_ranges::{Ends, Values, Whole};
+use rob_settings::room::{Stop, spend};
 use std::alloc::Global;
 
 /// What an expression is, as far as parentheses go.

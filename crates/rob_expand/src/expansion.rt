@@ -28,13 +28,14 @@ ghost use Rattle.rob_expand.specs.Statements.{IsLineOf};
 
 use crate::grow::grow_lines;
 use crate::instance::append_instances;
-use crate::line::{Item, Line};
+use crate::line::Line;
 use crate::lines::line_of;
 use crate::name::Refusal;
-use crate::settings::all_settings;
-use crate::spot::spots_of;
 use rob_number::{List, Memory};
 use rob_ranges::Whole;
+use rob_settings::item::Item;
+use rob_settings::settings::all_settings;
+use rob_settings::spot::spots_of;
 use rob_syntax::Words;
 use rob_syntax::syntax::{Indexed, Statement};
 use std::alloc::Global;

@@ -4,15 +4,15 @@ ghost use Rattle.std.specs.Prelude.{◌≡◌, List as Items, true, nat_le, IfOk
 ghost use Rattle.rob_index.specs.Counting.{lines_tokens};
 ghost use Rattle.rob_index.specs.Expansion.{expand};
 ghost use Rattle.rob_index.specs.Statements.{Name};
-ghost use Rattle.rob_expand.specs.Room.{left_of, HasStop};
+ghost use Rattle.rob_settings.specs.Room.{left_of, HasStop};
 ghost use Rattle.rob_syntax.specs.Seen.{seen_statement};
 
 use crate::line::spend_lines;
 use crate::lines::line_of;
-use crate::room::Stop;
-use crate::settings::settings_of;
-use crate::spot::thin_places;
 use rob_number::Memory;
+use rob_settings::room::Stop;
+use rob_settings::settings::settings_of;
+use rob_settings::spot::thin_places;
 use rob_syntax::syntax::Indexed;
 use std::alloc::Global;
 

@@ -10,19 +10,20 @@ ghost use Rattle.rob_expand.specs.Growing.{each_names, factors_names, item_names
 ghost use Rattle.rob_expand.specs.Growing as spec;
 ghost use Rattle.rob_expand.specs.Names.{tree_names};
 ghost use Rattle.rob_expand.specs.Placed.{placed_of};
-ghost use Rattle.rob_expand.specs.Spots.{IsThin, IsThinAt, picks};
-ghost use Rattle.rob_expand.specs.declared.spot.Spot.{Spot as SpecSpot};
+ghost use Rattle.rob_settings.specs.Spots.{IsThin, IsThinAt, picks};
+ghost use Rattle.rob_settings.specs.declared.spot.Spot.{Spot as SpecSpot};
 ghost use Rattle.rob_ranges.specs.Spans.{Every};
 
 use crate::inmost::inmost;
-use crate::line::{Item, Line};
+use crate::line::Line;
 use crate::name::{add_name, add_name_inside};
-use crate::placed::{Named, Part, Placed};
-use crate::settings::Setting;
-use crate::spot::{Spot, one_at};
+use crate::placed::{Part, Placed};
 use rob_number::Memory;
 use rob_ranges::run::Run;
 use rob_ranges::{Ends, Values, Whole};
+use rob_settings::item::{Item, Named};
+use rob_settings::settings::Setting;
+use rob_settings::spot::{Spot, one_at};
 use rob_syntax::Words;
 use std::alloc::Global;
 

@@ -10,21 +10,22 @@ ghost use Rattle.rob_expand.specs.Growing.{named_at, over_at, printed};
 ghost use Rattle.rob_expand.specs.Instances.{each_at, instance, member_at};
 ghost use Rattle.rob_expand.specs.Making.{budget_in, entry_at, first_at, head_in, numbers_in, relation_in, second_at};
 ghost use Rattle.rob_expand.specs.Placed.{placed_of};
-ghost use Rattle.rob_expand.specs.Spots.{IsThin, IsThinAt, picks};
+ghost use Rattle.rob_settings.specs.Spots.{IsThin, IsThinAt, picks};
 ghost use Rattle.rob_expand.specs.Statements.{IsLineOf};
-ghost use Rattle.rob_expand.specs.declared.spot.Spot.{Spot as SpecSpot};
+ghost use Rattle.rob_settings.specs.declared.spot.Spot.{Spot as SpecSpot};
 ghost use Rattle.rob_ranges.specs.Spans.{Every};
 
-use crate::line::{Item, Line};
+use crate::line::Line;
 use crate::lines::nest_in;
 use crate::make::{make_in, zero};
 use crate::name::name_number;
 use crate::place::place_name;
-use crate::placed::{Named, Placed};
-use crate::settings::{Setting, all_settings};
-use crate::spot::{Spot, one_at};
+use crate::placed::Placed;
 use rob_number::{List, Memory};
 use rob_ranges::Whole;
+use rob_settings::item::{Item, Named};
+use rob_settings::settings::{Setting, all_settings};
+use rob_settings::spot::{Spot, one_at};
 use rob_syntax::Words;
 use rob_syntax::syntax::{
     Bounds, Budget, Declared, Goal, Indexed, Member, Policy, Ranged, Rel, Relation, Row, Sense,

@@ -1,6 +1,6 @@
-//! What is counted, placed and passed over, in the definitions' own words.
+//! What is counted and placed, in the definitions' own words.
 
-ghost use Rattle.std.specs.Prelude.{◌≡◌, ℕ, ℤ, nat_abs, ◌≤ℤ◌, ◌<ℤ◌, List, []};
+ghost use Rattle.std.specs.Prelude.{◌≡◌, ℕ, ℤ, nat_abs, List, []};
 ghost use Rattle.rob_index.specs.Counting.{plain_tokens, lines_tokens};
 ghost use Rattle.rob_index.specs.Expansion.{expand, expand_tree};
 ghost use Rattle.rob_index.specs.Fast.{setting_of};
@@ -9,11 +9,10 @@ ghost use Rattle.rob_index.specs.Statements.{Name, Tree, Indexed};
 ghost use Rattle.rob_expand.specs.declared.line.Line.{Line};
 ghost use Rattle.rob_expand.specs.Count.{tree_left};
 ghost use Rattle.rob_expand.specs.Lines.{line_left, rest_of};
-ghost use Rattle.rob_expand.specs.Live.{IsDead};
 ghost use Rattle.rob_expand.specs.Placed.{Placed};
 ghost use Rattle.rob_expand.specs.Placing.{placed_tree};
-ghost use Rattle.rob_expand.specs.Room.{left_of};
-ghost use Rattle.rob_expand.specs.Settings.{all_left, between};
+ghost use Rattle.rob_settings.specs.Room.{left_of};
+ghost use Rattle.rob_settings.specs.Settings.{all_left};
 ghost use Rattle.rob_expand.specs.Standing.{plain_at};
 ghost use Rattle.rob_expand.specs.Statements.{IsLine};
 
@@ -36,11 +35,4 @@ pub fn lines_left()
         (line : Line)
         → IsLine limit s ranges line → (room : ℕ)
         → all_left (line_left line) (extensions ranges []) room ≡ left_of (lines_tokens limit (expand words s)) room }
-{}
-
-/// Values at which the ranges inside have no setting may be passed over.
-pub fn passed_over()
-    ensures settings { (upto : ℤ) (inner : List Ends) (vs : List ℤ) (value live : ℤ) → value ≤ℤ live
-        → ((w : ℤ) → value ≤ℤ w → w <ℤ live → IsDead inner vs w)
-        → between value upto inner vs ≡ between live upto inner vs }
 {}

@@ -1,31 +1,22 @@
 //! How many tokens the canonical lines of a statement have, counted without making them.
 
 ghost use Rattle.std.specs.Prelude.{◌≡◌, ◌+◌, ◌≤◌, ◌&&◌, map, true, false, Some, IfOk, MatchResult};
-ghost use Rattle.rob_expand.specs.Room.{HasStop, left_of};
+ghost use Rattle.rob_settings.specs.Room.{HasStop, left_of};
 ghost use Rattle.rob_expand.specs.Lines.{line_left, trees_left, items_left, entries_tokens};
 ghost use Rattle.rob_expand.specs.Placed.{placed_of};
-ghost use Rattle.rob_expand.specs.Settings.{all_left};
-ghost use Rattle.rob_expand.specs.Spots.{IsThinAt, picks};
+ghost use Rattle.rob_settings.specs.Settings.{all_left};
+ghost use Rattle.rob_settings.specs.Spots.{IsThinAt, picks};
 ghost use Rattle.rob_ranges.specs.Spans.{Every};
 
 use crate::count::count_in;
-use crate::inner::Inner;
-use crate::placed::{Named, Placed};
-use crate::room::{Stop, spend};
-use crate::settings::Setting;
-use crate::spot::{middle, one_at, thin_in};
+use crate::placed::Placed;
 use rob_number::List;
 use rob_ranges::Whole;
+use rob_settings::item::{Item, Named};
+use rob_settings::room::{Stop, spend};
+use rob_settings::settings::Setting;
+use rob_settings::spot::{middle, one_at, thin_in};
 use std::alloc::Global;
-
-/// An item of a list, which is an entry in each setting of its ranges.
-#[derive(Drop)]
-pub struct Item {
-    pub name: Named,
-    /// The tokens of an entry behind its name.
-    pub behind: u32,
-    pub ranges: Inner,
-}
 
 /// What of a statement has tokens or names: so many tokens in any setting, the name that is declared, expressions, the
 /// items of a list, and the name behind `over`.

@@ -8,9 +8,7 @@ ghost use Rattle.rob_syntax.specs.Seen.{seen_bounds, seen_numeral, seen_over, se
 ghost use Rattle.rob_expand.specs.Scopes.{IsPlaced, Pairwise};
 ghost use Rattle.rob_expand.specs.Statements.{IsLine, IsParts, member_item, name_item};
 
-use crate::around::{copied, with_name};
-use crate::inner::Inner;
-use crate::line::{Item, Line};
+use crate::line::Line;
 use crate::place::{place, place_name, place_over};
 use crate::placed::Placed;
 use crate::scope::Scope;
@@ -18,6 +16,9 @@ use crate::tokens::{bounds_tokens, number_tokens, over_tokens, signed_tokens};
 use rob_index_forms::ends_of;
 use rob_number::{List, Memory};
 use rob_ranges::Ends;
+use rob_settings::around::{copied, with_name};
+use rob_settings::inner::Inner;
+use rob_settings::item::Item;
 use rob_syntax::syntax::{Entry, Indexed, Range, Ranged, Ref, Rule, Share, Shares, Sides, Target};
 use std::alloc::Global;
 

@@ -9,10 +9,10 @@ ghost use Rattle.rob_expand.specs.declared.name.Refusal.TheVariants.{Memory};
 ghost use Rattle.rob_expand.specs.Growing as spec;
 ghost use Rattle.rob_expand.specs.Growing.{index_bytes, named_at};
 
-use crate::placed::Named;
 use itoa::Buffer;
 use rob_number::Memory;
 use rob_ranges::{Form, Values, Whole};
+use rob_settings::item::Named;
 use rob_syntax::Words;
 use std::alloc::Global;
 

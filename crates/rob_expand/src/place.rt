@@ -9,11 +9,12 @@ ghost use Rattle.rob_expand.specs.Placed.{placed_of, part_of, over};
 ghost use Rattle.rob_expand.specs.Placing.{placed_name, placed_tree};
 ghost use Rattle.rob_expand.specs.Scopes.{IsAlike, IsIndex, IsPart, IsPlaced, Pairwise};
 
-use crate::placed::{Named, Part, Placed};
+use crate::placed::{Part, Placed};
 use crate::scope::{Scope, is_nothing};
 use rob_index_forms::index_form;
 use rob_number::{List, Memory};
 use rob_ranges::{Ends, Form};
+use rob_settings::item::Named;
 use rob_syntax::syntax;
 use rob_syntax::syntax::{Index, Range, Ref, Tree};
 use std::alloc::Global;

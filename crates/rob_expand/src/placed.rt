@@ -2,15 +2,9 @@
 //! once, for its place, and a setting evaluates it.
 
 use rob_number::List;
-use rob_ranges::{Ends, Form};
+use rob_ranges::Ends;
+use rob_settings::item::Named;
 use rob_syntax::syntax::Numeral;
-
-/// A name's word, and its indices.
-#[derive(Drop)]
-pub struct Named {
-    pub word: usize,
-    pub indices: List<Form>,
-}
 
 /// A signed part of a sum.
 #[cycle(placed)]

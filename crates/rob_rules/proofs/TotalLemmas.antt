@@ -1,7 +1,7 @@
 -- The canonical tokens of the lines so far, from what is left of their room.
 use Rattle.std.proofs.Common.{◌≡◌, ℕ, ◌-◌, ◌≤◌, Some, sym, ◌∙◌}
-use Rattle.rob_expand.specs.Room.{left_of}
-use Rattle.rob_expand.proofs.RoomLemmas.{left_some}
+use Rattle.rob_settings.specs.Room.{left_of}
+use Rattle.rob_settings.proofs.RoomLemmas.{left_some}
 
 -- what is left
 pub left_is : (tokens room left : ℕ) → tokens ≤ room → left_of tokens room ≡ Some left → left ≡ room - tokens

@@ -15,7 +15,8 @@ ghost use Rattle.rob_syntax.specs.Seen.{seen_statement};
 ghost use Rattle.rob_rules.specs.Indices.{seen_fault, late_fault};
 ghost use Rattle.rob_rules.specs.Indices as rules;
 
-use rob_expand::{has_room, judge};
+use rob_expand::has_room;
+use rob_judge::judge;
 use rob_lex::MOST_TOKENS;
 use rob_number::Memory;
 use rob_places::fault::{search_long, some_great_digits, some_out, some_unknown};

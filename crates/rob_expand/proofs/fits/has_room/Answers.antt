@@ -2,9 +2,9 @@ use Rattle.std.proofs.Common.{sym, subst}
 use Rattle.rob_index.specs.Counting.{lines_tokens}
 use Rattle.rob_index.specs.Expansion.{expand}
 use Rattle.rob_syntax.specs.Seen.{seen_statement}
-use Rattle.rob_expand.specs.declared.room.Stop.{Stop}
-use Rattle.rob_expand.specs.Room.{left_of, HasStop}
-use Rattle.rob_expand.proofs.RoomLemmas.{some_fits, none_fits}
+use Rattle.rob_settings.specs.declared.room.Stop.{Stop}
+use Rattle.rob_settings.specs.Room.{left_of, HasStop}
+use Rattle.rob_settings.proofs.RoomLemmas.{some_fits, none_fits}
 use Rattle.rob_expand.proofs.fits.has_room.Goals as goal
 
 pub returns-in-Ok : goal.returns-in-Ok

@@ -1,9 +1,10 @@
 use Rattle.std.proofs.Common.{◌+◌, drop, get_or, refl}
 use Rattle.rob_syntax.specs.Known.{texts}
-use Rattle.rob_expand.specs.declared.line.Item.{Item}
+use Rattle.rob_settings.specs.declared.item.Item.{Item}
 use Rattle.rob_expand.specs.Growing.{item_names}
-use Rattle.rob_expand.specs.Spots.{picks}
-use Rattle.rob_expand.proofs.SpotLemmas.{long_some, place_apart, places_none, words_some}
+use Rattle.rob_settings.specs.Spots.{picks}
+use Rattle.rob_expand.proofs.ThinLemmas.{long_some, words_some}
+use Rattle.rob_settings.proofs.SpotLemmas.{place_apart, places_none}
 use Rattle.rob_expand.proofs.WalkLemmas.{words_all, long_all}
 use Rattle.rob_expand.proofs.grow.grow_kept.Goals as goal
 

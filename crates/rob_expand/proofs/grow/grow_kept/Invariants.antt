@@ -4,7 +4,7 @@ use Rattle.std.specs.List.{flat_map, list_any}
 use Rattle.rob_index.specs.Rules.{is_long_name}
 use Rattle.rob_syntax.specs.Known.{texts}
 use Rattle.rob_expand.specs.Growing.{add_name, item_names}
-use Rattle.rob_expand.specs.Spots.{picks}
+use Rattle.rob_settings.specs.Spots.{picks}
 use Rattle.rob_expand.proofs.grow.grow_kept.Given as goal
 
 abbrev pub invariant-loop-k : goal.invariant-loop-k

@@ -3,11 +3,11 @@ use Rattle.std.specs.Prelude.{fold, option_to_list}
 use Rattle.std.specs.List.{flat_map, list_any}
 use Rattle.rob_index.specs.Rules.{is_long_name}
 use Rattle.rob_syntax.specs.Known.{texts}
-use Rattle.rob_expand.specs.declared.line.Item.{Item}
+use Rattle.rob_settings.specs.declared.item.Item.{Item}
 use Rattle.rob_expand.specs.Growing.{add_name, item_names, over_at}
-use Rattle.rob_expand.specs.Spots.{picks}
+use Rattle.rob_settings.specs.Spots.{picks}
 use Rattle.rob_expand.proofs.WalkLemmas.{words_along, long_along, four_words, four_long}
-use Rattle.rob_expand.proofs.SpotLemmas.{thin_names}
+use Rattle.rob_expand.proofs.ThinLemmas.{thin_names}
 use Rattle.rob_expand.proofs.NameLemmas.{factor_names_at}
 use Rattle.rob_expand.proofs.grow.grow_line.Goals as goal
 

@@ -3,7 +3,7 @@ use Rattle.std.specs.Prelude.{fold, ◌||◌}
 use Rattle.std.specs.List.{flat_map, list_any}
 use Rattle.rob_index.specs.Rules.{is_long_name}
 use Rattle.rob_syntax.specs.Known.{texts}
-use Rattle.rob_expand.specs.declared.spot.Spot.{Spot}
+use Rattle.rob_settings.specs.declared.spot.Spot.{Spot}
 use Rattle.rob_expand.specs.Growing.{add_name, line_names}
 use Rattle.rob_expand.proofs.grow.grow_lines.Given as goal
 

@@ -3,9 +3,9 @@ use Rattle.std.specs.Prelude.{Option, fold, option_to_list}
 use Rattle.std.specs.List.{list_any}
 use Rattle.rob_index.specs.Rules.{is_long_name}
 use Rattle.rob_syntax.specs.Known.{texts}
-use Rattle.rob_expand.specs.declared.placed.Named.{Named}
+use Rattle.rob_settings.specs.declared.item.Named.{Named}
 use Rattle.rob_expand.specs.Growing.{add_name, named_at, over_at}
-use Rattle.rob_expand.proofs.MakeLemmas.{moved_on, moved_if}
+use Rattle.rob_settings.proofs.AnswerLemmas.{moved_on, moved_if}
 use Rattle.rob_expand.proofs.grow.grow_optional.Goals as goal
 
 pub returns-in-Some : goal.returns-in-Some

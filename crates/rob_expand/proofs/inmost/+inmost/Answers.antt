@@ -3,7 +3,7 @@ use Rattle.std.specs.Prelude.{ℤ}
 use Rattle.rob_index.specs.Forms.{value_of}
 use Rattle.rob_expand.specs.Inmost.{IsInmost}
 use Rattle.rob_expand.proofs.InmostLemmas.{inmost_more}
-use Rattle.rob_expand.proofs.MakeLemmas.{moved_if}
+use Rattle.rob_settings.proofs.AnswerLemmas.{moved_if}
 use Rattle.rob_expand.proofs.inmost.+inmost.Goals as goal
 
 pub returns-then-branch-clause-inmost : goal.returns-then-branch-clause-inmost

@@ -6,11 +6,11 @@ use Rattle.rob_syntax.specs.Known.{texts}
 use Rattle.rob_syntax.specs.Numbered.{numbered}
 use Rattle.rob_syntax.specs.Seen.{seen_statement}
 use Rattle.rob_ranges.proofs.SpanLemmas.{every_at}
-use Rattle.rob_expand.specs.declared.spot.Spot.{Spot}
+use Rattle.rob_settings.specs.declared.spot.Spot.{Spot}
 use Rattle.rob_expand.specs.Growing.{printed}
 use Rattle.rob_expand.specs.Instances.{instance}
-use Rattle.rob_expand.specs.Spots.{IsThin}
-use Rattle.rob_expand.proofs.SpotLemmas.{thin_along}
+use Rattle.rob_settings.specs.Spots.{IsThin}
+use Rattle.rob_settings.proofs.SpotLemmas.{thin_along}
 use Rattle.rob_expand.proofs.WalkLemmas.{made_more, made_all, map_flat}
 use Rattle.rob_expand.proofs.instance.append_instances.Goals as goal
 

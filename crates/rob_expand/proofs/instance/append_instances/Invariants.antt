@@ -3,7 +3,7 @@ use Rattle.std.specs.List.{flat_map}
 use Rattle.rob_syntax.specs.Known.{texts}
 use Rattle.rob_syntax.specs.Numbered.{numbered}
 use Rattle.rob_syntax.specs.Seen.{seen_statement}
-use Rattle.rob_expand.specs.declared.spot.Spot.{Spot}
+use Rattle.rob_settings.specs.declared.spot.Spot.{Spot}
 use Rattle.rob_expand.specs.Growing.{printed}
 use Rattle.rob_expand.specs.Instances.{instance}
 use Rattle.rob_expand.proofs.instance.append_instances.Given as goal

@@ -8,7 +8,7 @@ use Rattle.rob_syntax.specs.declared.syntax.Range.{Range}
 use Rattle.rob_syntax.specs.declared.syntax.Spread.{Spread}
 use Rattle.rob_syntax.specs.Known.{texts}
 use Rattle.rob_syntax.specs.Seen.{seen_ranges, seen_ref}
-use Rattle.rob_expand.specs.declared.placed.Named.{Named}
+use Rattle.rob_settings.specs.declared.item.Named.{Named}
 use Rattle.rob_expand.specs.Making.{entry_at}
 use Rattle.rob_expand.specs.Placing.{placed_name}
 use Rattle.rob_expand.proofs.MakeLemmas.{share_made, members_made}

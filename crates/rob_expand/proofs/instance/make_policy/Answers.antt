@@ -2,10 +2,10 @@ use Rattle.std.proofs.Common.{List, map, ap, ◌∙◌}
 use Rattle.rob_syntax.specs.Known.{texts}
 use Rattle.rob_syntax.specs.declared.syntax.Statement.TheVariants as code
 use Rattle.rob_syntax.specs.Symbols.{number_of}
-use Rattle.rob_expand.specs.declared.line.Item.{Item}
+use Rattle.rob_settings.specs.declared.item.Item.{Item}
 use Rattle.rob_expand.specs.Making.{numbers_in}
-use Rattle.rob_expand.specs.Spots.{picks}
-use Rattle.rob_expand.proofs.SpotLemmas.{thin_names}
+use Rattle.rob_settings.specs.Spots.{picks}
+use Rattle.rob_expand.proofs.ThinLemmas.{thin_names}
 use Rattle.rob_expand.proofs.instance.make_policy.Goals as goal
 
 pub returns : goal.returns

@@ -3,11 +3,11 @@ use Rattle.std.specs.Prelude.{ℤ, false}
 use Rattle.std.proofs.lemmas.Result.{err_from_is_err_and}
 use Rattle.rob_ranges.proofs.SpanLemmas.{behind_of, every_at, front_of}
 use Rattle.rob_expand.specs.Lines.{line_left}
-use Rattle.rob_expand.specs.Settings.{all_left}
-use Rattle.rob_expand.specs.Spots.{IsThinAt}
-use Rattle.rob_expand.proofs.AppendLemmas.{thin_moved}
+use Rattle.rob_settings.specs.Settings.{all_left}
+use Rattle.rob_settings.specs.Spots.{IsThinAt}
+use Rattle.rob_settings.proofs.AppendLemmas.{thin_moved}
 use Rattle.rob_expand.proofs.LineLemmas.{left_behind, left_none, left_only, left_short}
-use Rattle.rob_expand.proofs.StepLemmas.{refused, moved}
+use Rattle.rob_settings.proofs.AnswerLemmas.{refused, moved}
 use Rattle.rob_expand.proofs.line.+spend_lines.Goals as goal
 
 pub spend_line-requires : goal.spend_line-requires

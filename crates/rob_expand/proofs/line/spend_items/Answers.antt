@@ -2,9 +2,9 @@ use Rattle.std.proofs.Common.{◌≡◌, List, length, sym, ap, ◌∙◌, arith
 use Rattle.std.specs.Prelude.{ℤ}
 use Rattle.std.proofs.lemmas.Result.{err_from_is_err_and}
 use Rattle.rob_index.specs.Forms.{extensions}
-use Rattle.rob_expand.specs.Room.{left_of}
+use Rattle.rob_settings.specs.Room.{left_of}
 use Rattle.rob_expand.specs.Lines.{items_left}
-use Rattle.rob_expand.proofs.StepLemmas.{refused}
+use Rattle.rob_settings.proofs.AnswerLemmas.{refused}
 use Rattle.rob_expand.proofs.LineLemmas.{items_crowded, items_end}
 use Rattle.rob_expand.proofs.line.spend_items.Goals as goal
 

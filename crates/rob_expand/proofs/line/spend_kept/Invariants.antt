@@ -1,6 +1,6 @@
 use Rattle.std.proofs.Common.{◌≡◌, true, drop}
 use Rattle.rob_expand.specs.Lines.{items_left}
-use Rattle.rob_expand.specs.Spots.{picks}
+use Rattle.rob_settings.specs.Spots.{picks}
 use Rattle.rob_expand.proofs.line.spend_kept.Given as goal
 
 abbrev pub invariant-loop-k : goal.invariant-loop-k

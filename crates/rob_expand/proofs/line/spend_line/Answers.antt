@@ -1,13 +1,13 @@
 use Rattle.std.proofs.Common.{List, true, map, refl, ap, ◌∙◌}
 use Rattle.std.proofs.lemmas.Result.{err_from_is_err_and}
-use Rattle.rob_expand.specs.Room.{left_of}
+use Rattle.rob_settings.specs.Room.{left_of}
 use Rattle.rob_expand.specs.Placed.{placed_of}
-use Rattle.rob_expand.specs.declared.line.Item.{Item}
+use Rattle.rob_settings.specs.declared.item.Item.{Item}
 use Rattle.rob_expand.specs.Lines.{items_left, line_left, trees_left}
-use Rattle.rob_expand.specs.Spots.{picks}
-use Rattle.rob_expand.proofs.StepLemmas.{refused, moved}
+use Rattle.rob_settings.specs.Spots.{picks}
+use Rattle.rob_settings.proofs.AnswerLemmas.{refused, moved}
 use Rattle.rob_expand.proofs.LineLemmas.{line_baseless, line_treeless, line_behind}
-use Rattle.rob_expand.proofs.SpotLemmas.{thin_left}
+use Rattle.rob_expand.proofs.ThinLemmas.{thin_left}
 use Rattle.rob_expand.proofs.line.spend_line.Goals as goal
 
 pub returns-in_err-left : goal.returns-in_err-left

@@ -5,7 +5,7 @@ use Rattle.rob_syntax.specs.declared.syntax.Range.{Range}
 use Rattle.rob_syntax.specs.declared.syntax.Ranged.{Ranged}
 use Rattle.rob_syntax.specs.declared.syntax.Ref.{Ref}
 use Rattle.rob_syntax.specs.Seen.{seen_ranged, seen_ranges, seen_ref}
-use Rattle.rob_expand.specs.declared.placed.Named.{Named}
+use Rattle.rob_settings.specs.declared.item.Named.{Named}
 use Rattle.rob_expand.specs.Placing.{placed_name}
 use Rattle.rob_expand.specs.Statements.{name_item}
 use Rattle.rob_expand.proofs.PartsLemmas.{parts_are}

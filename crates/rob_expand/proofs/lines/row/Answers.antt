@@ -4,7 +4,7 @@ use Rattle.std.specs.Option.{option_map}
 use Rattle.rob_index.specs.Fast.{names_in, nest_of}
 use Rattle.rob_syntax.specs.declared.syntax.Range.{Range}
 use Rattle.rob_syntax.specs.Seen.{seen_over, seen_ranges, seen_ref, seen_tree}
-use Rattle.rob_expand.specs.declared.placed.Named.{Named}
+use Rattle.rob_settings.specs.declared.item.Named.{Named}
 use Rattle.rob_expand.specs.Placing.{placed_name}
 use Rattle.rob_expand.proofs.PartsLemmas.{parts_are}
 use Rattle.rob_expand.proofs.TreesLemmas.{trees_within}

@@ -3,7 +3,7 @@ use Rattle.std.specs.Prelude.{ℤ}
 use Rattle.rob_syntax.specs.Known.{texts}
 use Rattle.rob_syntax.specs.Symbols.{number_of}
 use Rattle.rob_expand.specs.Growing.{named_at}
-use Rattle.rob_expand.proofs.MakeLemmas.{moved_if}
+use Rattle.rob_settings.proofs.AnswerLemmas.{moved_if}
 use Rattle.rob_expand.proofs.name.name_number.Goals as goal
 
 pub returns : goal.returns

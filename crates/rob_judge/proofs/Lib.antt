@@ -1,0 +1,4 @@
+pub mod JudgeLemmas
+pub mod JudgingLemmas
+pub mod PassingLemmas
+pub mod ThinLemmas

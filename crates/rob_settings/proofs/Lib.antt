@@ -1,0 +1,10 @@
+pub mod AnswerLemmas
+pub mod DivideLemmas
+pub mod InnerLemmas
+pub mod LiveLemmas
+pub mod RoomLemmas
+pub mod RoundingLemmas
+pub mod RunLemmas
+pub mod SettingsLemmas
+pub mod AppendLemmas
+pub mod SpotLemmas
