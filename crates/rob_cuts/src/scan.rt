@@ -108,8 +108,8 @@ fn search<N: Exact, L: Ledger>(
     ensures counted { NeverFell L.ops L.wides ledger.old ledger.new }
 {
     match target {
-        Target::Plan(plan) => finder.at_plan(alloc, model, form, plan, ledger),
-        Target::Step(step) => finder.at_step(alloc, model, form, step, ledger),
+        Target::Plan(plan) => finder.at_plan(alloc, model.forms, model.set, form, plan, ledger),
+        Target::Step(step) => finder.at_step(alloc, model.forms, model.set, form, step, ledger),
     }
 }
 

@@ -12,7 +12,6 @@ use rob_case::Trouble;
 use rob_case::numbers::{put_all, shown, small};
 use rob_case::text::{keyword, said};
 use rob_cert::{Stop, Worst};
-use rob_dualize::Elaborated;
 use rob_elab::{Forms, elaborate};
 use rob_model::copy::copy_list;
 use rob_model::{Model, Plan};
@@ -269,9 +268,7 @@ fn next_at_plan<N: Exact>(
     {
         return Err(Trouble::Line);
     }
-    let set = &whole.set;
-    let model = Elaborated { forms, set };
-    let found = finder.at_plan(alloc, model, form, plan, ledger);
+    let found = finder.at_plan(alloc, forms, &whole.set, form, plan, ledger);
     told(alloc, &found)
 }
 
@@ -292,9 +289,7 @@ fn next_at_step<N: Exact>(
     if form as usize >= forms.matrices.items().len() || step.len() != forms.columns as usize + 1 {
         return Err(Trouble::Line);
     }
-    let set = &whole.set;
-    let model = Elaborated { forms, set };
-    let found = finder.at_step(alloc, model, form, step, &mut Tally::new());
+    let found = finder.at_step(alloc, forms, &whole.set, form, step, &mut Tally::new());
     told(alloc, &found)
 }
 

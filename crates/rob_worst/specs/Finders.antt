@@ -15,9 +15,7 @@ use Rattle.rob_simplex.specs.Endings.{HasAnswered}
 use Rattle.rob_simplex.specs.Resuming.{HasResumed, HasStoppedFrom, IsCausedFrom}
 use Rattle.rob_simplex.specs.Solvers.{Solver, positions}
 use Rattle.rob_simplex.specs.declared.state.LpStop.{LpStop}
-use Rattle.rob_elab.specs.Elaborated.{AreElaborated}
 use Rattle.rob_dualize.specs.SetSolving.{program_of_set, IsFewSet, IsSolved}
-use Rattle.rob_dualize.specs.declared.elaborated.Elaborated.{Elaborated}
 use Rattle.rob_worst.specs.Finding.{Tells}
 use Rattle.rob_worst.specs.Tasks.{FitsSet, IsTaskOf}
 use Rattle.rob_worst.specs.declared.finder.Finder.{Finder}
@@ -35,14 +33,8 @@ pub record IsFinderFor {N : Type 0} (Q : Program) (f : Finder N) : Type 0 where
 abbrev pub IsFinder : {N : Type 0} → SetForm → Finder N → Type 0
 IsFinder set f = IsFinderFor (program_of_set set) f
 
--- the forms and the set rows are those of one model, no number of theirs is over the limit, and the set rows are as few
--- as a solver takes
-pub record FitsSearch (limit : ℕ) (model : Elaborated) : Type 0 where
-  pub elaborated : AreElaborated limit model.forms.now model.set.now
-  pub few : IsFewSet model.set.now
-
--- the solver can go on with the task's cost: it stands at the last basis of the set's program, whose rows are as few as
--- a solver takes, and the task fits its columns
+-- the solver can go on with the task's cost: it stands at the last basis of the set's program, whose rows and
+-- columns together are as few as a solver takes, and the task fits its columns
 pub record CanGoOn (limit : ℕ) (set : SetForm) (task : Task) (s : Solver) : Type 0 where
   pub few : IsFewSet set
   pub task_fits : FitsSet limit set.columns task

@@ -14,7 +14,7 @@ ghost use Rattle.rob_elab.specs.Elaborated.{AreElaborated};
 ghost use Rattle.rob_elab.specs.Forms.{IsForms};
 ghost use Rattle.rob_dualize.specs.Solving.{CountsAnswer, HasScenario, IsLastScenario};
 ghost use Rattle.rob_dualize.specs.SetSolving.{IsSetOfModel, IsFewSet};
-ghost use Rattle.rob_worst.specs.Finders.{FitsSearch, IsFinder};
+ghost use Rattle.rob_worst.specs.Finders.{IsFinder};
 ghost use Rattle.rob_dualize.specs.SetSolving.{HasSetCause};
 ghost use Rattle.rob_dualize.specs.Wholes.{HoldsOfEach};
 ghost use Rattle.rob_worst.specs.Finding.{HasConstantWithin, HasSearchCause, Searches};
@@ -75,29 +75,31 @@ impl<N: Exact> Finder<N> {
     /// The worst scenario of a form at a plan with its bound. `Wide` comes only where a number on the way is over the
     /// limit: the plan's least common denominator or a number of the plan times it, a prefix of a sum that makes the
     /// search's costs, or a number of a row on the search's path for which the search is refused. `form` counts from 0,
-    /// and the plan has a number for each decision column; the model's set is that of `new`. `Memory` comes where
-    /// memory is refused, `EmptySet` never; after each answer the finder can search again.
+    /// and the plan has a number for each decision column; `forms` and `set` are those of one model, the set that of
+    /// `new`. `Memory` comes where memory is refused, `EmptySet` never; after each answer the finder can search again.
     pub fn at_plan<L: Ledger>(
         &mut self,
         alloc: Global,
-        model: Elaborated,
+        forms: &Forms,
+        set: &SetForm,
         form: u32,
         plan: &Plan<N>,
         ledger: &mut L,
     ) -> Result<Worst<N>, Stop>
-        requires model { FitsSearch N.limit model }
-        requires finder { IsFinder model.set.now self.old }
-        requires form_in { form < length model.forms.now.matrices }
-        requires size { length plan.now.columns ≡ model.forms.now.columns }
-        ensures answer { HoldsOfEach model.entry.forms.now model.entry.set.now
+        requires model { AreElaborated N.limit forms.now set.now }
+        requires few { IsFewSet set.now }
+        requires finder { IsFinder set.now self.old }
+        requires form_in { form < length forms.now.matrices }
+        requires size { length plan.now.columns ≡ forms.now.columns }
+        ensures answer { HoldsOfEach forms.now set.now
             (λ m. Searches N.value N.limit m false form (plan_of N.value plan.now)
             (L.wides ledger.old) (L.wides ledger.new) result) }
         ensures within { IfOk result (HasConstantWithin N.limit) }
-        ensures finder { IsFinder model.entry.set.now self.new }
+        ensures finder { IsFinder set.now self.new }
         ensures counted { NeverFell L.ops L.wides ledger.old ledger.new }
     {
-        let task = plan_task(alloc, model, form, plan);
-        self.search(alloc, model.set, task, ledger)
+        let task = plan_task(alloc, Elaborated { forms, set }, form, plan);
+        self.search(alloc, set, task, ledger)
     }
 
     /// The same along a direction: a number for each decision column, and last the one for the bound. The constant
@@ -105,24 +107,26 @@ impl<N: Exact> Finder<N> {
     pub fn at_step<L: Ledger>(
         &mut self,
         alloc: Global,
-        model: Elaborated,
+        forms: &Forms,
+        set: &SetForm,
         form: u32,
         step: &[N],
         ledger: &mut L,
     ) -> Result<Worst<N>, Stop>
-        requires model { FitsSearch N.limit model }
-        requires finder { IsFinder model.set.now self.old }
-        requires form_in { form < length model.forms.now.matrices }
-        requires size { length step.now ≡ suc model.forms.now.columns }
-        ensures answer { HoldsOfEach model.entry.forms.now model.entry.set.now
+        requires model { AreElaborated N.limit forms.now set.now }
+        requires few { IsFewSet set.now }
+        requires finder { IsFinder set.now self.old }
+        requires form_in { form < length forms.now.matrices }
+        requires size { length step.now ≡ suc forms.now.columns }
+        ensures answer { HoldsOfEach forms.now set.now
             (λ m. Searches N.value N.limit m true form (step_of N.value step.now)
             (L.wides ledger.old) (L.wides ledger.new) result) }
         ensures within { IfOk result (HasConstantWithin N.limit) }
-        ensures finder { IsFinder model.entry.set.now self.new }
+        ensures finder { IsFinder set.now self.new }
         ensures counted { NeverFell L.ops L.wides ledger.old ledger.new }
     {
-        let task = step_task(alloc, model, form, step);
-        self.search(alloc, model.set, task, ledger)
+        let task = step_task(alloc, Elaborated { forms, set }, form, step);
+        self.search(alloc, set, task, ledger)
     }
 
     /// The search: from the set's last basis, with the task's cost. Of rows only deep ones refuse it.

@@ -10,7 +10,6 @@ ghost use Rattle.rob_worst.specs.Vectors.{plan_of, step_of};
 
 use crate::finder::Finder;
 use rob_cert::{Stop, Worst};
-use rob_dualize::Elaborated;
 use rob_elab::Forms;
 use rob_model::Plan;
 use rob_number::{Exact, Ledger};
@@ -41,7 +40,7 @@ pub fn worst<N: Exact, L: Ledger>(
     ensures counted { NeverFell L.ops L.wides ledger.old ledger.new }
 {
     let mut finder = Finder::<N>::new(alloc, set, ledger)?;
-    finder.at_plan(alloc, Elaborated { forms, set }, form, plan, ledger)
+    finder.at_plan(alloc, forms, set, form, plan, ledger)
 }
 
 /// The same along a direction: a number for each decision column, and last the one for the bound. The constant column
@@ -65,5 +64,5 @@ pub fn worst_step<N: Exact, L: Ledger>(
     ensures counted { NeverFell L.ops L.wides ledger.old ledger.new }
 {
     let mut finder = Finder::<N>::new(alloc, set, ledger)?;
-    finder.at_step(alloc, Elaborated { forms, set }, form, step, ledger)
+    finder.at_step(alloc, forms, set, form, step, ledger)
 }
