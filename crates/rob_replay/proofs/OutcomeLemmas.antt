@@ -73,7 +73,8 @@ module _ {R : Type 0} (fields : R → List (List ℕ)) (limit : ℕ) (m : Robust
 -- ---- one record
 module _ (limit : ℕ) (m : RobustModel) (plan : List Fraction) (places : List ℕ) (number : ℕ)
     (fields : List (List ℕ)) (n : ℕ) (is : n ≡ length fields) where
-  pub record_unlike : (n ≡ length places → ⊥) → record_outcome limit m plan places number fields ≡ Err (breaks 42 number)
+  pub record_unlike : (n ≡ length places → ⊥)
+      → record_outcome limit m plan places number fields ≡ Err (breaks 42 number)
   record_unlike h = rw unlike refl
     where
       unlike : (length fields == length places) ≡ false
