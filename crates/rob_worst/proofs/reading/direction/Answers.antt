@@ -17,8 +17,8 @@ pair_differences-requires-clause-inside g c =
 
 pub pair_differences-requires-clause-pairs : goal.pair_differences-requires-clause-pairs
 pair_differences-requires-clause-pairs g c =
-    pairs_told (are_told g.N.Exact.value c.items.ensures.list c.in_ok-numbers.ensures.numbers) c.args.count (omega arith)
-    c.requires.pairs
+    pairs_told (are_told g.N.Exact.value c.items.ensures.list c.in_ok-numbers.ensures.numbers) c.args.count
+    (omega arith) c.requires.pairs
 
 pub returns : goal.returns
 returns g c =
@@ -26,7 +26,7 @@ returns g c =
     record {
       parameters = ok_weaker (λ list. map value list ≡ differences c.args.count (told value c.items.result.now))
           (λ list. map value list ≡ differences c.args.count (ray_of c.args.solver.now))
-          (λ list h. h ∙ differences_read (are_told value c.items.ensures.list c.in_ok-numbers.ensures.numbers) c.args.count
-          (omega arith))
+          (λ list h. h ∙ differences_read (are_told value c.items.ensures.list c.in_ok-numbers.ensures.numbers)
+          c.args.count (omega arith))
           c.pair_differences.result c.pair_differences.ensures.differences;
     }
