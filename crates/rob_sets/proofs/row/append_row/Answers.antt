@@ -64,8 +64,9 @@ returns-clause-row g c =
 pub returns-in-Ok-clause-row : goal.returns-in-Ok-clause-row
 returns-in-Ok-clause-row g c =
     let value = g.N.Exact.value in
-    row_appended g.N.Exact.limit (robust value c.args.model.now) (row_of (numbers_of value c.args.table.now)) (length c.args.rows.now) (map value c.deref.result.now)
-    c.in-Ok.list c.in_ok-row-in-Ok.row c.args.rows.now c.push.new.self
+    row_appended g.N.Exact.limit (robust value c.args.model.now) (row_of (numbers_of value c.args.table.now))
+    (length c.args.rows.now) (map value c.deref.result.now) c.in-Ok.list c.in_ok-row-in-Ok.row c.args.rows.now
+    c.push.new.self
     (ap (map value) c.deref.ensures.value
     ∙ row_is value c.args.model.now (numbers_of value c.args.table.now) (length c.items-2.result.now)
     c.lift_count-lifts.result c.in_ok-numbers.numbers.items
