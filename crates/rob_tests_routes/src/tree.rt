@@ -62,7 +62,8 @@ fn tree_text<N: Exact>(
     tree: &Tree<N>,
 ) -> Result<String, Trouble>
     requires valid { IsValid N.value model.now }
-    requires shape { HasTreeShape N.limit (robust N.value model.now) columns.now (tree_of N.value tree.now) }
+    requires shape { HasTreeShape N.limit (robust N.value model.now) columns.now
+        (tree_of N.value tree.now) }
 {
     let text = written(alloc, model, columns, tree)?;
     shown(alloc, text.bytes())
@@ -138,7 +139,8 @@ fn written<N: Exact>(
     tree: &Tree<N>,
 ) -> Result<Text, Trouble>
     requires valid { IsValid N.value model.now }
-    requires shape { HasTreeShape N.limit (robust N.value model.now) columns.now (tree_of N.value tree.now) }
+    requires shape { HasTreeShape N.limit (robust N.value model.now) columns.now
+        (tree_of N.value tree.now) }
 {
     keeps_rules(model, columns)?;
     Ok(write_tree(alloc, model, tree)?)
@@ -190,7 +192,8 @@ fn same_text<N: Exact>(
     tree: &Tree<N>,
 ) -> Result<String, Trouble>
     requires valid { IsValid N.value model.now }
-    requires shape { HasTreeShape N.limit (robust N.value model.now) columns.now (tree_of N.value tree.now) }
+    requires shape { HasTreeShape N.limit (robust N.value model.now) columns.now
+        (tree_of N.value tree.now) }
 {
     let again = written(alloc, model, columns, tree)?;
     compared(alloc, again.bytes() == text)
