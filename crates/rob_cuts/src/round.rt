@@ -40,7 +40,7 @@ use rob_dualize::stop::{or_stop, position, wide, wide_at};
 use rob_dualize::told::basis;
 use rob_elab::Forms;
 use rob_model::{Program, Spot, Where};
-use rob_number::{Exact, Ledger, List, LpKind, Memory};
+use rob_number::{Exact, Ledger, LpKind, Memory};
 use rob_rows::Lp;
 use rob_sets::error::Stop as Refusal;
 use rob_solver::{Solved, Solver, Stopped, solve};
