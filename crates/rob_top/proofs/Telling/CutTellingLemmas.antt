@@ -125,10 +125,6 @@ module _ (m : RobustModel) where
           behind [] h = absurd h
           behind (c ∷ list) h = (list, h.1)
 
-      -- there are 3 already
-      pub too_many : (word : Word) → all ≡ parts_of word → length cuts ≡ 3 → IsCutList greatest word → ⊥
-      too_many = lists.too_many (IsCut greatest) (AreCutsAt m) 3 all cuts first rest read
-
       -- the next word is the cut of no parameter
       pub no_cut : (word : Word) → all ≡ parts_of word → (IsCut greatest first → (cut : Cut) → IsCutAt m first cut → ⊥)
           → IsCutList greatest word → (list : List Cut) → AreCutsAt m all list → ⊥
