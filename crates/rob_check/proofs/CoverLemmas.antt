@@ -1,8 +1,7 @@
 -- One multiplier more, one column more, one form more.
-use Rattle.std.proofs.Common.{◌≡◌, ℕ, zero, suc, ◌+◌, ◌<◌, ◌≤◌, ℤ, List, [], ◌∷◌, ◌++◌, map, length, get_or, drop, arith, refl, sym, ◌∙◌, ap, ap₂, add-one, Bool}
+use Rattle.std.proofs.Common.{◌≡◌, ℕ, zero, suc, ◌+◌, ◌<◌, ◌≤◌, ℤ, List, [], ◌∷◌, ◌++◌, map, length, get_or, drop, arith, refl, sym, ◌∙◌, ap, ap₂, add-one}
 use Rattle.std.specs.Prelude.{Option, Some, None}
 use Rattle.rob_algebra.specs.Fraction.{Fraction, of_int, ◌*ℚ◌}
-use Rattle.rob_algebra.specs.FractionOrder.{eq_ℚ}
 use Rattle.rob_algebra.specs.Width.{kept}
 use Rattle.rob_cert.specs.View.{cover_of}
 use Rattle.rob_cert.specs.declared.certificate.Cover.{Cover}
@@ -13,7 +12,7 @@ use Rattle.rob_model.proofs.PartLemmas.{drop_at, drop_past}
 use Rattle.rob_model.specs.Within.{◌>>=◌}
 use Rattle.rob_sets.specs.declared.set_form.SetForm.{SetForm}
 use Rattle.rob_sets.specs.declared.set_form.SetRow.{SetRow}
-use Rattle.rob_check.specs.Covers.{Covering, column_test, cover_tests, covers_of, form_tests, form_within, rows_within}
+use Rattle.rob_check.specs.Covers.{Covering, cover_tests, covers_of, form_tests, form_within}
 use Rattle.rob_check.specs.LiftedSet.{LiftedSet, lifted_of, numbers_in}
 use Rattle.rob_check.specs.Sums.{added_within, column, dot_within, products, row_at, with_part}
 use Rattle.rob_check.specs.Verdicts.{verdict}
@@ -162,22 +161,6 @@ module _ (limit : ℕ) (g : Covering) (form : List (List ℤ)) (k : ℕ) where
       h ∙ ap (λ x. kept limit (g.scale *ℚ x)) none
       ∙ ap₂ (λ (v row : List Fraction). dot_within limit v row >>= (λ x. kept limit (g.scale *ℚ x))) (sym vector)
       (sym (row_missing form k past))
-
--- ---- the sums of a form
-module _ (limit : ℕ) (set : LiftedSet) (g : Covering) (i : ℕ) (form : List (List Fraction))
-    (mine : List meaning.Cover) where
-  module _ (k : ℕ) where
-    module _ (rows : Fraction) (some : Some rows ≡ rows_within limit mine (column k set.rows)) where
-      rows_go : (form_within limit g form (suc k) >>= (λ x. Some (eq_ℚ rows x)))
-          ≡ (column_test limit set g i form mine k).holds
-      rows_go = ap (λ o. o >>= (λ rows. form_within limit g form (suc k) >>= (λ x. Some (eq_ℚ rows x)))) some
-
-      pub column_is : (number : Fraction) (t : Bool)
-          → Some number ≡ form_within limit g form (k + 1) → t ≡ eq_ℚ rows number
-          → Some t ≡ (column_test limit set g i form mine k).holds
-      column_is number t h e =
-          ap Some e ∙ ap (λ o. o >>= (λ x. Some (eq_ℚ rows x))) (h ∙ ap (form_within limit g form) (add-one k))
-          ∙ rows_go
 
 -- ---- all forms
 module _ (limit : ℕ) (set : LiftedSet) (g : Covering) (forms : List (List (List ℤ))) (i : ℕ)

@@ -1,7 +1,7 @@
 -- One item more.
 use Rattle.std.proofs.Common.{◌≡◌, ℕ, ◌+◌, ◌<◌, ℤ, List, ◌∷◌, ◌++◌, map, length, get_or, drop, sym, ◌∙◌, ap, ap₂, add-one}
 use Rattle.std.specs.Prelude.{Option, Some, None}
-use Rattle.rob_algebra.specs.Fraction.{Fraction, ◌+ℚ◌, ◌*ℚ◌}
+use Rattle.rob_algebra.specs.Fraction.{Fraction, ◌*ℚ◌}
 use Rattle.rob_algebra.specs.Width.{kept}
 use Rattle.rob_cert.specs.View.{item_of}
 use Rattle.rob_cert.specs.declared.certificate.Item.{Item}
@@ -11,7 +11,7 @@ use Rattle.rob_meaning.specs.RobustModel.{RobustModel}
 use Rattle.rob_model.proofs.PartLemmas.{drop_at}
 use Rattle.rob_model.specs.Within.{◌>>=◌}
 use Rattle.rob_check.specs.Conditions.{item_tests, item_within, items_tests}
-use Rattle.rob_check.specs.Sums.{added_within, column, dot_within, with_part}
+use Rattle.rob_check.specs.Sums.{added_within, column, dot_within}
 use Rattle.rob_check.specs.Verdicts.{verdict}
 use Rattle.rob_check.specs.declared.verdict.Verdict.{Verdict}
 use Rattle.rob_check.specs.declared.verdict.Verdict.TheVariants.{Accepted}
@@ -45,13 +45,6 @@ module _ {N : Type 0} (value : N → Fraction) (limit : ℕ) (forms : List (List
   abbrev pub column_left : List (Item N) → ℕ → Fraction → Option Fraction
   column_left items k so_far =
       added_within limit so_far (map (item_within limit forms j) (map (item_of value) (drop k items)))
-
-  module _ (items : List (Item N)) (k : ℕ) (item : Item N) (so_far : Fraction) (inside : k < length items)
-      (is : item ≡ get_or items k item) where
-    module _ (part : Fraction) (some : Some part ≡ item_within limit forms j (item_of value item)) where
-      part_is : (r : Option Fraction) → r ≡ kept limit (so_far +ℚ part)
-          → r ≡ with_part limit so_far (item_within limit forms j (item_of value item))
-      part_is r h = h ∙ ap (λ o. o >>= (λ x. kept limit (so_far +ℚ x))) some
 
 -- ---- the verdict on items
 module _ {N : Type 0} (value : N → Fraction) (limit : ℕ) (m : RobustModel)

@@ -105,9 +105,6 @@ module _ (limit : ℕ) (m : RobustModel) (place : ℕ → Place) (s : Fraction) 
           ∙ ap (λ j. bounds_of k (parameter_of value d)
           ++ (bounds_from j (map (parameter_of value) (drop (k + 1) ps)) ++ others)) (sym (add-one k))
 
-      whole : List Condition
-      whole = set_tests limit m place s p i (bounds_from k (map (parameter_of value) (drop k ps)) ++ others)
-
       whole_is : set_tests limit m place s p i (bounds_from k (map (parameter_of value) (drop k ps)) ++ others)
           ≡ bound_tests limit m place s p i k (parameter_of value d)
           ++ set_tests limit m place s p (i + length (bounds_of k (parameter_of value d))) bounds_left
