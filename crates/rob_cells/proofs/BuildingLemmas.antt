@@ -1,7 +1,7 @@
 -- The split model, one cell more; and numbers that stand so many times.
 use Rattle.std.proofs.Common.{◌≡◌, ℕ, suc, ◌+◌, ◌-◌, ◌≤◌, List, [], ◌∷◌, ◌++◌, map, length, refl, ap, sym, ◌∙◌, append_assoc, append-nil, arith, length-append}
 use Rattle.std.specs.Prelude.{flat_map, codes, None}
-use Rattle.std.proofs.lemmas.List.{length-map, map-append}
+use Rattle.std.proofs.lemmas.List.{length-map, map-append, map_push}
 use Rattle.rob_meaning.specs.Places.{tabulate}
 use Rattle.rob_meaning.proofs.TabulateLemmas.{tabulate-more}
 use Rattle.rob_meaning.specs.RobustModel.{RobustModel, in_set}
@@ -41,9 +41,6 @@ pub flat_more : {A : Type 0} (f : ℕ → List A) (cs : List ℕ) (c : ℕ) → 
 flat_more f [] c = append-nil (f c)
 flat_more f (b ∷ cs) c = ap (λ l. f b ++ l) (flat_more f cs c) ∙ sym (append_assoc (f b) (flat_map f cs) (f c))
 
-pub map_more : {A B : Type 0} (f : A → B) (cs : List A) (c : A) → map f (cs ++ c ∷ []) ≡ map f cs ++ f c ∷ []
-map_more f cs c = map-append f cs (c ∷ [])
-
 parameters_more : (m : RobustModel) (cs : List ℕ) (c : ℕ)
     → flat_map (λ set. map (in_set set) m.parameters) (map (numbered (codes "cell")) (cs ++ c ∷ []))
     ≡ flat_map (λ set. map (in_set set) m.parameters) (map (numbered (codes "cell")) cs)
@@ -65,7 +62,7 @@ module _ (m : RobustModel) (cuts : List Cut) where
   pub cell_more : (cs : List ℕ) (c : ℕ) → with_cell m cuts c (split_over m cuts cs) ≡ split_over m cuts (cs ++ c ∷ [])
   cell_more cs c = λ i. record (split_over m cuts cs) {
     parameters = parameters_with cs c i;
-    sets = sym (map_more (numbered (codes "cell")) cs c) i;
+    sets = sym (map_push (numbered (codes "cell")) cs c) i;
     set_lines = sym (flat_more (λ c. cell_lines m c cuts) cs c) i;
     line_sets = sym (flat_more (λ c. map (λ item. c) (cell_lines m c cuts)) cs c) i;
     adaptives = sym (flat_more (λ c. map (copy_in m c) m.adaptives) cs c) i;

@@ -1,9 +1,9 @@
 -- The names of the split model, part by part.
 use Rattle.std.proofs.Common.{◌≡◌, ℕ, suc, ◌+◌, ◌≤◌, List, [], ◌∷◌, ◌++◌, map, length, refl, ap, ap₂, sym, ◌∙◌, append_assoc, arith}
 use Rattle.std.specs.Prelude.{codes, flat_map, Option, Some, None}
-use Rattle.std.proofs.lemmas.List.{map-append}
+use Rattle.std.proofs.lemmas.List.{map-append, map_push}
 use Rattle.rob_algebra.specs.Fraction.{Fraction}
-use Rattle.rob_cells.proofs.BuildingLemmas.{flat_more, map_more}
+use Rattle.rob_cells.proofs.BuildingLemmas.{flat_more}
 use Rattle.rob_meaning.proofs.TabulateLemmas.{tabulate-more}
 use Rattle.rob_meaning.specs.Named.{adaptive_names, declared_names, row_names, variable_names, written_names}
 use Rattle.rob_meaning.specs.Names.{Name}
@@ -67,7 +67,7 @@ set_name_more old done next word name i same named pushed so_far =
     ∙ ap₂ (λ xs n. xs ++ n ∷ []) so_far
     (named ∙ ap₂ numbered same (let e : i + 1 ≡ suc i = omega arith in e))
     ∙ append_assoc old (map (numbered (codes "cell")) (tabulate i suc)) (numbered (codes "cell") (suc i) ∷ [])
-    ∙ ap (λ xs. old ++ xs) (sym (map_more (numbered (codes "cell")) (tabulate i suc) (suc i)))
+    ∙ ap (λ xs. old ++ xs) (sym (map_push (numbered (codes "cell")) (tabulate i suc) (suc i)))
     ∙ ap (λ cs. old ++ map (numbered (codes "cell")) cs)
     (sym (tabulate-more i suc) ∙ ap (λ k. tabulate k suc) (let e : suc i ≡ i + 1 = omega arith in e))
 
