@@ -15,7 +15,7 @@ use Rattle.rob_counterpart.proofs.Blocks.{halves}
 use Rattle.rob_counterpart.proofs.ReformPlaces.{reform_is, reforms_same, costs_same}
 use Rattle.rob_counterpart.proofs.SetLemmas.{over_set_is, cost_is}
 use Rattle.rob_counterpart.proofs.MasterLemmas.{master_is}
-use Rattle.rob_linear.proofs.Programs.{left_row, right_row, row_left}
+use Rattle.rob_linear.proofs.Programs.{auxiliary_left, left_row, right_row, row_left}
 
 left_out : (P : Program) (t k : ℕ) → P.m ≤ t → left_of P t k ≡ neg_ℤ (P.c k)
 left_out P t k l = grind (arith, nat_tests)
@@ -62,9 +62,6 @@ systems_same P Q h =
     let start : starting_row P ≡ starting_row Q = fun_ext (λ t. fun_ext (λ k. start_same P Q t k h)) in
     λ i. record { m = h.height i; columns = h.width i + h.height i; tag = λ t. h.width i + t; start = start i }
 
-aux_left_in : (P : Program) (t k : ℕ) → k < P.n → t < P.m → auxiliary_row P t k ≡ P.a t k
-aux_left_in P t k l b = grind (arith, nat_tests)
-
 aux_left_out : (P : Program) (t k : ℕ) → k < P.n → P.m ≤ t → auxiliary_row P t k ≡ pos 0
 aux_left_out P t k l b = grind (arith, nat_tests)
 
@@ -83,7 +80,7 @@ aux_same P Q t k h =
     let n : P.n ≡ Q.n = h.width in
     elim (cases_lt k P.n) [
       | inl l ↦ elim (cases_lt t P.m) [
-        | inl b ↦ aux_left_in P t k l b ∙ h.rows t k b l ∙ sym (aux_left_in Q t k (omega arith) (omega arith))
+        | inl b ↦ auxiliary_left P t k b l ∙ h.rows t k b l ∙ sym (auxiliary_left Q t k (omega arith) (omega arith))
         | inr b ↦ aux_left_out P t k l b ∙ sym (aux_left_out Q t k (omega arith) (omega arith))
       ]
       | inr l ↦
