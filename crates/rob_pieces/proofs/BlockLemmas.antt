@@ -2,16 +2,12 @@
 use Rattle.std.specs.Prelude.{◌≡◌, ℕ, zero, suc, ◌+◌, ◌<◌, List, [], ◌∷◌, ◌++◌, map, flat_map, get_or}
 use Rattle.std.proofs.Common.{sym, ◌∙◌, ap, subst, arith}
 use Rattle.rob_meaning.proofs.EachLemmas.{each_append}
+use Rattle.rob_meaning.proofs.TabulateLemmas.{each_tabulate}
 use Rattle.rob_meaning.specs.Places.{Each, EachFrom, tabulate}
 use Rattle.rob_pieces.specs.Cuts.{Cut, IsCell, cell_count, cell_numbers}
 
 -- ---- over tabulated lists
 module _ {A : Type 0} (P : A → Type 0) where
-  pub each_tabulate : (n : ℕ) (f : ℕ → A) → ((i : ℕ) → i < n → P (f i)) → Each P (tabulate n f)
-  each_tabulate zero f h = tt
-  each_tabulate (suc n) f h =
-      (h zero (omega arith), each_tabulate n (λ i. f (suc i)) (λ i some. h (suc i) (omega arith)))
-
   pub tabulate_each : (n : ℕ) (f : ℕ → A) → Each P (tabulate n f) → (i : ℕ) → i < n → P (f i)
   tabulate_each zero f h i some = absurd (omega arith)
   tabulate_each (suc n) f h zero some = h.0

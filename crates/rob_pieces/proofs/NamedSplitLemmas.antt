@@ -8,7 +8,7 @@ use Rattle.rob_algebra.specs.Fraction.{Fraction}
 use Rattle.rob_meaning.proofs.AloneLemmas.{all_taken}
 use Rattle.rob_meaning.proofs.EachLemmas.{each_append, each_left, each_right}
 use Rattle.rob_meaning.proofs.JoinedLemmas.{decimal_plain}
-use Rattle.rob_meaning.proofs.NamedLemmas.{plain_word}
+use Rattle.rob_meaning.proofs.NamedLemmas.{each_unmapped, plain_word}
 use Rattle.rob_meaning.specs.Named.{AreDistinct, HasDistinctMembers, IsFree, IsNamed, IsPlain, adaptive_names, declared_names, row_names, variable_names, written_names}
 use Rattle.rob_meaning.specs.Names.{Name}
 use Rattle.rob_meaning.specs.Places.{Each}
@@ -52,11 +52,7 @@ numbered_plain name c small h =
 
 -- ---- what is said of all names of one kind
 module _ {A : Type 0} (P : Name → Type 0) (name : A → Name) where
-  of_names : (xs : List A) → Each P (map name xs) → Each (λ x. P (name x)) xs
-  of_names [] h = tt
-  of_names (x ∷ xs) h = (h.0, of_names xs h.1)
-
-  to_names : (xs : List A) → Each (λ x. P (name x)) xs → Each P (map name xs)
+  pub to_names : (xs : List A) → Each (λ x. P (name x)) xs → Each P (map name xs)
   to_names [] h = tt
   to_names (x ∷ xs) h = (h.0, to_names xs h.1)
 
@@ -107,10 +103,10 @@ module _ (m : RobustModel) (alone : m.sets ≡ []) (cuts : List Cut) where
       each_append (λ (r : Row). P r.name) (map (row_over m c) m.rows) (bound_rows m c 0 m.adaptives)
           (each_mapped (row_over m c) (λ (r : Row). IsPlain r.name) (λ (r : Row). P r.name)
           (λ r h. made r.name c cell h) m.rows
-          (of_names IsPlain (λ (r : Row). r.name) m.rows
+          (each_unmapped IsPlain (λ (r : Row). r.name) m.rows
           (each_left IsPlain (row_names m) _ (behind_sets IsPlain plain))))
           (bound_names c 0 cell m.adaptives
-          (of_names IsPlain (λ (y : AdaptiveVariable). y.name) m.adaptives
+          (each_unmapped IsPlain (λ (y : AdaptiveVariable). y.name) m.adaptives
           (each_right IsPlain (variable_names m) _ (behind_rows IsPlain plain)))),
     )
 
@@ -119,7 +115,7 @@ module _ (m : RobustModel) (alone : m.sets ≡ []) (cuts : List Cut) where
     adaptive_names_kept c cell =
         each_mapped (copy_in m c) (λ (y : AdaptiveVariable). IsPlain y.name) (λ (y : AdaptiveVariable). P y.name)
         (λ y h. made y.name c cell h) m.adaptives
-        (of_names IsPlain (λ (y : AdaptiveVariable). y.name) m.adaptives
+        (each_unmapped IsPlain (λ (y : AdaptiveVariable). y.name) m.adaptives
         (each_right IsPlain (variable_names m) _ (behind_rows IsPlain plain)))
 
     all_names : Each P (declared_names s)
@@ -137,7 +133,7 @@ module _ (m : RobustModel) (alone : m.sets ≡ []) (cuts : List Cut) where
         (each_append P (variable_names s) (adaptive_names s)
         (to_names P (λ (x : Variable). x.name) s.variables
         (each_append (λ (x : Variable). P x.name) m.variables (cells_worst ∷ [])
-        (of_names P (λ (x : Variable). x.name) m.variables
+        (each_unmapped P (λ (x : Variable). x.name) m.variables
         (each_left P (variable_names m) (adaptive_names m) (behind_rows P own)))
         (worst, tt)))
         (to_names P (λ (y : AdaptiveVariable). y.name) s.adaptives

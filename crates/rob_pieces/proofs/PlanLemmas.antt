@@ -4,10 +4,10 @@ use Rattle.std.proofs.Common.{sym, ◌∙◌, ap, ap₂, arith, length-append, l
 use Rattle.rob_algebra.specs.Fraction.{Fraction}
 use Rattle.rob_meaning.proofs.JointScenarioLemmas.{at-right, length-tabulate}
 use Rattle.rob_meaning.proofs.ListLemmas.{at-tabulate}
+use Rattle.rob_meaning.proofs.TabulateLemmas.{each_tabulate}
 use Rattle.rob_meaning.proofs.TauLemmas.{at-left}
 use Rattle.rob_meaning.specs.Places.{at, tabulate, Each}
 use Rattle.rob_meaning.specs.RobustModel.{RobustModel, column_count}
-use Rattle.rob_pieces.proofs.BlockLemmas.{each_tabulate}
 use Rattle.rob_pieces.proofs.ColumnLemmas.{column_base, columns_count}
 use Rattle.rob_pieces.proofs.OverCellLemmas.{Matches}
 use Rattle.rob_pieces.specs.Cuts.{Cut, IsCell, cell_count}
