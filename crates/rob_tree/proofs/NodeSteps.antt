@@ -1,5 +1,6 @@
 -- A node that is read, or that breaks a rule, from its first line and the two nodes behind it.
 use Rattle.std.proofs.Common.{◌≡◌, ◌≢◌, ℕ, suc, ◌+◌, ◌-◌, ◌^◌, ◌<◌, ◌≤◌, List, [], ◌∷◌, ◌++◌, length, arith, refl, ap, sym, ◌∙◌, subst, append_assoc, append-nil, length-append, to_z, of_z, w64}
+use Rattle.std.proofs.lemmas.Result.{IfErr-weaker}
 use Rattle.std.specs.Prelude.{codes, ℤ, pos, nat_abs, Result, Ok, Err, IfOk, IfErr}
 use Rattle.rob_algebra.specs.Fraction.{Fraction}
 use Rattle.rob_cert.proofs.ShapeLemmas.{lines_long}
@@ -160,11 +161,6 @@ module _ (limit : ℕ) (m : RobustModel) (names : List ℕ) (status : Status) wh
       omega (arith, ap length h.split, length-append (texts (pieces n)) rest)
 
 -- ---- answers
--- a call's cause is another one's
-pub if_err : {T E : Type 0} (r : Result T E) (P Q : E → Type 0) → ((e : E) → P e → Q e) → IfErr r P → IfErr r Q
-if_err (Ok x) P Q f h = tt
-if_err (Err e) P Q f h = f e h
-
 module _ {N : Type 0} (value : N → Fraction) (limit : ℕ) (m : RobustModel) (names : List ℕ) (status : Status)
     (text : List ℕ) (line b : ℕ) where
   -- where a joined node is read
@@ -305,7 +301,7 @@ pub leaf_told : {T : Type 0} {limit : ℕ} (m : RobustModel) {names : List ℕ} 
 leaf_told {limit = limit} m {names = names} {columns = columns} {status = status} {text = text} {rest = rest}
     {line = line} {b = b} {next = next} {more = more} r h is =
     let moved = subst (λ hd. IsHeadRead limit names columns status text line b hd rest next more) is h in
-    if_err r (HasLeafCause limit m rest next) (HasNodeCause limit m names status text line b)
+    IfErr-weaker r (HasLeafCause limit m rest next) (HasNodeCause limit m names status text line b)
     (λ e cause. leaf_cause limit m names status text rest line next b e moved.split moved.line_is cause)
 
 -- ---- the cause of a certificate, whatever the number of its first line

@@ -4,6 +4,7 @@ use Rattle.std.proofs.lemmas.Fmt.{signed_decimal_injective}
 use Rattle.std.proofs.lemmas.Int.{ints}
 use Rattle.std.proofs.lemmas.List.{append_cancel_right}
 use Rattle.std.specs.Fmt.{decimal, signed_decimal}
+use Rattle.std.proofs.lemmas.Result.{IfErr-weaker}
 use Rattle.std.specs.Prelude.{codes, ℤ, pos, negsuc, nat_abs, ◌<ℤ◌, ◌≤ℤ◌, Result, Ok, Err, IfOk, IfErr}
 use Rattle.rob_algebra.specs.Fraction.{Fraction}
 use Rattle.rob_algebra.specs.Width.{Fits}
@@ -21,7 +22,6 @@ use Rattle.rob_reach.specs.Trees.{Node, Tree, branch_count, leaf_count}
 use Rattle.rob_reach.specs.Verdicts.{KeepsBest}
 use Rattle.rob_tree.proofs.FirstLineLaws.{claim_line}
 use Rattle.rob_tree.proofs.GoodNodes.{node_fits, tree_of_good}
-use Rattle.rob_tree.proofs.NodeSteps.{if_err}
 use Rattle.rob_tree.proofs.ReadingLemmas.{root_leads, stage}
 use Rattle.rob_tree.proofs.TreeLaws as laws
 use Rattle.rob_tree.specs.Parts.{HasBestCause, HasEndCause, HasNodeCause, HasRootCause, IsBestRead, IsClaimRead, IsEnded, IsGoodNode, IsLeafNumber, IsNodeRead, IsReadTree, IsRootRead, KeepsNothing, tree_with}
@@ -107,7 +107,7 @@ module _ {N : Type 0} (value : N → Fraction) (limit : ℕ) (m : RobustModel) (
   pub roots_cause : (told : ℤ) → told ≡ best → IfErr r (HasEndCause status told rest next more)
       → IfErr r (HasRootCause limit m names status best text line)
   roots_cause told same =
-      if_err r (HasEndCause status told rest next more) (HasRootCause limit m names status best text line)
+      IfErr-weaker r (HasEndCause status told rest next more) (HasRootCause limit m names status best text line)
       (λ e k. root_cause_end limit m names status best text line node rest next more h e
       (subst (λ z. HasEndCause status z rest next more e) same k))
 
