@@ -1,5 +1,5 @@
 -- A text goes on with one piece that may stand there, or breaks one rule.
-use Rattle.std.proofs.Common.{◌≡◌, ◌≢◌, ℕ, zero, suc, ◌+◌, ◌-◌, ◌^◌, ◌<◌, ◌≤◌, List, [], ◌∷◌, ◌++◌, length, arith, refl, ap, ap₂, sym, ◌∙◌, subst, append_assoc, inl, inr}
+use Rattle.std.proofs.Common.{◌≡◌, ◌≢◌, ℕ, zero, suc, ◌+◌, ◌-◌, ◌^◌, ◌<◌, ◌≤◌, List, [], ◌∷◌, ◌++◌, length, arith, refl, ap, ap₂, sym, ◌∙◌, subst, append_assoc}
 use Rattle.std.proofs.lemmas.Fmt.{signed_decimal_injective}
 use Rattle.std.specs.Fmt.{signed_decimal}
 use Rattle.std.specs.Prelude.{codes, ℤ, pos, negsuc, nat_abs}
@@ -25,18 +25,13 @@ use Rattle.rob_meaning.specs.Names.{Name, column_names}
 use Rattle.rob_meaning.specs.Places.{Each}
 use Rattle.rob_meaning.specs.RobustModel.{RobustModel}
 use Rattle.rob_meaning.specs.WellFormed.{IsModel}
-use Rattle.rob_reach.specs.Trees.{IsIn}
 use Rattle.rob_tree.proofs.PartLemmas.{certificate_lines, one_certificate, part_once, first_letter}
 use Rattle.rob_tree.proofs.ReadingLemmas.{pending_some}
+use Rattle.rob_tree.proofs.SpelledLemmas.{in_each}
 use Rattle.rob_tree.specs.Reading.{IsBranchWord, IsBreach, IsCertificatePart, IsNamedOne, IsNodeCause, IsNodeLine, MayStand, Stage, in_certificate, in_node, in_rest, of_branch, of_leaf, of_open, rule_of}
 use Rattle.rob_tree.specs.TreeText.{Piece, branch_piece, leaf_piece, open_piece, piece_text}
 use Rattle.rob_tree.specs.declared.error.Offence.{Offence}
 use Rattle.rob_tree.specs.declared.error.Offence.TheVariants.{NoLine, NoName, NoNumber}
-
-each_at : (P : ℕ → Type 0) (j : ℕ) (js : List ℕ) → Each P js → IsIn j js → P j
-each_at P j (i ∷ js) h (inl e) = subst P (sym e) h.0
-each_at P j (i ∷ js) h (inr k) = each_at P j js h.1 k
-each_at P j [] h k = absurd k
 
 name_is_word : (list : List Name) (j : ℕ) → Each IsWord list → j < length list → IsWord (name_at list j)
 name_is_word [] j h l = absurd (omega arith)
@@ -109,7 +104,7 @@ module _ (m : RobustModel) (limit : ℕ) (names : List ℕ) (model : IsModel m) 
     heads_are_words s (branch_piece j k) h = (
       letters (codes "branch") refl,
       (
-        name_is_word (column_names m) j (words_of_columns m model in_words) (each_at _ j names inside h.2),
+        name_is_word (column_names m) j (words_of_columns m model in_words) (in_each _ names j h.2 inside),
         (k_is_word k (omega (arith, h.3)), tt),
       ),
     )
@@ -153,8 +148,8 @@ module _ (m : RobustModel) (limit : ℕ) (names : List ℕ) (model : IsModel m) 
         let name : name_at (column_names m) j ≡ name_at (column_names m) i = cc in
         let word : signed_decimal k ≡ signed_decimal l = cc in
         let column =
-        one_number (column_names m) j i columns_distinct (each_at _ j names inside h.2)
-        (each_at _ i names inside g.2) name in
+        one_number (column_names m) j i columns_distinct (in_each _ names j h.2 inside)
+        (in_each _ names i g.2 inside) name in
         let whole =
         signed_decimal_injective k l (omega (arith, mag_small k (omega (arith, h.3))))
         (omega (arith, mag_small l (omega (arith, g.3)))) word in

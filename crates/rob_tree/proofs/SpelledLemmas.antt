@@ -34,7 +34,8 @@ module _ (m : RobustModel) (b : Branch) (bounded : T (is_bounded m.variables b.v
   )
   spelled_out limit left_open h = tt
 
-in_each : (P : ℕ → Type 0) (names : List ℕ) (j : ℕ) → IsIn j names → Each P names → P j
+-- what holds of each holds of one that is among them
+pub in_each : (P : ℕ → Type 0) (names : List ℕ) (j : ℕ) → IsIn j names → Each P names → P j
 in_each P [] j h all = absurd h
 in_each P (i ∷ names) j (inl e) all = subst P (sym e) all.0
 in_each P (i ∷ names) j (inr h) all = in_each P names j h all.1
