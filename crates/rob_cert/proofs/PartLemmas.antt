@@ -1,6 +1,6 @@
 -- The parts of a text behind one another: what each part adds, and that its errors are the text's.
 use Rattle.std.proofs.Common.{◌≡◌, ◌≢◌, ℕ, suc, ◌<◌, ◌≤◌, List, [], ◌++◌, arith, refl, ap, sym, ◌∙◌, subst, true, false, inl, inr, append-nil}
-use Rattle.std.specs.Prelude.{◌⊎◌, Result, Ok, Err, IfOk, IfErr}
+use Rattle.std.specs.Prelude.{◌⊎◌}
 use Rattle.rob_algebra.specs.Fraction.{Fraction}
 use Rattle.rob_meaning.specs.Certificates.{Status, Cover}
 use Rattle.rob_cert.specs.Causes.{HasCause}
@@ -188,12 +188,3 @@ module _ (names : Naming) (limit : ℕ) (s : Status) where
             so.leads so.section breaks,
       )
   items_fails rest line Memory u fault text lines so = tt
-
--- ---- answers
-pub if_ok : {T E : Type 0} {P Q : T → Type 0} (r : Result T E) → ((x : T) → P x → Q x) → IfOk r P → IfOk r Q
-if_ok (Ok x) f h = f x h
-if_ok (Err e) f h = tt
-
-pub if_err : {T E : Type 0} {P Q : E → Type 0} (r : Result T E) → ((e : E) → P e → Q e) → IfErr r P → IfErr r Q
-if_err (Ok x) f h = tt
-if_err (Err e) f h = f e h

@@ -1,4 +1,5 @@
 use Rattle.std.proofs.Common.{map, sym, subst, ◌∙◌}
+use Rattle.std.proofs.lemmas.Result.{IfErr-weaker, IfOk-weaker}
 use Rattle.std.specs.Prelude.{suc}
 use Rattle.rob_cert.specs.Lines.{cover_lines}
 use Rattle.rob_cert.specs.NamesView.{naming}
@@ -11,7 +12,7 @@ use Rattle.rob_cert.proofs.part.covers_part.Goals as goal
 
 pub returns-then-is_used-clause-read : goal.returns-then-is_used-clause-read
 returns-then-is_used-clause-read g c =
-    part.if_ok c.read_covers.result
+    IfOk-weaker c.read_covers.result _ _
     (λ r h. part.covers_part (naming c.args.names.now) g.N.Exact.limit (status_of c.args.status) c.args.which
     c.args.at.rest.now c.args.at.line (map (cover_of g.N.Exact.value) r.list) r.at.rest.now r.at.line
     (low_multipliers c.args.which) (apart_multipliers c.args.which)
@@ -20,7 +21,7 @@ returns-then-is_used-clause-read g c =
 
 pub returns-then-is_used-clause-fault : goal.returns-then-is_used-clause-fault
 returns-then-is_used-clause-fault g c =
-    part.if_err c.read_covers.result
+    IfErr-weaker c.read_covers.result _ _
     (λ e h. part.covers_fails (naming c.args.names.now) g.N.Exact.limit (status_of c.args.status) c.args.which
     c.args.at.rest.now c.args.at.line e (sym c.is_used.ensures.used ∙ c.if-is_used.true) h)
     c.read_covers.ensures.fault

@@ -1,4 +1,5 @@
 use Rattle.std.proofs.Common.{map, sym, subst, ◌∙◌}
+use Rattle.std.proofs.lemmas.Result.{IfErr-weaker, IfOk-weaker}
 use Rattle.std.specs.Prelude.{suc}
 use Rattle.rob_cert.specs.Lines.{entry_lines}
 use Rattle.rob_cert.specs.NamesView.{naming}
@@ -11,7 +12,7 @@ use Rattle.rob_cert.proofs.part.entries_part.Goals as goal
 
 pub returns-then-is_used-clause-read : goal.returns-then-is_used-clause-read
 returns-then-is_used-clause-read g c =
-    part.if_ok c.read_entries.result
+    IfOk-weaker c.read_entries.result _ _
     (λ r h. part.entries_part (naming c.args.names.now) g.N.Exact.limit (status_of c.args.status) c.args.vector
     c.entry_count-count.result c.args.at.rest.now c.args.at.line
     (map g.N.Exact.value r.numbers.items) r.at.rest.now r.at.line
@@ -20,7 +21,7 @@ returns-then-is_used-clause-read g c =
 
 pub returns-then-is_used-clause-fault : goal.returns-then-is_used-clause-fault
 returns-then-is_used-clause-fault g c =
-    part.if_err c.read_entries.result
+    IfErr-weaker c.read_entries.result _ _
     (λ e h. part.entries_fails (naming c.args.names.now) g.N.Exact.limit (status_of c.args.status) c.args.vector
     c.args.at.rest.now c.args.at.line e c.requires.apart (sym c.is_used.ensures.used ∙ c.if-is_used.true) h)
     c.read_entries.ensures.fault

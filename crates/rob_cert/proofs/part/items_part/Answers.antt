@@ -1,4 +1,5 @@
 use Rattle.std.proofs.Common.{map, sym, subst, ◌∙◌}
+use Rattle.std.proofs.lemmas.Result.{IfErr-weaker, IfOk-weaker}
 use Rattle.rob_cert.specs.Lines.{item_lines}
 use Rattle.rob_cert.specs.NamesView.{naming}
 use Rattle.rob_cert.specs.Parts.{Extends}
@@ -10,7 +11,7 @@ use Rattle.rob_cert.proofs.part.items_part.Goals as goal
 
 pub returns-then-is_used-clause-read : goal.returns-then-is_used-clause-read
 returns-then-is_used-clause-read g c =
-    part.if_ok c.read_items.result
+    IfOk-weaker c.read_items.result _ _
     (λ r h. items_part (naming c.args.names.now) g.N.Exact.limit (status_of c.args.status) c.args.at.rest.now
     c.args.at.line (map (item_of g.N.Exact.value) r.list) r.at.rest.now r.at.line
     (items_as_entries (status_of c.args.status) ∙ sym c.is_used.ensures.used ∙ c.if-is_used.true) h)
@@ -18,7 +19,7 @@ returns-then-is_used-clause-read g c =
 
 pub returns-then-is_used-clause-fault : goal.returns-then-is_used-clause-fault
 returns-then-is_used-clause-fault g c =
-    part.if_err c.read_items.result
+    IfErr-weaker c.read_items.result _ _
     (λ e h. part.items_fails (naming c.args.names.now) g.N.Exact.limit (status_of c.args.status) c.args.at.rest.now
     c.args.at.line e (items_as_entries (status_of c.args.status)
     ∙ sym c.is_used.ensures.used ∙ c.if-is_used.true) h)
