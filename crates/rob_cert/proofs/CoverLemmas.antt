@@ -22,13 +22,9 @@ use Rattle.rob_cert.specs.Spelling.{Naming, name_at, words_of, spelled}
 use Rattle.rob_cert.proofs.CauseLemmas.{cause_line, cause_shape, cause_number}
 use Rattle.rob_cert.proofs.KindLemmas.{cover_by_kind, from_multipliers}
 use Rattle.rob_cert.proofs.SectionLemmas.{Leads-push, further, section_further, section_line, offence_here}
-use Rattle.rob_meaning.proofs.EachLemmas.{each_push}
+use Rattle.rob_meaning.proofs.EachLemmas.{each_map, each_push}
 
 -- ---- lists in order
-pub Each-map : {A : Type 0} (P Q : A → Type 0) (xs : List A) → ((x : A) → P x → Q x) → Each P xs → Each Q xs
-Each-map P Q [] f h = tt
-Each-map P Q (x ∷ xs) f h = (f x h.0, Each-map P Q xs f h.1)
-
 pub InOrder-push : {A : Type 0} (R : A → A → Type 0) (xs : List A) (x : A) → InOrder R xs → Each (λ y. R y x) xs
     → InOrder R (xs ++ x ∷ [])
 InOrder-push R [] x h e = (tt, tt)
@@ -167,8 +163,8 @@ module _ (names : Naming) (limit : ℕ) (which : Multipliers) where
       let lines : cover_lines which (cs ++ c ∷ []) ≡ cover_lines which cs ++ new ∷ [] =
       map-append (λ (d : Cover). cover_line which d.form d.set_row d.amount) cs (c ∷ []) in
       let before =
-      Each-map (IsBelow form place) (λ d. IsBefore d c) cs
-      (λ d b. below_before form place d c e.ordered b) so.below in
+      each_map (IsBelow form place) (λ d. IsBefore d c)
+      (λ d b. below_before form place d c e.ordered b) cs so.below in
       record {
         section = subst (λ ls. IsSection names text number ls back (line + 1)) (sym lines)
             (section_further names limit (cover_lines which cs) (new ∷ []) text rest back number line (line + 1)
@@ -178,7 +174,7 @@ module _ (names : Naming) (limit : ℕ) (which : Multipliers) where
         ordered = InOrder-push IsBefore cs c so.ordered before;
         below = subst (λ n. Each (IsBelow c.form n) (cs ++ c ∷ [])) (sym (add-one c.set_row))
             (each_push (IsBelow c.form (suc c.set_row)) cs c
-            (Each-map (λ d. IsBefore d c) (IsBelow c.form (suc c.set_row)) cs (λ d b. before_below d c b) before)
+            (each_map (λ d. IsBefore d c) (IsBelow c.form (suc c.set_row)) (λ d b. before_below d c b) cs before)
             (inr (refl, omega arith)));
         leads = subst (λ ls. CoversLeadOn names limit which c.form (c.set_row + 1) ls) (sym lines) (λ s stage h.
             let old = so.leads s stage h in

@@ -19,10 +19,10 @@ use Rattle.rob_cert.specs.Sections.{HasNoLineOf, IsSection, StandsAt, IsThereOrI
 use Rattle.rob_cert.specs.Items.{StandsItem, IsItemLine, HasItemFault, IsItemRead, HasItemReadFault, ItemsLeadOn, IsGoodItem}
 use Rattle.rob_cert.specs.Spelling.{Naming, words_of, spelled}
 use Rattle.rob_cert.proofs.CauseLemmas.{cause_line, cause_shape, cause_number}
-use Rattle.rob_cert.proofs.CoverLemmas.{Each-map, InOrder-push}
+use Rattle.rob_cert.proofs.CoverLemmas.{InOrder-push}
 use Rattle.rob_cert.proofs.KindLemmas.{item_by_kind}
 use Rattle.rob_cert.proofs.SectionLemmas.{Leads-append, further, section_further, section_line, offence_here}
-use Rattle.rob_meaning.proofs.EachLemmas.{each_push}
+use Rattle.rob_meaning.proofs.EachLemmas.{each_map, each_push}
 
 -- ---- where items may stand
 -- where items may stand, an entry of an item and a further item may stand behind one
@@ -136,8 +136,8 @@ module _ (names : Naming) (limit : ℕ) where
       let rests = entry_lines At 0 i.vector in
       let lines = item_lines-push is i in
       let least =
-      Each-map (λ (a : Item). a.form ≤ form) (λ (a : Item). a.form ≤ i.form) is
-      (λ a b. omega (arith, b, e.head.ordered)) so.below in
+      each_map (λ (a : Item). a.form ≤ form) (λ (a : Item). a.form ≤ i.form)
+      (λ a b. omega (arith, b, e.head.ordered)) is so.below in
       record {
         section = subst (λ ls. IsSection names text number ls last n) (sym lines)
             (section_further names limit (item_lines is) (new ∷ rests) text rest last number line n so.section

@@ -18,7 +18,7 @@ use Rattle.rob_cert.specs.Items.{IsGoodItem}
 use Rattle.rob_cert.specs.Shape.{HasParts, IsCoverOf, IsItemOf}
 use Rattle.rob_cert.specs.Spelling.{Naming, naming_of, line_text, lines_text, spaced, behind_spaces, words_of, spelled}
 use Rattle.rob_cert.specs.Whole.{HasSizes, AreGoodLists, IsMoved, IsWellRead, IsTextOf}
-use Rattle.rob_cert.proofs.CoverLemmas.{Each-map}
+use Rattle.rob_meaning.proofs.EachLemmas.{each_map}
 use Rattle.rob_cert.proofs.NameListLemmas.{length-parameter_names}
 
 none_of : {A : Type 0} (xs : List A) → length xs ≡ 0 → xs ≡ []
@@ -95,17 +95,17 @@ few_items names c text small is =
 
 -- ---- by the model
 good_covers : (m : RobustModel) (cs : List Cover) → Each (IsGoodCover (naming_of m)) cs → Each (IsCoverOf m) cs
-good_covers m cs h = Each-map (IsGoodCover (naming_of m)) (IsCoverOf m) cs (λ c g. record {
+good_covers m cs h = each_map (IsGoodCover (naming_of m)) (IsCoverOf m) (λ c g. record {
   form = omega (arith, g.form, length-form_names m);
   set_row = omega (arith, g.set_row, length-set_row_names m);
   amount = g.amount;
-}) h
+}) cs h
 
 good_items : (m : RobustModel) (is : List Item) → Each (IsGoodItem (naming_of m)) is → Each (IsItemOf m) is
-good_items m is h = Each-map (IsGoodItem (naming_of m)) (IsItemOf m) is (λ i g. record {
+good_items m is h = each_map (IsGoodItem (naming_of m)) (IsItemOf m) (λ i g. record {
   form = omega (arith, g.form, length-form_names m);
   numbers = omega (arith, g.numbers, length-parameter_names m);
-}) h
+}) is h
 
 parts_by : (m : RobustModel) (c : Certificate) (moved : List Fraction) (s : Status)
     → HasSizes (naming_of m) s c.inside c.plan moved → IsMoved moved c.step c.step_bound

@@ -1,25 +1,18 @@
 -- Texts that grow piece by piece: what is written so far, with the text of the rest, is the whole.
-use Rattle.std.proofs.Common.{◌≡◌, ℕ, zero, suc, ◌+◌, ◌<◌, List, [], ◌∷◌, ◌++◌, map, length, get_or, drop, arith, refl, ap, sym, ◌∙◌, add-one, append_assoc, add-zero, Bool, true, false, subst, append-nil}
+use Rattle.std.proofs.Common.{◌≡◌, ℕ, suc, ◌+◌, ◌<◌, List, [], ◌∷◌, ◌++◌, map, length, get_or, drop, arith, refl, ap, sym, ◌∙◌, add-one, append_assoc, add-zero, Bool, true, false, append-nil}
 use Rattle.std.proofs.lemmas.List.{length-map}
 use Rattle.std.specs.Prelude.{if◌then◌else◌}
 use Rattle.rob_algebra.specs.Fraction.{Fraction}
 use Rattle.rob_algebra.specs.FractionOrder.{eq_ℚ}
 pub use Rattle.rob_number.proofs.AnswerLaws.{on_ok}
 use Rattle.rob_meaning.specs.Certificates.{Cover, Item}
-use Rattle.rob_meaning.specs.Places.{0ℚ, Each}
+use Rattle.rob_meaning.specs.Places.{0ℚ}
 use Rattle.rob_model.proofs.PartLemmas.{drop_at}
 use Rattle.rob_cert.specs.declared.kind.Multipliers.{Multipliers}
 use Rattle.rob_cert.specs.declared.kind.Vector.{Vector}
 use Rattle.rob_cert.specs.declared.kind.Vector.TheVariants.{At}
 use Rattle.rob_cert.specs.Lines.{Line, entry_line, item_line, entry_lines, cover_lines, item_lines}
 use Rattle.rob_cert.specs.Spelling.{Naming, line_text, lines_text}
-
--- what holds of each item holds of the item at a place
-pub each_read : {X Y : Type 0} (P : Y → Type 0) (f : X → Y) (xs : List X) (i : ℕ) (x : X) → Each P (map f xs)
-    → i < length xs → x ≡ get_or xs i x → P (f x)
-each_read P f [] i x all h e = absurd (omega arith)
-each_read P f (y ∷ ys) zero x all h e = subst (λ z. P (f z)) (sym e) all.0
-each_read P f (y ∷ ys) (suc i) x all h e = each_read P f ys i x all.1 (omega arith) e
 
 module _ {X : Type 0} (text : ℕ → List X → List ℕ)
     (cons : (p : ℕ) (x : X) (xs : List X) → text p (x ∷ xs) ≡ text p (x ∷ []) ++ text (suc p) xs) where
