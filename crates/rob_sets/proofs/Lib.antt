@@ -22,6 +22,7 @@ pub mod PartedLemmas
 pub mod PrefixLemmas
 pub mod ProductLemmas
 pub mod ProductSums
+pub mod ProductSteps
 pub mod ProgressLemmas
 pub mod RowLemmas
 pub mod RowSteps
@@ -29,7 +30,7 @@ pub mod RuleLemmas
 pub mod RuleSteps
 pub mod StatementCounts
 pub mod StatementLemmas
-pub mod StepLemmas
 pub mod StopLemmas
+pub mod SumSteps
 pub mod TabulatingLemmas
 pub mod TimesLemmas
