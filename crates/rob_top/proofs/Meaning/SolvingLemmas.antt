@@ -1,7 +1,5 @@
 -- The answers of `solve` and `prove`, from what their route answers.
-use Rattle.std.proofs.Common.{◌≡◌, ℕ, suc, ◌+◌, ◌*◌, ◌^◌, ◌<◌, ◌≤◌, nat_abs, List, length, Result, Ok, Err, IfOk, refl, subst, sym, ap, arith}
-use Rattle.std.proofs.Math.Nat.{mul-le-mul}
-use Rattle.std.proofs.lemmas.List.{length-map}
+use Rattle.std.proofs.Common.{◌≡◌, ℕ, ◌≤◌, nat_abs, List, Result, Ok, Err, IfOk, refl, subst, sym, arith}
 use Rattle.std.specs.Prelude.{MatchResult}
 use Rattle.rob_algebra.specs.Fraction.{Fraction}
 use Rattle.rob_algebra.specs.Width.{Fits}
@@ -17,28 +15,18 @@ use Rattle.rob_cert.specs.declared.trace.Trace.{Trace}
 use Rattle.rob_cuts.specs.Rounds.{RoundFits}
 use Rattle.rob_cuts.specs.Solving.{StopFits}
 use Rattle.rob_dualize.specs.Solving.{CountsStop}
-use Rattle.rob_dualize.specs.Wholes.{IsFew, counterpart_of}
-use Rattle.rob_elab.specs.Forms.{IsForms}
-use Rattle.rob_elab.specs.declared.forms.Forms.{Forms}
 use Rattle.rob_meaning.specs.Certificates.{Certificate, Status, optimal, infeasible, unbounded}
-use Rattle.rob_meaning.specs.Forms.{forms, matrix_of}
+use Rattle.rob_meaning.specs.Forms.{forms}
 use Rattle.rob_meaning.specs.Places.{Each}
 use Rattle.rob_meaning.specs.Proves.{HasStatus, ProvesAs}
 use Rattle.rob_meaning.specs.RobustModel.{RobustModel}
-use Rattle.rob_meaning.specs.SetRows.{set_rows}
 use Rattle.rob_meaning.specs.WellFormed.{IsModel}
-use Rattle.rob_meaning.proofs.NameLemmas.{length-form_names, length-set_row_names}
 use Rattle.rob_meaning.proofs.ProvesLemmas.{certificate_true}
 use Rattle.rob_meaning.proofs.StatusLemmas.{optimum_is_worst_case}
-use Rattle.rob_model.specs.Limits.{IsWithinLimits}
-use Rattle.rob_model.specs.declared.group.Kind.TheVariants.{Form, SetRow}
-use Rattle.rob_model.proofs.NameCountLemmas.{kind_few}
 use Rattle.rob_number.specs.Counts.{Rose}
 use Rattle.rob_number.specs.declared.memory.Memory.{Memory as Want}
 use Rattle.rob_report.specs.Report.{report_of}
 use Rattle.rob_report.specs.Spots.{too_wide_line}
-use Rattle.rob_sets.specs.SetForm.{IsSetForm, cleared_row}
-use Rattle.rob_sets.specs.declared.set_form.SetForm.{SetForm}
 use Rattle.rob_commands.proofs.PlanLemmas.{covered_bound}
 use Rattle.rob_top.specs.Calls.{Call, Count, count, limit_of}
 use Rattle.rob_top.specs.Commands.{IsSolving}
@@ -56,30 +44,6 @@ use Rattle.rob_words.specs.Commands.{Line}
 use Rattle.rob_words.specs.declared.route.Route.{Route}
 use Rattle.rob_words.specs.declared.verb.Verb.{Verb}
 use Rattle.rob_words.specs.declared.verb.Verb.TheVariants.{Solve, Prove}
-
--- ---- the counterpart of a model within the limits has few rows and columns
-
-few_in_all : (f r c n s : ℕ) → f ≤ 5000 → r ≤ 5000 → c ≤ 160 → n ≤ 600 → s ≡ suc (c + c)
-    → ((suc n + suc n) + (f * r)) + (f * s) < 2 ^ 31
-few_in_all f r c n s hf hr hc hn e =
-    let short : s ≤ 321 = omega arith in
-    omega (arith, mul-le-mul hf hr, mul-le-mul hf short)
-
-module _ (m : RobustModel) (limits : IsWithinLimits m) where
-  forms_few : length (forms m) ≤ 5000
-  forms_few = omega (arith, kind_few m limits Form, length-form_names m)
-
-  set_rows_few : length (set_rows m) ≤ 5000
-  set_rows_few = omega (arith, kind_few m limits SetRow, length-set_row_names m)
-
-  pub counterpart_few : (all : Forms) (set : SetForm) → IsForms m all → IsSetForm m set → IsFew (counterpart_of all set)
-  counterpart_few all set f s =
-      few_in_all (length all.matrices) (length set.rows) set.columns all.columns _
-      (omega (arith, forms_few, ap length f.matrices, length-map (forms m) (matrix_of m)))
-      (omega (arith, set_rows_few, ap length s.rows, length-map (set_rows m) (cleared_row m)))
-      (omega (arith, s.columns, limits.parameters, limits.members))
-      (omega (arith, f.columns, limits.columns))
-      refl
 
 -- ---- counts
 

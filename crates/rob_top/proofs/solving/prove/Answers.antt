@@ -1,8 +1,9 @@
 use Rattle.std.proofs.Common.{refl}
 use Rattle.rob_cert.specs.View.{certificate_of}
+use Rattle.rob_dualize.proofs.SizeLemmas.{few_within_limits}
 use Rattle.rob_model.specs.View.{robust}
 use Rattle.rob_top.proofs.Meaning.RouteLemmas.{stop_of}
-use Rattle.rob_top.proofs.Meaning.SolvingLemmas.{certificate_answers, counterpart_few, solution_fits, solve_counted, stopped_answers}
+use Rattle.rob_top.proofs.Meaning.SolvingLemmas.{certificate_answers, solution_fits, solve_counted, stopped_answers}
 use Rattle.rob_words.specs.declared.verb.Verb.TheVariants.{Prove}
 use Rattle.rob_top.proofs.solving.prove.Goals as goal
 
@@ -17,8 +18,8 @@ find-requires-clause-model g c = record {
 
 pub find-requires-clause-few : goal.find-requires-clause-few
 find-requires-clause-few g c =
-    counterpart_few (robust g.N.Exact.value c.args.model.now) c.requires.valid.limits c.args.elaborated.forms.now
-    c.args.elaborated.set.now c.requires.elaborated.are_forms c.requires.elaborated.is_set
+    few_within_limits (robust g.N.Exact.value c.args.model.now) c.args.elaborated.forms.now
+    c.args.elaborated.set.now c.requires.valid.limits c.requires.elaborated.are_forms c.requires.elaborated.is_set
 
 pub proved-requires-clause-shape : goal.proved-requires-clause-shape
 proved-requires-clause-shape g c =

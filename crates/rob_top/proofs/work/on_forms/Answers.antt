@@ -1,9 +1,9 @@
 use Rattle.std.proofs.Common.{ap, map, string_bytes, sym, ◌∙◌}
+use Rattle.rob_dualize.proofs.SizeLemmas.{few_within_limits}
 use Rattle.rob_model.specs.View.{robust}
 use Rattle.rob_top.proofs.Meaning.CheckingLemmas.{file_answers}
 use Rattle.rob_top.proofs.Meaning.SearchingLemmas.{search_answers}
 use Rattle.rob_top.proofs.Coming.NarrowAnswerLemmas.{narrow_answers, of_model}
-use Rattle.rob_top.proofs.Meaning.SolvingLemmas.{counterpart_few}
 use Rattle.rob_top.proofs.Meaning.WorkLemmas.{at_verb, rows_answer}
 use Rattle.rob_words.specs.declared.verb.Verb.TheVariants.{Prove, Solve}
 use Rattle.rob_top.proofs.work.on_forms.Goals as goal
@@ -48,7 +48,7 @@ narrow-requires g c =
         model = m;
         elaborated = c.requires.elaborated;
       };
-      few = counterpart_few m c.requires.valid.limits c.args.elaborated.forms.now c.args.elaborated.set.now
+      few = few_within_limits m c.args.elaborated.forms.now c.args.elaborated.set.now c.requires.valid.limits
           c.requires.elaborated.are_forms c.requires.elaborated.is_set;
     }
 
