@@ -60,13 +60,6 @@ module _ {X : Type 0} (Part : Word → Type 0) (Tell : List Word → List X → 
             few = grown_within most (length told) (length (told ++ x ∷ [])) grown read.few more;
           }
 
-      -- as many as may be are told already
-      pub too_many : (word : Word) → all ≡ parts_of word → length told ≡ most → IsListOf Part most word → ⊥
-      too_many word is full list =
-          let counted : length told + length (first ∷ rest) ≡ length all = read.counted in
-          let same : length all ≡ length (parts_of word) = ap (λ (xs : List Word). length xs) is in
-          absurd (omega (arith, counted, same, full, list.few))
-
       -- the next word is a part, where all are
       pub next_part : (word : Word) → all ≡ parts_of word → IsListOf Part most word → Part first
       next_part word is list = (read.parts (subst (λ (xs : List Word). AreAll Part xs) (sym is) list.parts)).0
