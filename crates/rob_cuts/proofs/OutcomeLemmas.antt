@@ -51,7 +51,7 @@ use Rattle.rob_cuts.specs.Outcomes.{IsEnd, IsNext, IsOutcome, IsWideNext, IsEndW
 use Rattle.rob_cuts.proofs.CertificateLemmas.{IsCoveredAt}
 use Rattle.rob_cuts.proofs.CutLemmas.{refused_at}
 use Rattle.rob_cuts.proofs.LookLemmas.{step_columns, step_bound_is, step_wide}
-use Rattle.rob_cuts.proofs.RoundLemmas.{IsRoundOf, few_rounds, best_next, best_end, empty_end, step_looks, step_next, point_stopped, point_next, boundless_end}
+use Rattle.rob_cuts.proofs.RoundLemmas.{IsEndedMaster, few_rounds, best_next, best_end, empty_end, step_looks, step_next, point_stopped, point_next, boundless_end}
 use Rattle.rob_cuts.proofs.SolvingLemmas.{or_stopped}
 use Rattle.rob_cuts.proofs.StopLemmas.{IsWideThere, step_place}
 
@@ -112,7 +112,7 @@ further value limit m rounds round next answer is result e =
 
 -- ---- a master with a best plan
 module _ {N : Type 0} (value : N → Fraction) (limit : ℕ) {m : RobustModel} {forms : Forms} {rounds : List Told}
-    {master : Lp} {s : Solver} (r : IsRoundOf m forms rounds master kind.Optimal s) where
+    {master : Lp} {s : Solver} (r : IsEndedMaster m forms rounds master kind.Optimal s) where
   -- it is cut off
   pub best_cut_off : (cut : Made) → IsPlanLook limit m value (point_of s) (of_plan.Broken cut)
       → (answer : Result (Outcome N) NoMemory)
@@ -152,7 +152,7 @@ module _ {N : Type 0} (value : N → Fraction) (limit : ℕ) {m : RobustModel} {
 
 -- ---- a master of which no plan keeps the cuts
 module _ {N : Type 0} (value : N → Fraction) (limit : ℕ) {m : RobustModel} {forms : Forms} {rounds : List Told}
-    {master : Lp} {s : Solver} (r : IsRoundOf m forms rounds master kind.Infeasible s) where
+    {master : Lp} {s : Solver} (r : IsEndedMaster m forms rounds master kind.Infeasible s) where
   pub infeasible_out : IsModel m → TellsRun m rounds → positions s < 2 ^ 31 → {set : SetForm} → IsSetForm m set
       → (finder : Finder N) → IsFinder set finder → (answer : Result (Outcome N) NoMemory)
       → IfOk answer (IsEndWith value forms finder (λ inside. infeasible_with inside
@@ -172,7 +172,7 @@ module _ {N : Type 0} (value : N → Fraction) (limit : ℕ) {m : RobustModel} {
 
 -- ---- a master without a best plan
 module _ {N : Type 0} (value : N → Fraction) (limit : ℕ) {m : RobustModel} {forms : Forms} {rounds : List Told}
-    {master : Lp} {s : Solver} (r : IsRoundOf m forms rounds master kind.Unbounded s) where
+    {master : Lp} {s : Solver} (r : IsEndedMaster m forms rounds master kind.Unbounded s) where
   -- its direction is cut off
   pub step_cut_off : (cut : Made) → IsStepLook limit m value (ray_of s) (of_step.Broken cut)
       → (answer : Result (Outcome N) NoMemory)

@@ -93,7 +93,7 @@ module _ {m : RobustModel} {forms : Forms} (f : IsForms m forms) (rounds : List 
       (refused_master limit stop rows wide caused))
 
 -- ---- a master over the rounds that has ended so
-pub record IsRoundOf (m : RobustModel) (forms : Forms) (rounds : List Told) (master : Lp) (k : LpKind)
+pub record IsEndedMaster (m : RobustModel) (forms : Forms) (rounds : List Told) (master : Lp) (k : LpKind)
     (s : Solver) : Type 0 where
   pub are_forms : IsForms m forms
   pub list : IsMasterList forms (cuts_told rounds) master
@@ -101,11 +101,11 @@ pub record IsRoundOf (m : RobustModel) (forms : Forms) (rounds : List Told) (mas
 
 pub round_of : {m : RobustModel} {forms : Forms} {rounds : List Told} {master : Lp} {k : LpKind} {s : Solver}
     → IsForms m forms → IsMasterList forms (cuts_told rounds) master → HasEnded (program_of master) k s
-    → IsRoundOf m forms rounds master k s
+    → IsEndedMaster m forms rounds master k s
 round_of f list ended = record { are_forms = f; list = list; ended = ended }
 
 module _ {m : RobustModel} {forms : Forms} {rounds : List Told} {master : Lp} {k : LpKind} {s : Solver}
-    (r : IsRoundOf m forms rounds master k s) where
+    (r : IsEndedMaster m forms rounds master k s) where
   pub master_ended : HasEnded (master_over m (cuts_told rounds)) k s
   master_ended = ended_as r.are_forms rounds r.list s k r.ended
 
@@ -122,7 +122,7 @@ module _ {m : RobustModel} {forms : Forms} {rounds : List Told} {master : Lp} {k
 
 -- ---- with a best plan
 module _ {m : RobustModel} {forms : Forms} {rounds : List Told} {master : Lp} {s : Solver}
-    (r : IsRoundOf m forms rounds master kind.Optimal s) where
+    (r : IsEndedMaster m forms rounds master kind.Optimal s) where
   best_master : MasterIsOptimal m (cuts_told rounds) s.basis (point_of s) (dual_of s)
   best_master = optimal_master m (cuts_told rounds) s (master_ended r)
 
@@ -157,7 +157,7 @@ module _ {m : RobustModel} {forms : Forms} {rounds : List Told} {master : Lp} {s
 
 -- ---- without any plan
 module _ {m : RobustModel} {forms : Forms} {rounds : List Told} {master : Lp} {s : Solver}
-    (r : IsRoundOf m forms rounds master kind.Infeasible s) where
+    (r : IsEndedMaster m forms rounds master kind.Infeasible s) where
   pub empty_end : TellsRun m rounds → length rounds < 2 ^ 32 → (inside : List Fraction) → Admits m inside
       → IsLastScenario m inside
       → IsEnd m (cuts_told rounds) (infeasible_with inside
@@ -173,7 +173,7 @@ module _ {m : RobustModel} {forms : Forms} {rounds : List Told} {master : Lp} {s
 
 -- ---- without a best plan
 module _ {m : RobustModel} {forms : Forms} {rounds : List Told} {master : Lp} {s : Solver}
-    (r : IsRoundOf m forms rounds master kind.Unbounded s) where
+    (r : IsEndedMaster m forms rounds master kind.Unbounded s) where
   boundless_master : MasterIsUnbounded m (cuts_told rounds) s.basis (column_of s.state) (point_of s) (ray_of s)
   boundless_master = unbounded_master m (cuts_told rounds) s (master_ended r)
 
