@@ -131,7 +131,7 @@ pub fn in_front(alloc: Global, value: &Whole, values: &[Whole]) -> Result<List<W
 }
 
 /// The same as a vector.
-pub fn vec_in_front(alloc: Global, value: &Whole, values: &[Whole]) -> Result<Vec<Whole>, Memory>
+fn vec_in_front(alloc: Global, value: &Whole, values: &[Whole]) -> Result<Vec<Whole>, Memory>
     ensures all { IfOk result (λ all. all.items ≡ value.now ∷ values.now) }
 {
     let mut all = Vec::with_capacity(alloc, values.len() + 1)?;

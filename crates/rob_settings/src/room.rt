@@ -22,6 +22,7 @@ impl From<rob_number::Memory> for Stop {
 }
 
 /// What is left of the room behind so many tokens.
+#[inline(always)]
 pub fn spend(tokens: u32, room: u32) -> Result<u32, Stop>
     ensures left { MatchResult result
         (λ left. left_of tokens room ≡ Some left) (λ e. HasStop (left_of tokens room) e) }
