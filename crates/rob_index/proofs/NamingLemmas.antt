@@ -2,6 +2,7 @@
 use Rattle.std.proofs.Common.{◌≡◌, ◌≤◌, Bool, true, false, ◌||◌, List, [], ◌∷◌, ◌++◌, map, length, refl, sym, ◌∙◌, subst, arith}
 use Rattle.std.specs.Prelude.{ℤ, Option, Some, None}
 use Rattle.std.specs.List.{list_any}
+use Rattle.std.proofs.lemmas.Bool.{or_parts}
 use Rattle.std.proofs.lemmas.Bool.Decides.{nat_tests}
 use Rattle.rob_algebra.specs.Items.{Each}
 use Rattle.rob_algebra.proofs.ListLemmas.{each_append}
@@ -17,13 +18,9 @@ use Rattle.rob_index.proofs.ExpansionLemmas.{settings-append}
 use Rattle.rob_index.proofs.ListLemmas.{not_true, any_from, any_append, flat_among}
 
 -- ---- tests that no item passes
-pub neither : (a b : Bool) → (a || b) ≡ false → (a ≡ false) × (b ≡ false)
-neither true b h = cc
-neither false b h = (refl, h)
-
 pub none_both : {A : Type 0} (p : A → Bool) (xs ys : List A) → list_any p (xs ++ ys) ≡ false
     → (list_any p xs ≡ false) × (list_any p ys ≡ false)
-none_both p xs ys h = neither (list_any p xs) (list_any p ys) (sym (any_append p xs ys) ∙ h)
+none_both p xs ys h = or_parts (list_any p xs) (list_any p ys) (sym (any_append p xs ys) ∙ h)
 
 pub none_among : {A : Type 0} (p : A → Bool) (xs : List A) (x : A) → list_any p xs ≡ false → Among x xs → p x ≡ false
 none_among p xs x h m = not_true (p x) (λ (yes : p x ≡ true). let all = any_from p xs x m yes in cc)
@@ -59,7 +56,7 @@ pub indices_within : (above : List Range) (xs : List Index) → list_any is_out 
 indices_within above [] h setting m = tt
 indices_within above (x ∷ xs) h setting m =
     let parts =
-    neither (list_any (is_out_at x) (settings above [])) (list_any is_out (map (of_index above) xs)) h in (
+    or_parts (list_any (is_out_at x) (settings above [])) (list_any is_out (map (of_index above) xs)) h in (
       none_among (is_out_at x) (settings above []) setting parts.0 m,
       indices_within above xs parts.1 setting m,
     )
@@ -203,12 +200,12 @@ mutual
   parts_short : (ps : Parts) → parts_have_long ps ≡ false → EachPartName IsShort ps
   parts_short stated.no_parts h = tt
   parts_short (stated.part minus p ps) h =
-      let none = neither (plain_has_long p) (parts_have_long ps) h in (plain_short p none.0, parts_short ps none.1)
+      let none = or_parts (plain_has_long p) (parts_have_long ps) h in (plain_short p none.0, parts_short ps none.1)
 
   factors_short : (ps : Factors) → factors_have_long ps ≡ false → EachFactorName IsShort ps
   factors_short stated.no_factors h = tt
   factors_short (stated.factor p ps) h =
-      let none = neither (plain_has_long p) (factors_have_long ps) h in
+      let none = or_parts (plain_has_long p) (factors_have_long ps) h in
       (plain_short p none.0, factors_short ps none.1)
 
 optional_short : (o : Option Name) → optional_has_long o ≡ false → IfThere IsShort o
@@ -219,19 +216,19 @@ members_short : (ms : List Member) → list_any (λ (m : Member). is_long_name m
     → Each (λ (m : Member). IsShort m.name) ms
 members_short [] h = tt
 members_short (m ∷ ms) h =
-    let none = neither (is_long_name m.name) (list_any (λ (x : Member). is_long_name x.name) ms) h in
+    let none = or_parts (is_long_name m.name) (list_any (λ (x : Member). is_long_name x.name) ms) h in
     (short m.name none.0, members_short ms none.1)
 
 names_short : (ns : List Name) → list_any is_long_name ns ≡ false → Each IsShort ns
 names_short [] h = tt
 names_short (n ∷ ns) h =
-    let none = neither (is_long_name n) (list_any is_long_name ns) h in (short n none.0, names_short ns none.1)
+    let none = or_parts (is_long_name n) (list_any is_long_name ns) h in (short n none.0, names_short ns none.1)
 
 sides_short : (l p : Plain) (o : Option Name) → (plain_has_long l || (plain_has_long p || optional_has_long o)) ≡ false
     → EachSideName IsShort l p o
 sides_short l p o h =
-    let left = neither (plain_has_long l) (plain_has_long p || optional_has_long o) h in
-    let right = neither (plain_has_long p) (optional_has_long o) left.1 in
+    let left = or_parts (plain_has_long l) (plain_has_long p || optional_has_long o) h in
+    let right = or_parts (plain_has_long p) (optional_has_long o) left.1 in
     (plain_short l left.0, plain_short p right.0, optional_short o right.1)
 
 pub all_short : (p : Statement) → is_no_statement p ≡ false → EachNameOf IsShort p
@@ -239,16 +236,16 @@ all_short (stated.uncertain n b) h = short n h
 all_short (stated.over n) h = short n h
 all_short (stated.set l r p o) h = sides_short l p o h
 all_short (stated.budget n ms o) h =
-    let some = neither (has_no_member ms)
+    let some = or_parts (has_no_member ms)
     (list_any (λ (m : Member). is_long_name m.name) ms || optional_has_long o) h in
-    let rest = neither (list_any (λ (m : Member). is_long_name m.name) ms) (optional_has_long o) some.1 in
+    let rest = or_parts (list_any (λ (m : Member). is_long_name m.name) ms) (optional_has_long o) some.1 in
     (members_short ms rest.0, optional_short o rest.1)
 all_short (stated.variable n b) h = short n h
 all_short (stated.adaptive n on b) h =
-    let none = neither (is_long_name n) (list_any is_long_name on) h in (short n none.0, names_short on none.1)
+    let none = or_parts (is_long_name n) (list_any is_long_name on) h in (short n none.0, names_short on none.1)
 all_short (stated.goal s e o) h =
-    let none = neither (plain_has_long e) (optional_has_long o) h in
+    let none = or_parts (plain_has_long e) (optional_has_long o) h in
     (plain_short e none.0, optional_short o none.1)
 all_short (stated.row n l r p o) h =
-    let none = neither (is_long_name n) (plain_has_long l || (plain_has_long p || optional_has_long o)) h in
+    let none = or_parts (is_long_name n) (plain_has_long l || (plain_has_long p || optional_has_long o)) h in
     (short n none.0, sides_short l p o none.1)

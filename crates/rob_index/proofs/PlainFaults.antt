@@ -2,7 +2,7 @@
 use Rattle.std.proofs.Common.{◌≡◌, ℕ, ◌+◌, ◌≤◌, ◌||◌, Bool, true, false, List, [], ◌∷◌, Option, Some, None, cond, refl, ap, ◌∙◌, arith}
 use Rattle.std.specs.Prelude.{length}
 use Rattle.std.specs.List.{find, list_any}
-use Rattle.std.proofs.lemmas.Bool.{le-leb, le-ltb}
+use Rattle.std.proofs.lemmas.Bool.{le-leb, le-ltb, or_from}
 use Rattle.rob_algebra.specs.Items.{Each}
 use Rattle.rob_index.specs.Statements.{Name, Plain, Parts, Factors, Member, Statement, Tree, Indexed}
 use Rattle.rob_index.specs.Statements as stated
@@ -19,9 +19,6 @@ use Rattle.rob_index.proofs.SearchLemmas.{named_first}
 use Rattle.rob_index.proofs.NamingLemmas.{IsShort}
 
 -- ---- a statement whose names are short is one
-both_false : (a b : Bool) → a ≡ false → b ≡ false → (a || b) ≡ false
-both_false a b h k = cc
-
 not_long : (n : Name) → IsShort n → is_long_name n ≡ false
 not_long n h = le-ltb longest_name (length n) h
 
@@ -35,12 +32,12 @@ mutual
   parts_not_long : (ps : Parts) → EachPartName IsShort ps → parts_have_long ps ≡ false
   parts_not_long stated.no_parts h = refl
   parts_not_long (stated.part minus p ps) h =
-      both_false (plain_has_long p) (parts_have_long ps) (plain_not_long p h.0) (parts_not_long ps h.1)
+      or_from (plain_has_long p) (parts_have_long ps) (plain_not_long p h.0) (parts_not_long ps h.1)
 
   factors_not_long : (ps : Factors) → EachFactorName IsShort ps → factors_have_long ps ≡ false
   factors_not_long stated.no_factors h = refl
   factors_not_long (stated.factor p ps) h =
-      both_false (plain_has_long p) (factors_have_long ps) (plain_not_long p h.0) (factors_not_long ps h.1)
+      or_from (plain_has_long p) (factors_have_long ps) (plain_not_long p h.0) (factors_not_long ps h.1)
 
 optional_not_long : (o : Option Name) → IfThere IsShort o → optional_has_long o ≡ false
 optional_not_long None h = refl
@@ -50,19 +47,19 @@ members_not_long : (ms : List Member) → Each (λ (m : Member). IsShort m.name)
     → list_any (λ (m : Member). is_long_name m.name) ms ≡ false
 members_not_long [] h = refl
 members_not_long (m ∷ ms) h =
-    both_false (is_long_name m.name) (list_any (λ (x : Member). is_long_name x.name) ms) (not_long m.name h.0)
+    or_from (is_long_name m.name) (list_any (λ (x : Member). is_long_name x.name) ms) (not_long m.name h.0)
     (members_not_long ms h.1)
 
 names_not_long : (ns : List Name) → Each IsShort ns → list_any is_long_name ns ≡ false
 names_not_long [] h = refl
 names_not_long (n ∷ ns) h =
-    both_false (is_long_name n) (list_any is_long_name ns) (not_long n h.0) (names_not_long ns h.1)
+    or_from (is_long_name n) (list_any is_long_name ns) (not_long n h.0) (names_not_long ns h.1)
 
 sides_not_long : (l p : Plain) (o : Option Name) → EachSideName IsShort l p o
     → (plain_has_long l || (plain_has_long p || optional_has_long o)) ≡ false
 sides_not_long l p o h =
-    both_false (plain_has_long l) (plain_has_long p || optional_has_long o) (plain_not_long l h.0)
-    (both_false (plain_has_long p) (optional_has_long o) (plain_not_long p h.1) (optional_not_long o h.2))
+    or_from (plain_has_long l) (plain_has_long p || optional_has_long o) (plain_not_long l h.0)
+    (or_from (plain_has_long p) (optional_has_long o) (plain_not_long p h.1) (optional_not_long o h.2))
 
 some_member : (n : stated.Numeral) (ms : List Member) (o : Option Name) → HasMember (stated.budget n ms o)
     → has_no_member ms ≡ false
@@ -74,17 +71,17 @@ is_statement (stated.uncertain n b) h k = not_long n h
 is_statement (stated.over n) h k = not_long n h
 is_statement (stated.set l r p o) h k = sides_not_long l p o h
 is_statement (stated.budget n ms o) h k =
-    both_false (has_no_member ms) (list_any (λ (m : Member). is_long_name m.name) ms || optional_has_long o)
+    or_from (has_no_member ms) (list_any (λ (m : Member). is_long_name m.name) ms || optional_has_long o)
     (some_member n ms o k)
-    (both_false (list_any (λ (m : Member). is_long_name m.name) ms) (optional_has_long o) (members_not_long ms h.0)
+    (or_from (list_any (λ (m : Member). is_long_name m.name) ms) (optional_has_long o) (members_not_long ms h.0)
     (optional_not_long o h.1))
 is_statement (stated.variable n b) h k = not_long n h
 is_statement (stated.adaptive n on b) h k =
-    both_false (is_long_name n) (list_any is_long_name on) (not_long n h.0) (names_not_long on h.1)
+    or_from (is_long_name n) (list_any is_long_name on) (not_long n h.0) (names_not_long on h.1)
 is_statement (stated.goal s e o) h k =
-    both_false (plain_has_long e) (optional_has_long o) (plain_not_long e h.0) (optional_not_long o h.1)
+    or_from (plain_has_long e) (optional_has_long o) (plain_not_long e h.0) (optional_not_long o h.1)
 is_statement (stated.row n l r p o) h k =
-    both_false (is_long_name n) (plain_has_long l || (plain_has_long p || optional_has_long o)) (not_long n h.0)
+    or_from (is_long_name n) (plain_has_long l || (plain_has_long p || optional_has_long o)) (not_long n h.0)
     (sides_not_long l p o h.1)
 
 -- ---- no fault is named
@@ -106,7 +103,7 @@ module _ (limit : ℕ) (words : List Name) (is_declared : ℕ → Bool) (total :
       let room : has_room limit words is_declared total s ≡ true =
       le-leb (total + lines_tokens limit (expand words s)) most_tokens fits in
       let has = has_fault limit words is_declared total s in
-      let out = both_false (list_any has_great_digits (places s)) (list_any is_out (places s))
+      let out = or_from (list_any has_great_digits (places s)) (list_any is_out (places s))
       (nowhere has_great_digits) (nowhere is_out) in
       let much = le-ltb most_tokens (total + lines_tokens limit (expand words s)) fits in
       let one = ap (list_any is_no_statement) (line_itself words s plain)
