@@ -302,7 +302,3 @@ read_low value row place y bound limit most l e h low high =
 pub ok_if : {T E : Type 0} (r : Result T E) (P Q : Type 0) → (P → Q) → OnOk r P → IfOk r (λ x. Q)
 ok_if (Ok x) P Q f h = f h
 ok_if (Err e) P Q f h = tt
-
-pub if_ok_more : {T E : Type 0} (r : Result T E) (P Q : T → Type 0) → ((x : T) → P x → Q x) → IfOk r P → IfOk r Q
-if_ok_more (Ok x) P Q f h = f x h
-if_ok_more (Err e) P Q f h = tt

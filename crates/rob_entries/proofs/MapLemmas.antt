@@ -4,7 +4,7 @@ use Rattle.std.specs.Prelude.{IfOk, IsTrue, IsFalse}
 use Rattle.std.proofs.lemmas.Bool.{cases_eq, cases_lt}
 use Rattle.std.proofs.lemmas.List.{length-set, get_or-set_same, get_or-set_other, map-set, get_or_default, length-map}
 use Rattle.std.proofs.lemmas.Int.{ints}
-use Rattle.std.proofs.lemmas.Result.{on_err_weaker}
+use Rattle.std.proofs.lemmas.Result.{IfOk-weaker, on_err_weaker}
 use lib.IntN.{ℤ, pos, ◌*ℤ◌, ◌-ℤ◌}
 use lib.Signed.{◌<ℤ◌}
 use Rattle.rob_algebra.specs.Integer.{mul-zero}
@@ -14,7 +14,6 @@ use Rattle.rob_linear.specs.Multiples.{IsClearedBy}
 use Rattle.rob_linear.proofs.Square.{cases_zero}
 use Rattle.rob_entries.specs.Maps.{IsMapped, AreMarked}
 use Rattle.rob_entries.specs.Updates.{AreListed}
-use Rattle.rob_entries.proofs.ClearingLemmas.{if_ok_more}
 use Rattle.rob_entries.proofs.MappedRows.{number_read}
 use Rattle.rob_entries.proofs.WrittenRows.{IsLent, part, stored, row_length, row_at, stored_here, stored_other, stored_length}
 
@@ -203,7 +202,7 @@ module _ {X : Type 0} {f : X → ℤ} {cells : List ℤ} {items now : List X} {l
   cleared_mapped done place top size marked cleared same unchanged =
       let n : length (part now a w) ≡ w = row_length r in
       cleared_back r s kept next h done top (size ∙ ap length lent_is)
-      (if_ok_more done (λ x. AreMarked a (length (part now a w)) (at (map f s)) top lent next)
+      (IfOk-weaker done (λ x. AreMarked a (length (part now a w)) (at (map f s)) top lent next)
       (λ x. AreMarked a w (at (map f s)) top marks next)
       (λ x m. subst (λ (t : List Bool). AreMarked a w (at (map f s)) top t next) lent_is
       (subst (λ k. AreMarked a k (at (map f s)) top lent next) n m)) marked)
