@@ -2,7 +2,7 @@ use Rattle.std.proofs.Common.{◌≡◌, ◌+◌, ◌*◌, ◌-◌, ◌∙◌, l
 use Rattle.std.proofs.lemmas.List.{length-set}
 use lib.IntN.{ℤ}
 use Rattle.rob_table.proofs.Places.{row_inside}
-use Rattle.rob_table.proofs.RowMoves.{unit_others, unit_bounds, unit_own, unit_place, unit_zero}
+use Rattle.rob_table.proofs.RowMoves.{unit_others, unit_bounds, unit_place, unit_zero}
 use Rattle.rob_table.proofs.row_moves.write_unit.Goals as goal
 
 pub overflow_mul-i : goal.overflow_mul-i
