@@ -69,12 +69,6 @@ may_be_least t column e h = (h.0, below_negative t.columns (positions t) (rows_o
 
 -- ---- the least row so far: rows are looked at from the last one on
 module _ (n m : ℕ) (rows : Matrix) (column : ℕ) where
-  abbrev Negative : ℕ → Type 0
-  Negative j = IsLexNegative (suc m) (key (shape n m) (rows j))
-
-  abbrev Before : ℕ → ℕ → Type 0
-  Before j e = ComesBefore (shape n m) (rows j) (neg_ℤ (rows j column)) (rows e) (neg_ℤ (rows e column))
-
   -- a row that may be the least, and before which none of the last k rows comes; or none of these may be
   abbrev pub IsLeastSoFar : ℕ → Option ℕ → Type 0
   IsLeastSoFar k best =
