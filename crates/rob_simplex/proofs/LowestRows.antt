@@ -13,6 +13,7 @@ use Rattle.rob_algebra.specs.FractionPairs.{of_pair_eq}
 use Rattle.rob_algebra.specs.Gcd.{gcd, IsGcd-gcd}
 use Rattle.rob_algebra.specs.Integer.{*ℤ_comm, neg-mul}
 use Rattle.rob_linear.specs.Vectors.{Vector}
+use Rattle.rob_number.specs.Lowest.{size_back}
 use Rattle.rob_linear.specs.Systems.{IsPrimitive}
 use Rattle.rob_linear.specs.Multiples.{IsParallel}
 use Rattle.rob_linear.proofs.Multiples.{divided_parallel, parallel_quotient}
@@ -63,14 +64,11 @@ module _ (n : ℕ) (r : Vector) (k : ℕ) (kl : k < n) (positive : pos 0 <ℤ r 
       eq-one_of_dvd-one (dvd_of_mul-dvd-mul_left d content_positive (subst (λ v. content n r * d ∣ v) one all))
 
 -- ---- quotients of parallel rows
-positive_size : (z : ℤ) → pos 0 <ℤ z → pos (nat_abs z) ≡ z
-positive_size z h = omega (arith, ints)
-
 pub same_quotient : (x y p q : ℤ) → pos 0 <ℤ p → pos 0 <ℤ q → x *ℤ q ≡ y *ℤ p
     → of_pair x (nat_abs p) ≡ of_pair y (nat_abs q)
 same_quotient x y p q pp pq e =
     (of_pair_eq x y (nat_abs p) (nat_abs q) (omega (arith, ints)) (omega (arith, ints))).1
-    (ap (λ t. x *ℤ t) (positive_size q pq) ∙ e ∙ ap (λ t. y *ℤ t) (sym (positive_size p pp)))
+    (ap (λ t. x *ℤ t) (size_back q pq) ∙ e ∙ ap (λ t. y *ℤ t) (sym (size_back p pp)))
 
 -- an entry over another one
 pub parallel_over : (n : ℕ) (r s : Vector) (j k : ℕ) → IsParallel n r s → j < n → k < n → pos 0 <ℤ r k → pos 0 <ℤ s k
