@@ -30,6 +30,7 @@ use Rattle.rob_simplex.specs.Dictionaries.{Table, positions, width_of, columns_o
 use Rattle.rob_simplex.specs.Phases.{StandsFor, TurnsOn, HasRefused, EndsIn, turns_left}
 use Rattle.rob_simplex.proofs.Ranks.{own_last, shorter, IsSmall, within_second, left_is, falls}
 use Rattle.rob_simplex.proofs.ReadRows.{basic_low, basic_high}
+use Rattle.rob_simplex.proofs.FreeColumns.{basic_column_low}
 use Rattle.rob_simplex.proofs.PivotLemmas.{zero_stays}
 
 module _ {P : Program} {t : Table} (h : StandsFor P t) where
@@ -39,15 +40,12 @@ module _ {P : Program} {t : Table} (h : StandsFor P t) where
   own_is : (i : ℕ) → i < P.m → own_of (system_of P) (columns_of t.basis) i ≡ columns_of t.basis i
   own_is i l = own_low (system_of P) (columns_of t.basis) i l
 
-  column_in : (i : ℕ) → i < P.m → columns_of t.basis i < P.n + P.m
-  column_in i l = subst (λ k. k < P.n + P.m) (own_is i l) (h.stands.multiples.inside i l)
-
   -- the objective's row is 0 in the basic columns, and positive in its own
   basic_zero : (i : ℕ) → i < P.m → rows_of t P.m (columns_of t.basis i) ≡ pos 0
   basic_zero i l =
       let z = (h.stands.multiples.rows_of P.m (omega arith)).along.zeros i (omega arith) (λ e. absurd (omega arith)) in
       let p : auxiliary_place P (own_of (system_of P) (columns_of t.basis) i) ≡ columns_of t.basis i =
-      ap (auxiliary_place P) (own_is i l) ∙ place_low P (columns_of t.basis i) (column_in i l) in
+      ap (auxiliary_place P) (own_is i l) ∙ place_low P (columns_of t.basis i) (basic_column_low h i l) in
       ap (rows_of t P.m) (sym p) ∙ z
 
   pub objective_positive : pos 0 <ℤ rows_of t P.m (suc (P.n + P.m))

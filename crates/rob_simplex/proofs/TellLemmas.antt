@@ -1,11 +1,11 @@
 -- What is known of a solver whose dictionary has followed the path, by how that ended.
-use Rattle.std.proofs.Common.{◌≡◌, ℕ, ◌+◌, ◌-◌, ◌^◌, ◌<◌, ◌≤◌, ◌∙◌, refl, sym, subst, arith, List, length, nat_abs, to_z, of_z, w64, Result, Ok, Err, IfErr, MatchResult}
-use lib.IntN.{ℤ, pos}
+use Rattle.std.proofs.Common.{◌≡◌, ℕ, ◌+◌, ◌<◌, ◌≤◌, ◌∙◌, refl, sym, subst, arith, List, length, nat_abs, Result, Ok, Err, IfErr, MatchResult}
+use lib.IntN.{ℤ}
 use Rattle.rob_linear.specs.Vectors.{at}
 use Rattle.rob_linear.specs.Programs.{Program}
 use Rattle.rob_linear.specs.Paths.{Last}
 use Rattle.rob_linear.specs.WideRows.{HasWideRow}
-use Rattle.rob_number.proofs.CastLemmas.{limit_seen}
+pub use Rattle.rob_number.proofs.CastLemmas.{limit_seen}
 use Rattle.rob_simplex.specs.declared.first_phase.FirstEnding.TheVariants as first
 use Rattle.rob_simplex.specs.declared.path.Ending.{Ending}
 use Rattle.rob_simplex.specs.declared.path.Ending.TheVariants as ending
@@ -143,11 +143,6 @@ weights_sound {limit = limit} sound sized w size em n bound low =
     let b : nat_abs (at w i) ≤ n =
     subst (λ k. nat_abs (at w k) ≤ n) z (bound i (omega (arith, em, size, sized.positions, sound.weights_size))) in
     omega arith))
-
--- a limit as it was read
-pub limit_read : {bound : ℤ} {limit : ℕ} → bound ≡ pos limit → limit ≤ 2 ^ 62 - 1
-    → nat_abs (to_z w64 (of_z w64 bound)) ≡ limit
-limit_read {bound = bound} {limit = limit} is high = limit_seen bound limit is high
 
 -- the end of a path that its dictionary has followed
 pub is_told : (limit : ℕ) (P : Program) (v : Solver) (t : Table) (ended : Result Ending Halt) → P.m ≡ positions v

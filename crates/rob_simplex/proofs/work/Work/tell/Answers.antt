@@ -2,7 +2,7 @@ use Rattle.std.proofs.Common.{◌<◌, ◌≤◌, refl, ap, ◌∙◌, inl, inr,
 use Rattle.rob_linear.specs.Programs.{Program}
 use Rattle.rob_simplex.specs.declared.state.Cause.TheVariants.{Told}
 use Rattle.rob_simplex.specs.Solvers.{Solver}
-use Rattle.rob_simplex.proofs.TellLemmas.{told_as, told_err, caused_err, position_err, optimum_told, ray_told, optimum_sound, ray_sound, halted_told, limit_read, weight_stops, weights_told, weights_sound}
+use Rattle.rob_simplex.proofs.TellLemmas.{told_as, told_err, caused_err, position_err, optimum_told, ray_told, optimum_sound, ray_sound, halted_told, limit_seen, weight_stops, weights_told, weights_sound}
 use Rattle.rob_simplex.proofs.Solving.{sound_stopped}
 use Rattle.rob_simplex.proofs.Sizes.{sized_same, sized_view, sized_after}
 use Rattle.rob_simplex.proofs.work.Work.tell.Goals as goal
@@ -46,7 +46,7 @@ show_weights-requires g c = record {
 -- the greatest of them is over the limit
 pub returns-then-largest-LIMIT : goal.returns-then-largest-LIMIT
 returns-then-largest-LIMIT g c =
-    let e = limit_read (c.LIMIT.ensures ∙ g.met.N.Exact.limit_told) g.met.N.Exact.limit_high in
+    let e = limit_seen _ _ (c.LIMIT.ensures ∙ g.met.N.Exact.limit_told) g.met.N.Exact.limit_high in
     let over : g.N.Exact.limit < c.largest.result = omega (arith, e, c.if-largest-LIMIT.true) in
     let stops =
     (λ (P : Program). weight_stops c.self.view_is c.in-Ok.is c.in-Infeasible.is c.show_weights.new.self
@@ -65,7 +65,7 @@ returns-then-largest-LIMIT g c =
 -- none is
 pub invariant_of-self-in-Infeasible : goal.invariant_of-self-in-Infeasible
 invariant_of-self-in-Infeasible g c =
-    let e = limit_read (c.LIMIT.ensures ∙ g.met.N.Exact.limit_told) g.met.N.Exact.limit_high in
+    let e = limit_seen _ _ (c.LIMIT.ensures ∙ g.met.N.Exact.limit_told) g.met.N.Exact.limit_high in
     let low : c.largest.result ≤ g.N.Exact.limit = omega (arith, e, c.if-largest-LIMIT.false) in
     weights_sound c.self.invariant c.show_weights.ensures.sized c.show_weights.new.weights c.show_weights.ensures.size
     c.positions-m.ensures.positions c.largest.result c.largest.ensures.bound low
