@@ -65,8 +65,8 @@ known_pivoted t t1 t2 known known' q column s1 s2 inside top others p h spared i
     let low : i < positions t = omega arith in
     let s = spared i low on in
     let cleared : IsParallel (span t) (rows_of t1 i) (rows_of t2 i) =
-    cleared_parallel (width_of t1) (span t) column (rows_of t1 i) (rows_of t1 q) (rows_of t2 i) (omega arith) (omega arith)
-    (others i column (omega arith) s.1 ∙ s.2) top (p.row_other i (omega arith) s.1) in
+    cleared_parallel (width_of t1) (span t) column (rows_of t1 i) (rows_of t1 q) (rows_of t2 i) (omega arith)
+    (omega arith) (others i column (omega arith) s.1 ∙ s.2) top (p.row_other i (omega arith) s.1) in
     resized t.columns (positions t) t2.columns (positions t2) (rows_of t2 i) en em
     (kept_sign t.columns (positions t) (rows_of t i) (rows_of t2 i)
     (parallel_trans (span t) (rows_of t i) (rows_of t1 i) (rows_of t2 i)

@@ -115,7 +115,8 @@ impl<E: Entry> Dictionary<E> {
     /// The first such row, if there is one.
     fn first_below_zero(&self, column: usize) -> Option<usize>
         requires column_in { column < width_of self.now }
-        ensures below { IfSome result (λ e. (e < positions self.now) × IsBelowZero self.now column e) }
+        ensures below { IfSome result (λ e. (e < positions self.now)
+            × IsBelowZero self.now column e) }
     {
         for i in 0..self.basis.len() {
             if self.is_below_zero(column, i) {
