@@ -56,11 +56,6 @@ joined_past zero c (f ∷ fs) = ap (λ (d : ℤ). d ∷ fs) (omega (arith, ints,
 joined_past (suc p) c [] = ap (λ (d : ℤ). d ∷ []) (omega (arith, ints, *ℤ-zero c))
 joined_past (suc p) c (f ∷ fs) = ap (λ (ds : List ℤ). f ∷ ds) (joined_past p c fs)
 
-pub joined_over : (p : ℕ) (c : ℤ) (bs fs : List ℤ) → p ≤ length fs
-    → joined_from (suc p) c bs (joined_from p (pos 0) (pos 0 ∷ []) fs) ≡ joined_from p c (pos 0 ∷ bs) fs
-joined_over p c bs fs h =
-    ap (joined_from (suc p) c bs) (joined_past p c fs) ∙ joined_on p c (pos 0) bs fs h
-
 -- nothing is left to be added
 pub joined_none : (p : ℕ) (c : ℤ) (fs : List ℤ) → joined_from p c [] fs ≡ fs
 joined_none zero c fs = refl
@@ -92,11 +87,6 @@ pub drop-joined_from : (p : ℕ) (c : ℤ) (bs fs : List ℤ) → p ≤ length f
 drop-joined_from zero c bs fs h = refl
 drop-joined_from (suc p) c bs [] h = absurd (omega (arith, h))
 drop-joined_from (suc p) c bs (f ∷ fs) h = drop-joined_from p c bs fs (omega (arith, h))
-
-pub joined_reaches : (p : ℕ) (c : ℤ) (bs fs : List ℤ) → p ≤ length fs → p ≤ length (joined_from p c bs fs)
-joined_reaches zero c bs fs h = omega arith
-joined_reaches (suc p) c bs [] h = absurd (omega (arith, h))
-joined_reaches (suc p) c bs (f ∷ fs) h = let k = joined_reaches p c bs fs (omega (arith, h)) in omega (arith, k)
 
 -- ---- a loop that adds one product after the other
 module _ (place i : ℕ) (c : ℤ) (fs next : List ℤ) {all : List ℤ} (within : place ≤ length fs) where

@@ -91,9 +91,6 @@ module _ (rs front : List Ends) (r : Ends) (ts : List Told) (t : Told) (apart : 
   pub told_too : AreTold [] front ts → IsTold (onto (front ++ r ∷ []) []) t → AreTold [] rs (ts ++ t ∷ [])
   told_too h k = subst (λ (qs : List Ends). AreTold [] qs (ts ++ t ∷ [])) apart (told_last [] front r ts t h all k)
 
-  pub told_each : length (ts ++ t ∷ []) ≡ length rs
-  told_each = omega (arith, told_longer ts t, all, one_longer front r, ap length apart)
-
 -- one range more
 pub told_entered : (nest rs : List Ends) (ts : List Told) (r : Ends) → AreTold nest rs ts
     → AreTold nest (rs ++ r ∷ []) ts

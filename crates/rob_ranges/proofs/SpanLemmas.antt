@@ -14,15 +14,6 @@ use Rattle.rob_ranges.specs.Spans.{Every, IsIn}
 
 -- ---- what holds of each
 module _ {A : Type 0} (P : A → Type 0) where
-  pub every_none : (xs : List A) → length xs < 1 → Every P xs
-  every_none [] h = tt
-  every_none (x ∷ xs) h = absurd (omega (arith, h))
-
-  pub every_one : (xs : List A) (x : A) → length xs ≡ 1 → x ≡ get_or xs 0 x → P x → Every P xs
-  every_one [] x h is p = absurd (omega (arith, h))
-  every_one (y ∷ []) x h is p = (subst P is p, tt)
-  every_one (y ∷ z ∷ zs) x h is p = absurd (omega (arith, h))
-
   pub every_append : (xs ys : List A) → Every P xs → Every P ys → Every P (xs ++ ys)
   every_append [] ys h k = k
   every_append (x ∷ xs) ys h k = (h.0, every_append xs ys h.1 k)
@@ -109,15 +100,4 @@ wider a b vs h k m n within = record {
   first_greatest = omega (arith, ints, m, within.first_greatest);
   second_least = omega (arith, ints, k, within.second_least);
   second_greatest = omega (arith, ints, n, within.second_greatest);
-}
-
--- the span of one setting
-pub at_point : (span : Span) (vs : List ℤ) → wide_of span.least.first ≡ first_of vs
-    → wide_of span.least.second ≡ second_of vs → wide_of span.greatest.first ≡ first_of vs
-    → wide_of span.greatest.second ≡ second_of vs → IsIn span vs
-at_point span vs h k m n = record {
-  first_least = omega (arith, ints, h);
-  first_greatest = omega (arith, ints, m);
-  second_least = omega (arith, ints, k);
-  second_greatest = omega (arith, ints, n);
 }
