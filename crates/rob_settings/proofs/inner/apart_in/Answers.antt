@@ -9,8 +9,8 @@ pub returns-then-second-lt-SHORTEST : goal.returns-then-second-lt-SHORTEST
 returns-then-second-lt-SHORTEST c = record {
   apart = λ vs within p q.
       let f : SFits w128 c.most-second.result = search rules in
-      seen_least (short_value c.args.lengths.now.second vs) c.most-second.result f (c.most-second.ensures.most vs within)
-      p;
+      seen_least (short_value c.args.lengths.now.second vs) c.most-second.result f
+      (c.most-second.ensures.most vs within) p;
 }
 
 pub returns : goal.returns
