@@ -147,7 +147,8 @@ fn name_bytes(alloc: Global, own: &Words, name: &Named, values: &Values) -> Resu
 
 /// The bytes of a name's word, with room for `_` and three digits for each index.
 fn word_bytes(alloc: Global, own: &Words, name: &Named) -> Result<Vec<u8>, Memory>
-    ensures bytes { IfOk result (λ bytes. bytes.items ≡ get_or (texts own.now.keys) name.now.word []) }
+    ensures bytes { IfOk result (λ bytes. bytes.items
+        ≡ get_or (texts own.now.keys) name.now.word []) }
 {
     let word = word_at(own, name.word);
     let room = name.indices.items().len().saturating_mul(4);
