@@ -9,6 +9,7 @@ use Rattle.std.proofs.Math.IntN.{zero-*ℤ}
 use Rattle.rob_algebra.specs.Integer.{products}
 use Rattle.rob_index.specs.Forms.{Form, weighed, value_of, first_factor, outer, plus_times}
 use Rattle.rob_index.proofs.FormLemmas.{plus_times_is, outer_is}
+use Rattle.rob_index.proofs.NestLemmas.{no_values}
 use Rattle.rob_expand.specs.declared.scope.Binding.{Binding}
 use Rattle.rob_expand.specs.Scopes.{Scope, AreEqual, IsPutIn, IsNothing, AddNothing, inside, outside, values_in, offset, further, in_front, with_first}
 
@@ -30,10 +31,6 @@ constant_put bound f [] is h =
     ap (λ (l : List ℤ). f.constant +ℤ weighed l ws) (sym is)
     ∙ ap (λ (l : List ℤ). f.constant +ℤ weighed l (values_in bound ws)) is
 constant_put bound f (c ∷ cs) is h = absurd (grind (arith, nat_tests))
-
-weighed_none : (cs : List ℤ) → weighed cs [] ≡ pos 0
-weighed_none [] = refl
-weighed_none (c ∷ cs) = refl
 
 plus_zero : (v : ℤ) → v ≡ v +ℤ pos 0
 plus_zero v = omega (arith, ints)
@@ -71,9 +68,9 @@ once_each new f c g one is =
 -- and so with a factor in front
 fronted : (c : ℤ) (f g : Form) → AreEqual f g → AreEqual (in_front true c f) (in_front true c g)
 fronted c f g same [] =
-    ap (λ (z : ℤ). f.constant +ℤ z) (sym (weighed_none f.factors))
+    ap (λ (z : ℤ). f.constant +ℤ z) (sym (no_values f.factors))
     ∙ same []
-    ∙ ap (λ (z : ℤ). g.constant +ℤ z) (weighed_none g.factors)
+    ∙ ap (λ (z : ℤ). g.constant +ℤ z) (no_values g.factors)
 fronted c f g same (w ∷ ws) =
     regrouped f.constant (c *ℤ w) (weighed f.factors ws)
     ∙ ap (λ (z : ℤ). z +ℤ (c *ℤ w)) (same ws)
@@ -108,7 +105,7 @@ module _ (bound : List Binding) (f taken g : Form) (c : ℤ) (c_is : c ≡ first
   first_at false start ws = at_start start ws
   first_at true start [] =
       let h = plus_times g c start in
-      ap (λ (z : ℤ). h.constant +ℤ z) (sym (weighed_none h.factors)) ∙ at_start start []
+      ap (λ (z : ℤ). h.constant +ℤ z) (sym (no_values h.factors)) ∙ at_start start []
   first_at true start (w ∷ ws) =
       let h = plus_times g c start in
       regrouped h.constant (c *ℤ w) (weighed h.factors ws)
