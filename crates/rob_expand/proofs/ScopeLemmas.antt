@@ -51,8 +51,8 @@ nothing_added f c g zero =
     sym (sum ∙ omega (arith, ints, zero-*ℤ (value_of g ws)))
 
 -- once each, the order makes no difference
-turned : (a b : ℤ) → b +ℤ (pos 1 *ℤ a) ≡ a +ℤ (pos 1 *ℤ b)
-turned a b = simp products (omega (arith, ints))
+swapped : (a b : ℤ) → b +ℤ (pos 1 *ℤ a) ≡ a +ℤ (pos 1 *ℤ b)
+swapped a b = simp products (omega (arith, ints))
 
 pub once_each : (new f : Form) (c : ℤ) (g : Form) → c ≡ pos 1 → new ≡ plus_times g c f
     → AreEqual new (plus_times f c g)
@@ -61,7 +61,7 @@ once_each new f c g one is =
     ap (λ (h : Form). value_of h ws) is
     ∙ plus_times_is g c f ws
     ∙ ap (λ (k : ℤ). value_of g ws +ℤ (k *ℤ value_of f ws)) one
-    ∙ turned (value_of f ws) (value_of g ws)
+    ∙ swapped (value_of f ws) (value_of g ws)
     ∙ ap (λ (k : ℤ). value_of f ws +ℤ (k *ℤ value_of g ws)) (sym one)
     ∙ sym (plus_times_is f c g ws)
 
