@@ -1,10 +1,10 @@
 -- A sum over a range of one value is the expression inside it, with that value in front.
-use Rattle.std.proofs.Common.{◌≡◌, ℕ, List, [], ◌∷◌, map, refl, sym, ap, ◌∙◌, subst, arith}
+use Rattle.std.proofs.Common.{◌≡◌, ℕ, List, [], ◌∷◌, map, refl, sym, ap, ◌∙◌, arith}
 use Rattle.std.specs.Prelude.{ℤ, pos, ◌+ℤ◌, Bool, false, Some, Result, MatchResult}
 use Rattle.std.proofs.lemmas.Int.{ints}
 use Rattle.rob_index.specs.Statements.{Name}
 use Rattle.rob_index.specs.Expansion.{summed}
-use Rattle.rob_index.specs.Forms.{Form, Ends, value_of, values_of, length_form}
+use Rattle.rob_index.specs.Forms.{Ends, value_of, values_of, length_form}
 use Rattle.rob_index.specs.Settings.{count, upwards}
 use Rattle.rob_index.proofs.FormLemmas.{minus_is}
 use Rattle.rob_index.proofs.NestLemmas.{le_to}

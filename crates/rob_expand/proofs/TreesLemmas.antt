@@ -11,7 +11,7 @@ use Rattle.rob_expand.specs.Judging.{tree_found, worse, worst}
 use Rattle.rob_expand.specs.Lines.{rest_of, trees_left}
 use Rattle.rob_expand.specs.Making.{first_at, second_at}
 use Rattle.rob_expand.specs.Names.{tree_names}
-use Rattle.rob_expand.specs.Placed.{Placed, placed_of}
+use Rattle.rob_expand.specs.Placed.{placed_of}
 use Rattle.rob_expand.specs.Placing.{placed_tree}
 use Rattle.rob_settings.specs.Room.{after}
 use Rattle.rob_expand.specs.Scopes.{IsPlaced, Pairwise}

@@ -2,7 +2,6 @@
 //! as there is no room for more.
 
 ghost use Rattle.std.specs.Prelude.{◌≡◌, ℕ, ◌∷◌, map, true, IfOk, MatchResult, Some};
-ghost use Rattle.rob_index.specs.Settings.{count as span, upwards};
 ghost use Rattle.rob_index.specs.Forms.{values_of};
 ghost use Rattle.rob_index.specs.Counting as counting;
 ghost use Rattle.rob_expand.specs.declared.count.Shape.TheVariants as Is;

@@ -1,6 +1,6 @@
 //! The names of the ranges around a place in an expression, and the forms that stand for their values.
 
-ghost use Rattle.std.specs.Prelude.{◌≡◌, [], drop, pos, true, IfOk, OnOk};
+ghost use Rattle.std.specs.Prelude.{◌≡◌, [], drop, true, IfOk, OnOk};
 ghost use Rattle.rob_index.specs.Fast as fast;
 ghost use Rattle.rob_index.specs.Forms.{length_form, plus_times};
 ghost use Rattle.rob_syntax.specs.Seen.{seen_index, seen_range};

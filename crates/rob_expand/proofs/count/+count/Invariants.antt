@@ -2,7 +2,6 @@ use Rattle.std.proofs.Common.{length}
 use Rattle.rob_index.specs.Forms.{values_of}
 use Rattle.rob_expand.proofs.OverLemmas.{HasEachLeft}
 use Rattle.rob_expand.proofs.StepLemmas.{HasFactorsLeft, HasPartsLeft}
-use Rattle.rob_index.specs.Settings.{count as span, upwards}
 use Rattle.rob_expand.proofs.count.+count.Given as goal
 
 abbrev pub invariant-count_parts-loop-part : goal.invariant-count_parts-loop-part
