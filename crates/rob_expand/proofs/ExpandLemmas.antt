@@ -110,13 +110,6 @@ module _ (own : List Name) (limit : ℕ) (s : Indexed Tree) (ranges : List Ends)
       → new ≡ old ++ map (numbered words) (expand own s)
   list_is words old new by = by ∙ ap (λ (ps : List Statement). old ++ map (numbered words) ps) all_are
 
--- the statements of the same settings
-pub list_along : (own : List Name) (s : Indexed Tree) (words : List Name) (old new : List Code) (xs ys : List (List ℤ))
-    → xs ≡ ys → new ≡ old ++ map (numbered words) (map (instance own printed s) xs)
-    → new ≡ old ++ map (numbered words) (map (instance own printed s) ys)
-list_along own s words old new xs ys same is =
-    is ∙ ap (λ (es : List (List ℤ)). old ++ map (numbered words) (map (instance own printed s) es)) same
-
 -- ---- items without a setting
 pub empty_told : {A : Type 0} (xs : List A) → is_nothing xs ≡ (length xs == 0)
 empty_told [] = refl

@@ -55,14 +55,6 @@ module _ (r : Ends) (vs : List ℤ) (v : ℤ) (from : v ≡ value_of r.from vs) 
         (λ i. worse (none_long i) (worst (λ w. tree_found p (w ∷ vs)) (one_value i)))
         ∙ worse_nothing (tree_found p (v ∷ vs))
 
--- an expression that is no sum over a range of one value
-pub inmost_here : (p : Code) (vs : List ℤ) → IsInmost p vs p vs
-inmost_here p vs = record {
-  counted = λ limit room. refl;
-  printed = λ own. refl;
-  found = refl;
-}
-
 -- one that is
 module _ (ends : Ends) (inner : _) (whole shown last : Code) (vs us : List ℤ) (v : ℤ)
     (is : whole ≡ code.Over ends inner) (same : shown ≡ inner.value) (from : v ≡ value_of ends.from vs)

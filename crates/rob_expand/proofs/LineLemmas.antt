@@ -1,8 +1,6 @@
 -- The walks over the expressions of a line, the items of its list, and the settings of a statement.
 use Rattle.std.proofs.Common.{◌≡◌, ℕ, zero, suc, ◌+◌, ◌-◌, ◌*◌, ◌<◌, ◌≤◌, ◌==◌, Bool, true, false, List, [], ◌∷◌, ◌++◌, length, map, drop, get_or, Option, Some, None, refl, sym, ap, ◌∙◌, arith}
 use Rattle.std.specs.Prelude.{ℤ, ◌&&◌}
-use Rattle.std.proofs.Common.{◌^◌}
-use Rattle.std.proofs.Math.Nat.{mul-le-mul_left}
 use Rattle.std.proofs.lemmas.List.{at_drop_more, at_drop_all}
 use Rattle.rob_index.specs.Forms.{extensions}
 use Rattle.rob_expand.specs.declared.count.Counted.{Counted}
@@ -51,18 +49,9 @@ entries_behind : (tokens n : ℕ) → entries_tokens false tokens n ≡ n * (1 +
 entries_behind tokens zero = omega arith
 entries_behind tokens (suc n) = let h = entries_behind tokens n in omega (arith, h)
 
--- so many entries of so many tokens are a number of 64 bits
-pub product_fits : (n behind : ℕ) → n < 2 ^ 32 → behind < 2 ^ 32 → n * (2 + behind) < 2 ^ 64
-product_fits n behind h k =
-    let few : 2 + behind ≤ 4294967297 = omega (arith, k) in
-    omega (arith, mul-le-mul_left n few, h)
-
 -- the tokens of some entries, a `,` in front of each but the first of the list
 pub entries_later : (behind n : ℕ) → entries_tokens false (1 + behind) n ≡ n * (2 + behind)
 entries_later behind n = let h = entries_behind (1 + behind) n in omega (arith, h)
-
-pub entries_none : (first : Bool) (behind : ℕ) → entries_tokens first (1 + behind) 0 ≡ 0
-entries_none first behind = refl
 
 pub entries_first : (behind n : ℕ) → 0 < n → entries_tokens true (1 + behind) n ≡ n * (2 + behind) - 1
 entries_first behind zero h = absurd (omega arith)
@@ -82,18 +71,6 @@ module _ (vs : List ℤ) where
   items_step xs i first left x inside is =
       at_drop_more (λ (l : List Item). items_left first l vs left) xs i x inside
       ∙ ap (λ (y : Item). items_left first (y ∷ drop (i + 1) xs) vs left) (sym is)
-
-  pub items_more : (xs : List Item) (i : ℕ) (first : Bool) (left : ℕ) (x : Item) (entries behind : ℕ)
-      {result : Option ℕ}
-      → i < length xs → x ≡ get_or xs i x → entries ≡ length (extensions x.ranges vs)
-      → left_of (entries_tokens first (1 + x.behind) entries) left ≡ Some behind
-      → items_left first (drop i xs) vs left ≡ result
-      → items_left (first && entries == 0) (drop (i + 1) xs) vs behind ≡ result
-  items_more xs i first left x entries behind inside is count some so_far =
-      ap (λ (n : ℕ). items_left (first && n == 0) (drop (i + 1) xs) vs behind) count
-      ∙ sym (ap (λ (o : Option ℕ). after o (items_left (first && entry_count x vs == 0) (drop (i + 1) xs) vs))
-      (ap (λ (n : ℕ). left_of (entries_tokens first (1 + x.behind) n) left) (sym count) ∙ some))
-      ∙ sym (items_step xs i first left x inside is) ∙ so_far
 
   -- there is no room for its entries
   pub items_stop : (xs : List Item) (i : ℕ) (first : Bool) (left : ℕ) (x : Item) (entries : ℕ) {result : Option ℕ}

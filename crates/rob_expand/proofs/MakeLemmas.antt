@@ -46,7 +46,7 @@ use Rattle.rob_expand.specs.Placing.{placed_name, placed_tree}
 use Rattle.rob_expand.specs.Standing.{plain_at}
 use Rattle.rob_expand.specs.Growing.{printed, printed_at, over_at, item_names}
 use Rattle.rob_expand.specs.Instances.{ref_at, tree_at, set_at, each_at, member_at, instance}
-use Rattle.rob_expand.specs.Making.{number_zero, summed_of, made_parts, made_factors, made_each, entry_at, first_at, second_at, head_in, relation_in, numbers_in, budget_in}
+use Rattle.rob_expand.specs.Making.{summed_of, made_parts, made_factors, made_each, entry_at, first_at, second_at, head_in, relation_in, numbers_in, budget_in}
 use Rattle.rob_expand.specs.Statements.{IsLineOf, head_of, over_of, trees_of}
 use Rattle.rob_expand.proofs.StepLemmas.{part_is}
 use Rattle.rob_expand.proofs.TreesLemmas.{first_tree, second_tree}
@@ -94,10 +94,6 @@ one_left old (y ∷ ys) x is len len_is few =
     let behind = length-append ys (x ∷ []) in
     absurd (omega (arith, all, behind, len_is, few))
 
-pub none_left : (old : List Summand) → length old ≡ 0 → number_zero ≡ summed_of old
-none_left [] none = refl
-none_left (x ∷ xs) none = absurd (omega (arith, none))
-
 pub more_left : (old : List Summand) (len : ℕ) → len ≡ length old → 1 < len → syntax.Sum old ≡ summed_of old
 more_left [] len len_is more = absurd (omega (arith, len_is, more))
 more_left (x ∷ []) len len_is more = absurd (omega (arith, len_is, more))
@@ -111,20 +107,10 @@ summed_made words (p ∷ q ∷ ps) = refl
 
 -- ---- the expressions of a line
 module _ (own words : List Name) (vs : List ℤ) where
-  pub first_none : (ts : List Code) → length ts ≡ 0
-      → number_zero ≡ numbered_tree words (first_at own (map placed_of ts) vs)
-  first_none [] none = refl
-  first_none (t ∷ ts) none = absurd (omega (arith, none))
-
   pub first_some : (ts : List Code) (t : Code) → 0 < length ts → t ≡ get_or ts 0 t
       → numbered_tree words (printed_at own (placed_of t) vs) ≡ numbered_tree words (first_at own (map placed_of ts) vs)
   first_some [] t some is = absurd (omega (arith, some))
   first_some (x ∷ ts) t some is = ap (λ (y : Code). numbered_tree words (printed_at own (placed_of y) vs)) is
-
-  pub second_none : (ts : List Code) → length ts ≡ 0
-      → number_zero ≡ numbered_tree words (second_at own (map placed_of ts) vs)
-  second_none [] none = refl
-  second_none (t ∷ ts) none = absurd (omega (arith, none))
 
   pub second_some : (ts : List Code) → 0 < length ts
       → numbered_tree words (first_at own (map placed_of (take (length ts - 1) (drop 1 ts))) vs)

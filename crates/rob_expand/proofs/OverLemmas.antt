@@ -67,12 +67,6 @@ pub record HasEachLeft (limit : ℕ) (x : Code) (vs : List ℤ) (first : Bool) (
   pub same : each_left limit (at_value limit x vs) first run left
       ≡ each_left limit (at_value limit x vs) true all room
 
-pub each_begun : {limit : ℕ} {x : Code} {vs run all : List ℤ} {room : ℕ} → run ≡ all
-    → HasEachLeft limit x vs true run room all room
-each_begun {limit = limit} {x = x} {vs = vs} {room = room} is = record {
-  same = ap (λ (l : List ℤ). each_left limit (at_value limit x vs) true l room) is;
-}
-
 module _ {limit : ℕ} {x : Code} {vs : List ℤ} {first : Bool} {run : List ℤ} {left : ℕ} {all : List ℤ} {room : ℕ}
     (h : HasEachLeft limit x vs first run left all room) where
   module _ {value : ℤ} {new shown : List ℤ} {sign : ℕ} (is : run ≡ value ∷ new) (here : shown ≡ value ∷ vs)

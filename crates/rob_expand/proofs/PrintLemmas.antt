@@ -1,5 +1,5 @@
 -- What is printed for an index, and which names are too long.
-use Rattle.std.proofs.Common.{◌≡◌, ℕ, ◌+◌, ◌^◌, ◌<◌, ◌≤◌, Bool, true, false, List, [], ◌∷◌, length, get_or, refl, sym, ap, ◌∙◌, to_z, of_z, w64, arith}
+use Rattle.std.proofs.Common.{◌≡◌, ℕ, ◌+◌, ◌^◌, ◌<◌, ◌≤◌, Bool, true, false, List, [], ◌∷◌, length, get_or, sym, ap, ◌∙◌, to_z, of_z, w64, arith}
 use Rattle.std.specs.Prelude.{ℤ, pos, negsuc, nat_abs, int_lt, ◌≤ℤ◌, ◌<ℤ◌, ◌||◌, fold, if◌then◌else◌}
 use Rattle.std.specs.List.{flat_map, list_any}
 use Rattle.std.proofs.lemmas.Bool.{le-ltb, lt-ltb}
@@ -39,17 +39,6 @@ printed_within z low from upto is =
     ap (λ (y : ℤ). nat_abs (to_z w64 (of_z w64 y))) (is a (omega (arith, ints)))
     ∙ ap nat_abs (seen z (small_abs z a b))
     ∙ sym (ap (λ (b : Bool). chosen (b || int_lt (pos greatest_index) z) z) from ∙ ap (λ (b : Bool). chosen b z) upto)
-
-printed_small : (z : ℤ) → printed z < 2 ^ 64
-printed_small z = go (int_lt z (pos 0)) (int_lt (pos greatest_index) z) refl refl
-  where
-    go : (below over : Bool) → int_lt z (pos 0) ≡ below → int_lt (pos greatest_index) z ≡ over
-        → chosen (below || over) z < 2 ^ 64
-    go true over e f = omega arith
-    go false true e f = omega arith
-    go false false e f =
-        let small = small_abs z (lt_not z (pos 0) e) (lt_not (pos greatest_index) z f) in
-        omega (arith, small)
 
 -- ---- names
 module _ (own : List Name) (n : Named) (vs : List ℤ) where

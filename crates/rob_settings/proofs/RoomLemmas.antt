@@ -60,12 +60,6 @@ none_fits n room is = go (nat_le n room) refl
 pub none_less : (n room : ℕ) → left_of n room ≡ None → room < n
 none_less n room is = leb-false n room (none_fits n room is)
 
-pub some_within : (n room left : ℕ) → left_of n room ≡ Some left → (n ≤ room) × (left ≡ room - n)
-some_within n room left is =
-    let within = leb-true n room (some_fits n room left is) in
-    let same : Some (room - n) ≡ Some left = sym (left_some n room within) ∙ is in
-    (within, cc)
-
 -- where fewer don't fit, more don't
 pub more_crowded : (m n room : ℕ) → m ≤ n → left_of m room ≡ None → left_of n room ≡ None
 more_crowded m n room h is = let l = none_less m room is in left_none n room (omega (arith, h, l))
