@@ -3,7 +3,7 @@
 use Rattle.std.proofs.Common.{◌≡◌, ℕ, ◌-◌, ◌*◌, ◌<◌, Bool, true, false, List, [], ◌∷◌, length, Option, Some, None, refl, sym, ap, ◌∙◌, mul-pos, arith}
 use Rattle.std.specs.Prelude.{ℤ, pos, ◌||◌, nat_lt, if◌then◌else◌}
 use Rattle.std.specs.List.{list_any}
-use Rattle.std.proofs.lemmas.Bool.{false≢true, lt-ltb}
+use Rattle.std.proofs.lemmas.Bool.{false≢true, lt-ltb, or_left, or_right}
 use Rattle.rob_index.specs.Statements.{Name, Tree, Indexed, Range}
 use Rattle.rob_index.specs.Forms.{Form, Ends, length_form, from_ends, fixed, onto, values_of}
 use Rattle.rob_index.specs.Fast.{ends_of, nest_of, names_in}
@@ -128,14 +128,6 @@ places_shown (i ∷ is) left h = go (places_shown is) (search_long i 0).found re
         found_behind (search_long i left) (search_places search_long is) (λ left. so left behind)
 
 -- what is found is there
-either_first : (a b : Bool) → a ≡ true → (a || b) ≡ true
-either_first true b h = refl
-either_first false b h = absurd (false≢true h)
-
-either_last : (a b : Bool) → b ≡ true → (a || b) ≡ true
-either_last true b h = refl
-either_last false b h = h
-
 pub places_long : (is : List Inside) (left : ℕ) → (search_places search_long is left).found ≡ true
     → list_any is_long is ≡ true
 places_long [] left h = h
@@ -143,9 +135,9 @@ places_long (i ∷ is) left h = go (places_long is) (search_long i left).found r
   where
     go : ((left : ℕ) → (search_places search_long is left).found ≡ true → list_any is_long is ≡ true)
         → (t : Bool) → (search_long i left).found ≡ t → (is_long i || list_any is_long is) ≡ true
-    go so true e = either_first (is_long i) (list_any is_long is) (long_found i left e)
+    go so true e = or_left (is_long i) (list_any is_long is) (long_found i left e)
     go so false e =
-        either_last (is_long i) (list_any is_long is)
+        or_right (is_long i) (list_any is_long is)
         (so (search_long i left).left
         (sym (ap (λ (t : Bool).
         (if t then search_long i left else search_places search_long is (search_long i left).left).found) e) ∙ h))
