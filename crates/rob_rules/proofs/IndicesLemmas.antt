@@ -110,13 +110,6 @@ module _ (limit : ℕ) (words : List Name) (is_declared : ℕ → Bool) (total :
         λ i. if u i then index_unknown else (if h i then range_too_long
         else named_out limit words is_declared total s searched.left)
 
-    module _ (h : searched.found ≡ false) where
-      pub crowded_last : (b : Bool) → b ≡ (great || (search_places search_out (places s) searched.left).found)
-          → crowded ≡ (if b then index_out else too_much)
-      crowded_last b o =
-          λ i. if u i then index_unknown else (if h i then range_too_long
-          else (if sym o i then index_out else too_much))
-
   -- ---- of a line of which nothing is named but for what goes by its plain statements
   abbrev IsEarly : IndexFault → Type 0
   IsEarly f = f ≡ no_statement → ⊥
