@@ -19,11 +19,12 @@ use Rattle.rob_index.specs.Symbols as is
 use Rattle.rob_meaning.specs.Named.{AreDistinct}
 use Rattle.rob_meaning.specs.Places.{Each}
 use Rattle.rob_rules.proofs.WidenedLemmas.{declare_length}
+use Rattle.rob_parse.proofs.Chains.NameLists.{of_names}
 use Rattle.rob_parse.proofs.Names.NamedLemmas.{IsSound}
 use Rattle.rob_parse.proofs.Names.WordSetLemmas.{In, in_place, number_found, one_number}
 use Rattle.rob_parse.specs.Written.{word_of}
 use Rattle.rob_round_trip.proofs.Indexed.PlainLines.{plain_statement}
-use Rattle.rob_round_trip.proofs.Indexed.PlainNames.{line_names, of_names}
+use Rattle.rob_round_trip.proofs.Indexed.PlainNames.{line_names}
 use Rattle.rob_round_trip.proofs.Lengths.TokenPlaces.{cost}
 use Rattle.rob_round_trip.specs.Shown.{IsFoundAgain}
 use Rattle.rob_rules.specs.Chains.{IsNumber}
