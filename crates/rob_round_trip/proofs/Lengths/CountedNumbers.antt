@@ -7,6 +7,7 @@ use Rattle.rob_algebra.proofs.Parts.{neg_parts}
 use Rattle.rob_algebra.specs.Fraction.{Fraction, den_pos, neg_ℚ, of_pair}
 use Rattle.rob_algebra.specs.FractionPairs.{is_of_pair, nat_abs-times, of_pair_eq}
 use Rattle.rob_algebra.specs.Gcd as euclid
+use Rattle.rob_index.proofs.ListLemmas.{true_both}
 use Rattle.rob_index.specs.Counting.{divisor_fits, fits, minus_tokens, number_tokens, signed_tokens}
 use Rattle.rob_meaning.specs.Values.{signed as with_sign}
 use Rattle.rob_parse.specs.Building.{FitsNumber}
@@ -119,12 +120,9 @@ divisor_within : (limit : ℕ) (d : Option ℕ) → unwrap_or d 1 ≤ limit → 
 divisor_within limit None h some = refl
 divisor_within limit (Some d) h some = grind (arith, nat_tests)
 
-both_true : (a b : Bool) → a ≡ true → b ≡ true → (a && b) ≡ true
-both_true a b h k = cc
-
 pub does_fit : (limit : ℕ) (n : Numeral) → FitsNumber limit n → fits limit (seen_numeral n) ≡ true
 does_fit limit n h =
-    both_true _ _ (within limit n.numerator h.numerator) (divisor_within limit n.divisor h.divisor h.positive)
+    true_both (within limit n.numerator h.numerator) (divisor_within limit n.divisor h.divisor h.positive)
 
 -- the digits and what stands behind them
 digits_counted : (limit : ℕ) (n : Numeral) → FitsNumber limit n
