@@ -1,9 +1,9 @@
 -- Decimal digits are read as the number that they spell.
-use Rattle.std.proofs.Common.{◌≡◌, ℕ, ◌+◌, ◌*◌, ◌-◌, ◌^◌, ◌<◌, ◌≤◌, true, List, [], ◌∷◌, length, refl, ap, arith}
+use Rattle.std.proofs.Common.{◌≡◌, ℕ, ◌+◌, ◌*◌, ◌-◌, ◌^◌, ◌<◌, ◌≤◌, true, List, [], ◌∷◌, refl, ap, arith}
 use Rattle.std.specs.Prelude.{fold}
 use Rattle.std.specs.Fmt.{decimal}
 use Rattle.std.proofs.lemmas.Bool.Decides.{nat_tests}
-use Rattle.std.proofs.lemmas.Fmt.{digits_decimal, digits_value-decimal, decimal_nonempty}
+use Rattle.std.proofs.lemmas.Fmt.{digits_decimal, digits_value-decimal}
 use Rattle.std.proofs.lemmas.Str.Parse.{IsNumeralModel, IsDigitsTest, FoldsDigits, numerals_by_fold}
 use Rattle.rob_lex.specs.Bytes.{is_digit}
 use Rattle.rob_syntax.specs.Symbols.{value_of}
@@ -36,6 +36,3 @@ decimal_digits n h = digits_decimal own n h
 
 pub decimal_value : (n : ℕ) → n < 2 ^ 64 → value_of (decimal n) ≡ n
 decimal_value n h = digits_value-decimal own n h
-
-pub decimal_some : (n : ℕ) → n < 2 ^ 64 → 0 < length (decimal n)
-decimal_some n h = decimal_nonempty n h

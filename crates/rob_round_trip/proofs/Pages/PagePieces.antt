@@ -4,6 +4,7 @@ use Rattle.std.specs.Prelude.{fold, if◌then◌else◌}
 use Rattle.std.specs.Fmt.{decimal}
 use Rattle.std.proofs.lemmas.Bool.Decides.{nat_tests}
 use Rattle.std.proofs.lemmas.List.Sums.{fold-append}
+use Rattle.std.proofs.lemmas.Fmt.{decimal_nonempty}
 use Rattle.rob_lex.specs.declared.token.Kind.TheVariants as kind
 use Rattle.rob_lex.specs.declared.piece.Shape.TheVariants.{Lexeme, Gap}
 use Rattle.rob_lex.specs.Bytes.{goes_on_word, is_digit}
@@ -18,7 +19,7 @@ use Rattle.rob_write.specs.declared.page.Page.{Page}
 use Rattle.rob_write.specs.Pages.{Written, name, digits, keyword, sign, negative, line_end, keyword_text, mark_text, bytes_of, edge_behind, is_close, gap, put, put_line}
 use Rattle.rob_syntax.specs.Names.{GoesOn, IsWord}
 use Rattle.rob_round_trip.specs.Pages.{IsUsed, ended, kind_of}
-use Rattle.rob_round_trip.proofs.Pages.DigitLemmas.{AreDigits, decimal_digits, decimal_some}
+use Rattle.rob_round_trip.proofs.Pages.DigitLemmas.{AreDigits, decimal_digits}
 
 -- ---- the bytes behind an edge
 abbrev pub render : Edge → List Written → List ℕ
@@ -176,7 +177,7 @@ pub stands : (w : Written) (ws : List Written) → IsFit w
     → Stands (Lexeme (kind_of w)) (bytes_of w) (render (edge_behind w) ws)
 stands (name bytes) ws h = word_stands bytes (render Named ws) h (free Named ws tt)
 stands (digits n) ws h =
-    digits_stand (decimal n) (render Apart ws) (decimal_some n h) (decimal_digits n h)
+    digits_stand (decimal n) (render Apart ws) (decimal_nonempty n h) (decimal_digits n h)
     (digits_free (render Apart ws) (free Apart ws tt))
 stands (keyword k) ws h = word_stands (keyword_text k) (render Apart ws) (keyword_word k h) (free Apart ws tt)
 stands (sign m) ws h = sign_stands m (render (edge_behind (sign m)) ws)

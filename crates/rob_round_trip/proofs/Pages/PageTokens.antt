@@ -1,6 +1,7 @@
 -- The tokens of a page are what was written on it.
 use Rattle.std.proofs.Common.{◌≡◌, ℕ, suc, ◌+◌, ◌<◌, ◌≤◌, Bool, true, false, List, [], ◌∷◌, ◌++◌, length, get_or, map, refl, sym, ap, ◌∙◌, subst, arith}
 use Rattle.std.specs.Fmt.{decimal}
+use Rattle.std.proofs.lemmas.Fmt.{decimal_nonempty}
 use Rattle.rob_lex.specs.declared.token.Kind.{Kind}
 use Rattle.rob_lex.specs.declared.token.Kind.TheVariants as kind
 use Rattle.rob_lex.specs.declared.token.Token.{Token}
@@ -23,7 +24,7 @@ use Rattle.rob_meaning.specs.Places.{Each}
 use Rattle.rob_write.specs.Pages.{Written, name, digits, keyword, sign, negative, line_end, keyword_text, bytes_of, edge_behind, is_close, gap, blank}
 use Rattle.rob_syntax.specs.Names.{IsWord}
 use Rattle.rob_round_trip.specs.Pages.{IsToken, IsWritable, depth_behind, MayOpen, IsShallow, IsLine, ended, page_text, kind_of}
-use Rattle.rob_round_trip.proofs.Pages.DigitLemmas.{AreDigits, decimal_digits, decimal_some}
+use Rattle.rob_round_trip.proofs.Pages.DigitLemmas.{AreDigits, decimal_digits}
 use Rattle.rob_round_trip.proofs.Pages.QuietWords.{AreQuiet, IsQuiet, all_tokens, quiet_lines}
 use Rattle.rob_round_trip.proofs.Pages.SinglePlaces.{IsSingle, steps}
 use Rattle.rob_round_trip.proofs.Pages.PagePieces.{render, text_is, lines_put, IsFit, AreFit, piece_of, gap_pieces, pieces, keyword_word, stands, place}
@@ -42,7 +43,7 @@ no_deep : (d : ℕ) (w : Written) (after : List ℕ) → IsFit w → MayOpen d w
     → get_or (bytes_of w ++ after) 0 0 ≡ 40 → ⊥
 no_deep d (name bytes) after h may deep first = word_first bytes after h first
 no_deep d (digits n) after h may deep first =
-    digit_first (decimal n) after (decimal_some n h) (decimal_digits n h) first
+    digit_first (decimal n) after (decimal_nonempty n h) (decimal_digits n h) first
 no_deep d (keyword k) after h may deep first = word_first (keyword_text k) after (keyword_word k h) first
 no_deep d (sign mark.Open) after h may deep first = omega arith
 no_deep d (sign mark.Plus) after h may deep first = omega arith
