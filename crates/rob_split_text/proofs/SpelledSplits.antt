@@ -5,6 +5,7 @@ use Rattle.std.specs.Prelude.{Option, Some, None, codes}
 use Rattle.rob_algebra.specs.Fraction.{Fraction}
 use Rattle.rob_meaning.proofs.AloneLemmas.{all_taken}
 use Rattle.rob_meaning.proofs.EachLemmas.{each_append, each_both, each_left, each_map, each_right}
+use Rattle.rob_meaning.proofs.NamedLemmas.{each_unmapped}
 use Rattle.rob_meaning.specs.Named.{adaptive_names, declared_names, row_names, variable_names, written_names}
 use Rattle.rob_meaning.specs.Names.{Name}
 use Rattle.rob_meaning.specs.Places.{Each}
@@ -12,6 +13,7 @@ use Rattle.rob_meaning.specs.RobustModel.{AdaptiveVariable, Parameter, Relation,
 use Rattle.rob_meaning.specs.SetConditions.{if_declared}
 use Rattle.rob_pieces.proofs.BlockLemmas.{each_cell, each_flat, each_mapped}
 use Rattle.rob_pieces.proofs.ColumnLemmas.{written_parameters_split}
+use Rattle.rob_pieces.proofs.NamedSplitLemmas.{to_names}
 use Rattle.rob_pieces.specs.Cuts.{Cut, IsCell, cell_numbers}
 use Rattle.rob_pieces.specs.SplitModel.{bound_row, bound_rows, cell_names, cell_rows, cells_worst, copy_in, numbered, row_over, split_model}
 use Rattle.rob_parse.proofs.Names.ExpandedNames.{IsFreeWord, marked_word, word_more}
@@ -24,16 +26,7 @@ numbered_word name c small h = marked_word name c small h
 worst_free : IsFreeWord (codes "cells_worst")
 worst_free = ((refl, (refl, (refl, (refl, (refl, (refl, (refl, (refl, (refl, (refl, (refl, tt))))))))))), refl)
 
--- ---- what is said of all names of one kind
-module _ {A : Type 0} (P : Name → Type 0) (name : A → Name) where
-  of_names : (xs : List A) → Each P (map name xs) → Each (λ x. P (name x)) xs
-  of_names [] h = tt
-  of_names (x ∷ xs) h = (h.0, of_names xs h.1)
-
-  to_names : (xs : List A) → Each (λ x. P (name x)) xs → Each P (map name xs)
-  to_names [] h = tt
-  to_names (x ∷ xs) h = (h.0, to_names xs h.1)
-
+-- ---- the declared names
 module _ (m : RobustModel) (alone : m.sets ≡ []) (cuts : List Cut) (few : length cuts ≤ 3)
     (spelled : Each IsSpelled (declared_names m)) where
   abbrev s : RobustModel
@@ -65,15 +58,16 @@ module _ (m : RobustModel) (alone : m.sets ≡ []) (cuts : List Cut) (few : leng
       (each_left IsFreeWord (written_names m) _ free)
 
   of_rows : Each (λ (r : Row). IsFreeWord r.name) m.rows
-  of_rows = of_names IsFreeWord (λ (r : Row). r.name) m.rows (each_left IsFreeWord (row_names m) _ behind_sets)
+  of_rows = each_unmapped IsFreeWord (λ (r : Row). r.name) m.rows (each_left IsFreeWord (row_names m) _ behind_sets)
 
   of_variables : Each (λ (x : Variable). IsFreeWord x.name) m.variables
   of_variables =
-      of_names IsFreeWord (λ (x : Variable). x.name) m.variables (each_left IsFreeWord (variable_names m) _ behind_rows)
+      each_unmapped IsFreeWord (λ (x : Variable). x.name) m.variables
+      (each_left IsFreeWord (variable_names m) _ behind_rows)
 
   of_adaptives : Each (λ (y : AdaptiveVariable). IsFreeWord y.name) m.adaptives
   of_adaptives =
-      of_names IsFreeWord (λ (y : AdaptiveVariable). y.name) m.adaptives
+      each_unmapped IsFreeWord (λ (y : AdaptiveVariable). y.name) m.adaptives
       (each_right IsFreeWord (variable_names m) _ behind_rows)
 
   bound_names : (c k : ℕ) → IsCell cuts c → (ys : List AdaptiveVariable)
