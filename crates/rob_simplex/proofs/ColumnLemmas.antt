@@ -1,5 +1,5 @@
 -- At which position a column is basic, as its place tells.
-use Rattle.std.proofs.Common.{◌≡◌, ◌≢◌, ℕ, suc, ◌+◌, ◌-◌, ◌^◌, ◌<◌, ◌≤◌, sym, ap, ◌∙◌, arith, inl, inr, List, length, get_or, Some, None}
+use Rattle.std.proofs.Common.{◌≡◌, ℕ, suc, ◌+◌, ◌-◌, ◌^◌, ◌<◌, ◌≤◌, sym, ap, ◌∙◌, arith, inl, inr, List, length, get_or, Some, None}
 use Rattle.std.proofs.lemmas.Bool.{cases_lt}
 use lib.IntN.{ℤ}
 use Rattle.rob_simplex.specs.Dictionaries.{columns_of, basic_columns, IsSound}
@@ -44,24 +44,4 @@ module _ {limit n : ℕ} {basis places near : List ℕ} {table : List ℤ} {boun
               )
           | inr high ↦
               absurd (let x : suc (n + length basis) ≡ column = sym (basic_high n basis b.0 high) ∙ b.3 in omega arith)
-        ]
-
-  -- the auxiliary column
-  module _ (column : ℕ) (is : column ≡ n + length basis) where
-    pub auxiliary_nowhere : columns_of places column < n + 3 → (i : ℕ) → i < length basis
-        → columns_of basis i ≢ n + length basis
-    auxiliary_nowhere l i il e =
-        let p : columns_of places column ≡ n + 3 + i = ap (columns_of places) (is ∙ sym e) ∙ basic_place i il in
-        absurd (omega arith)
-
-    pub auxiliary_there : n + 3 ≤ columns_of places column → (i : ℕ) × (i < length basis)
-        × (columns_of basis i ≡ n + length basis)
-    auxiliary_there l =
-        let b = sound.placed.basic_column column (omega (arith, is)) l in
-        let bl : b.0 ≤ length basis = b.1 in
-        elim (cases_lt b.0 (length basis)) [
-          | inl low ↦ (b.0, low, sym (basic_low n basis b.0 low) ∙ b.3 ∙ is)
-          | inr high ↦
-              absurd (let x : suc (n + length basis) ≡ column =
-              sym (basic_high n basis b.0 high) ∙ b.3 in omega (arith, is))
         ]

@@ -1,5 +1,5 @@
 -- Edits of a dictionary: two positions exchanged, a column emptied, the objective's row kept and written back.
-use Rattle.std.proofs.Common.{◌≡◌, ◌≢◌, ◌⊎◌, ℕ, suc, ◌+◌, ◌^◌, ◌<◌, ◌≤◌, sym, ap, ◌∙◌, subst, arith, inl, inr, List, length, set, nat_abs}
+use Rattle.std.proofs.Common.{◌≡◌, ◌≢◌, ◌⊎◌, ℕ, suc, ◌+◌, ◌^◌, ◌<◌, ◌≤◌, sym, ap, ◌∙◌, subst, arith, inl, inr, List, length, set}
 use Rattle.std.proofs.lemmas.Bool.{cases_eq, cases_lt}
 use Rattle.std.proofs.lemmas.List.{get_or-set_same, get_or-set_other, length-set}
 use lib.IntN.{ℤ, pos}
@@ -8,7 +8,7 @@ use Rattle.rob_linear.specs.CondensedRows.{IsPlaced}
 use Rattle.rob_linear.specs.Beside.{exchanged}
 use Rattle.rob_linear.proofs.BesidePaths.{exchanged_q, exchanged_p, exchanged_other, exchanged_low}
 use Rattle.rob_linear.proofs.CondensedRows.{placed_swapped, swapped_entry}
-use Rattle.rob_table.specs.Tables.{row_at, bound_at, HasBounds}
+use Rattle.rob_table.specs.Tables.{row_at, HasBounds}
 use Rattle.rob_simplex.specs.Dictionaries.{Table, columns_of, basic_columns, right_column, read_row, rows_of, kept_row_of, IsSound, IsFree}
 use Rattle.rob_simplex.proofs.ReadRows.{read_near, read_own, read_none, read_same, basic_low, basic_high}
 
@@ -36,22 +36,6 @@ module _ {limit n : ℕ} {basis places near : List ℕ} {table : List ℤ} {boun
       (zero : (i : ℕ) → i < length basis + 1 → row_at new (n + 4) i x ≡ pos 0)
       (others : (i k : ℕ) → k < n + 4 → (length basis + 1 ≤ i) ⊎ (k ≢ x)
       → row_at new (n + 4) i k ≡ row_at table (n + 4) i k) where
-    pub emptied_bounds : length new ≡ length table → HasBounds limit (n + 4) new bounds
-    emptied_bounds ln = record {
-      size = ln ∙ sound.bounded.size;
-      within = λ i k il kl. elim (cases_lt i (length basis + 1)) [
-        | inr g ↦
-            subst (λ t. nat_abs t ≤ bound_at bounds i) (sym (others i k kl (inl g))) (sound.bounded.within i k il kl)
-        | inl l ↦ elim (cases_eq k x) [
-          | inr d ↦
-              subst (λ t. nat_abs t ≤ bound_at bounds i) (sym (others i k kl (inr d))) (sound.bounded.within i k il kl)
-          | inl e ↦
-              subst (λ t. nat_abs t ≤ bound_at bounds i) (sym (ap (row_at new (n + 4) i) e ∙ zero i l)) (omega arith)
-        ]
-      ];
-      low = sound.bounded.low;
-    }
-
     pub emptied_zero : (i : ℕ) → i ≤ length basis → rows_of (table_with new) i column ≡ pos 0
     emptied_zero i il =
         read_near (n + 3) (columns_of places) i (row_at new (n + 4) i) column (free_place column free)
@@ -77,12 +61,6 @@ module _ {limit n : ℕ} {basis places near : List ℕ} {table : List ℤ} {boun
             ∙ sym (read_none (n + 3) (columns_of places) i (row_at table (n + 4) i) c l o)
       ]
     ]
-
-    pub emptied_kept : (c : ℕ) → kept_row_of (table_with new) c ≡ kept_row_of (table_with table) c
-    emptied_kept =
-        read_same (n + 3) (columns_of places) (length basis) (row_at table (n + 4) (suc (length basis)))
-        (row_at new (n + 4) (suc (length basis)))
-        (λ k l. others (suc (length basis)) k (omega arith) (inl (omega arith)))
 
   -- ---- one row copied over another one
   pub copied_between : (from to f g : ℕ) → from ≡ f → to ≡ g → (new : List ℤ)

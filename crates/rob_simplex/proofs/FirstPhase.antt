@@ -5,7 +5,7 @@ use Rattle.std.proofs.lemmas.Bool.{cases_eq}
 use Rattle.std.proofs.lemmas.Int.{ints}
 use Rattle.std.proofs.lemmas.List.{length-set}
 use lib.IntN.{ℤ, pos, ◌*ℤ◌, neg_ℤ}
-use lib.Signed.{◌<ℤ◌, ◌≤ℤ◌}
+use lib.Signed.{◌<ℤ◌}
 use Rattle.rob_linear.specs.Programs.{Program, system_of, kept_of, auxiliary_of}
 use Rattle.rob_linear.specs.Turns.{own_of, IsSameBasis}
 use Rattle.rob_linear.specs.Paths.{Turned}
@@ -45,9 +45,6 @@ module _ {P : Program} {q : ℕ} {t : Table} (h : InBeside P q t) where
     pub column_free : IsFree t.columns t.basis column
     column_free = negative_free h column (omega (arith, low)) first.negative
 
-    pub column_not_spare : column ≢ spare_column t.columns (positions t)
-    column_not_spare e = absurd (omega (arith, size_is h, low))
-
     -- ---- row q negated
     module _ (r : Table) (rb : r.basis ≡ t.basis) (rn : r.columns ≡ t.columns)
         (rr : (c : ℕ) → rows_of r q c ≡ neg_ℤ (rows_of t q c))
@@ -62,9 +59,6 @@ module _ {P : Program} {q : ℕ} {t : Table} (h : InBeside P q t) where
       negated_free =
           subst (λ n. IsFree n r.basis column) (sym rn)
           (subst (λ (b : List ℕ). IsFree t.columns b column) (sym rb) column_free)
-
-      pub negated_not_spare : column ≢ spare_column r.columns (positions r)
-      negated_not_spare e = absurd (omega (arith, size_is h, low, rm, rn))
 
       pub negated_positive : pos 0 <ℤ rows_of r q column
       negated_positive =
@@ -358,9 +352,3 @@ module _ {P : Program} {q : ℕ} {t : Table} (h : InBeside P q t) where
                 (rank (auxiliary_of P) t.limit (beside_objective P (rows_of t'' q)))
                 (subst (λ x. rank (auxiliary_of P) t.limit (beside_objective P (rows_of t q)) < x) rank_same rank_up)
                 (rank_below (auxiliary_of P) t.limit (beside_objective P (rows_of t'' q)) within_after)))
-
--- no column comes in
-pub none_enters : (P : Program) (q : ℕ) (t : Table) → InBeside P q t
-    → ((c : ℕ) → c < t.columns + positions t → pos 0 ≤ℤ rows_of t q c) → (k : ℕ) → k < P.n + P.m
-    → pos 0 ≤ℤ rows_of t q k
-none_enters P q t h none k l = none k (omega (arith, h.rows_are, h.columns_are))

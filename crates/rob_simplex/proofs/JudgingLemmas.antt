@@ -19,8 +19,6 @@ use Rattle.rob_linear.proofs.BesideLoops.{beside_needs}
 use Rattle.rob_linear.proofs.Multiples.{parallel_positive}
 use Rattle.rob_linear.proofs.WideRows.{rows_wide_in}
 use Rattle.rob_rows.specs.PrimitiveParts.{IsWithin}
-use Rattle.rob_rows.specs.LinearPrograms.{HasNumbersWithin}
-use Rattle.rob_rows.specs.declared.program.Lp.{Lp}
 use Rattle.rob_simplex.specs.declared.state.State.TheVariants.{New}
 use Rattle.rob_simplex.specs.LowestTerms.{lowest_terms}
 use Rattle.rob_simplex.specs.Dictionaries.{Table, positions, columns_of, rows_of, right_column, spare_column}
@@ -75,15 +73,6 @@ module _ (low high : ℕ) (l : low ≤ high) where
   -- ---- what is within a limit is within a greater one
   pub within_above : (row : List ℤ) → IsWithin low row → IsWithin high row
   within_above row h i d k = let a : nat_abs (get_or row i d) ≤ low = h i d k in omega arith
-
-  pub numbers_above : (lp : Lp) → HasNumbersWithin low lp → HasNumbersWithin high lp
-  numbers_above lp h =
-      record {
-        a = λ i d k. within_above (get_or lp.a i d) (h.a i d k);
-        b = within_above lp.b h.b;
-        c =
-            within_above lp.c h.c;
-      }
 
 -- ---- a quotient that is wide is one of two entries of which one is wide in lowest terms
 told_is_wide : (limit n : ℕ) (r : Vector) (j k : ℕ) → j < n → k < n → pos 0 <ℤ r k

@@ -1,5 +1,5 @@
 -- The rows as they stand where the auxiliary column comes in.
-use Rattle.std.proofs.Common.{◌≡◌, ◌≢◌, ℕ, zero, suc, ◌+◌, ◌<◌, ◌≤◌, sym, ap, ◌∙◌, subst, arith, List, [], ◌∷◌, length, set}
+use Rattle.std.proofs.Common.{◌≡◌, ◌≢◌, ℕ, suc, ◌+◌, ◌<◌, ◌≤◌, ap, ◌∙◌, subst, arith, length}
 use lib.IntN.{pos, ◌-ℤ◌, ◌*ℤ◌}
 use lib.Signed.{◌<ℤ◌}
 use Rattle.rob_linear.specs.Vectors.{Vector, Columns}
@@ -8,7 +8,7 @@ use Rattle.rob_linear.specs.Turns.{own_of, IsSameBasis}
 use Rattle.rob_linear.specs.WideRows.{IsWideIn}
 use Rattle.rob_linear.specs.Multiples.{IsMultipleRow, IsClearedBy}
 use Rattle.rob_linear.proofs.Turns.{own_same}
-use Rattle.rob_simplex.specs.Dictionaries.{Table, positions, width_of, columns_of, rows_of, kept_row_of}
+use Rattle.rob_simplex.specs.Dictionaries.{Table, positions, width_of, rows_of, kept_row_of}
 use Rattle.rob_simplex.specs.Explicit.{IsPrepared}
 
 -- the same entries
@@ -90,9 +90,3 @@ module _ (t t1 t2 : Table) (k1 : (c : ℕ) → kept_row_of t1 c ≡ rows_of t (p
         (subst (λ m. (c : ℕ) → c < t1.columns + m + 4 → c ≢ t1.columns + m → c ≢ suc (t1.columns + m)
         → rows_of t2 m c ≡ pos 0) m1 z2);
   }
-
--- a number written where it stands
-pub set_same_twice : (xs : List ℕ) (k x : ℕ) → k < length xs → columns_of xs k ≡ x → set xs k x ≡ xs
-set_same_twice [] k x l e = absurd (omega arith)
-set_same_twice (y ∷ xs) zero x l e = ap (λ z. z ∷ xs) (sym e)
-set_same_twice (y ∷ xs) (suc k) x l e = ap (λ zs. y ∷ zs) (set_same_twice xs k x (omega arith) e)

@@ -2,7 +2,7 @@
 use Rattle.std.proofs.Common.{◌≡◌, ℕ, ◌+◌, ◌<◌, ◌≤◌, subst, arith, inl, inr, Option, Some, None}
 use Rattle.std.proofs.lemmas.Int.{ints, by_lt_z}
 use Rattle.std.proofs.lemmas.Bool.{cases_eq}
-use Rattle.std.specs.Option.{IfSome, MatchOption}
+use Rattle.std.specs.Option.{MatchOption}
 use lib.IntN.{pos}
 use lib.Signed.{◌<ℤ◌, ◌≤ℤ◌}
 use Rattle.rob_linear.specs.Vectors.{Matrix}
@@ -74,8 +74,3 @@ module _ (n m : ℕ) (rows : Matrix) (column : ℕ) where
       → MatchOption best ((i : ℕ) → i < m → rows i column ≤ℤ pos 0) (λ e. Leaves (shape n m) rows column e)
   first_of_all None f = λ j l. f j l (omega arith)
   first_of_all (Some e) f = record { inside = f.0; positive = f.1; first = λ j l. f.2 j l (omega arith) }
-
-  pub best_within : (k : ℕ) (best : Option ℕ) → IsFirstSoFar k best
-      → IfSome best (λ e. (e < m) × (pos 0 <ℤ rows e column))
-  best_within k None f = tt
-  best_within k (Some e) f = (f.0, f.1)

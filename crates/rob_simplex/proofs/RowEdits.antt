@@ -1,14 +1,11 @@
 -- A table of which one row has changed.
 use Rattle.std.proofs.Common.{◌≡◌, ◌≢◌, ℕ, ◌+◌, ◌<◌, ◌≤◌, sym, ap, ◌∙◌, subst, arith, inl, inr, List, length, take, drop, ◌++◌, nat_abs}
-use Rattle.std.proofs.lemmas.Bool.{cases_eq, cases_lt}
+use Rattle.std.proofs.lemmas.Bool.{cases_eq}
 use Rattle.std.proofs.lemmas.Int.{ints}
-use lib.IntN.{ℤ, neg_ℤ, ◌*ℤ◌}
-use Rattle.rob_algebra.specs.Integer.{mul-zero}
-use Rattle.rob_linear.specs.Vectors.{Vector, Columns}
+use lib.IntN.{ℤ, neg_ℤ}
 use Rattle.rob_entries.proofs.WrittenRows.{back_whole}
 use Rattle.rob_table.specs.Tables.{row_at, bound_at, HasBounds}
-use Rattle.rob_simplex.specs.Dictionaries.{read_row, IsSound}
-use Rattle.rob_simplex.proofs.ReadRows.{read_near, read_own, read_none}
+use Rattle.rob_simplex.specs.Dictionaries.{IsSound}
 
 -- the table and the bounds alone have changed
 pub sound_with : (limit n : ℕ) (basis places near : List ℕ) (table table' : List ℤ) (bounds bounds' : List ℕ)
@@ -56,28 +53,6 @@ pub sound_loaded : {limit n : ℕ} {basis places near : List ℕ} {table : List 
     → IsSound limit n basis places near table bounds workspace'
 sound_loaded {limit = limit} {n = n} {basis = basis} {places = places} {near = near} {table = table}
     {bounds = bounds} e h = subst (IsSound limit n basis places near table bounds) (sym e) h
-
--- ---- a row's numbers all times something
-pub read_times : (w : ℕ) (places : Columns) (i : ℕ) (d : ℤ) (r r' : Vector) → ((k : ℕ) → k ≤ w → d *ℤ r' k ≡ r k)
-    → (c : ℕ) → d *ℤ read_row w places i r' c ≡ read_row w places i r c
-read_times w places i d r r' h c = elim (cases_lt (places c) w) [
-  | inl l ↦ ap (λ t. d *ℤ t) (read_near w places i r' c l) ∙ h (places c) (omega arith)
-      ∙ sym (read_near w places i r c l)
-  | inr l ↦ elim (cases_eq (places c) (w + i)) [
-    | inl s ↦ ap (λ t. d *ℤ t) (read_own w places i r' c s) ∙ h w (omega arith) ∙ sym (read_own w places i r c s)
-    | inr o ↦ ap (λ t. d *ℤ t) (read_none w places i r' c l o) ∙ mul-zero d ∙ sym (read_none w places i r c l o)
-  ]
-]
-
-pub read_negated : (w : ℕ) (places : Columns) (i : ℕ) (r r' : Vector) → ((k : ℕ) → k ≤ w → r' k ≡ neg_ℤ (r k)) → (c : ℕ)
-    → read_row w places i r' c ≡ neg_ℤ (read_row w places i r c)
-read_negated w places i r r' h c = elim (cases_lt (places c) w) [
-  | inl l ↦ read_near w places i r' c l ∙ h (places c) (omega arith) ∙ ap neg_ℤ (sym (read_near w places i r c l))
-  | inr l ↦ elim (cases_eq (places c) (w + i)) [
-    | inl s ↦ read_own w places i r' c s ∙ h w (omega arith) ∙ ap neg_ℤ (sym (read_own w places i r c s))
-    | inr o ↦ read_none w places i r' c l o ∙ ap neg_ℤ (sym (read_none w places i r c l o))
-  ]
-]
 
 -- ---- a row changed, under its old bound
 pub kept_bounds : (limit width : ℕ) (rows new : List ℤ) (bounds : List ℕ) (i : ℕ) → HasBounds limit width rows bounds

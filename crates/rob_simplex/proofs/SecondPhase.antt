@@ -1,5 +1,5 @@
 -- A turn of the second phase on a dictionary is one of the path.
-use Rattle.std.proofs.Common.{◌≡◌, ◌≢◌, ℕ, suc, ◌+◌, ◌<◌, ◌≤◌, ◌-◌, sym, refl, ap, ◌∙◌, subst, arith, inl, inr, List, length, set, cond, nat_lt, nat_eq, zero, Some, None}
+use Rattle.std.proofs.Common.{◌≡◌, ◌≢◌, ℕ, suc, ◌+◌, ◌<◌, ◌≤◌, ◌-◌, sym, refl, ap, ◌∙◌, subst, arith, inl, inr, List, length, set, cond, nat_lt, nat_eq, zero, None}
 use Rattle.std.proofs.lemmas.Bool.{cases_eq, cases_lt}
 use Rattle.std.proofs.lemmas.Bool.Decides.{nat_tests}
 use Rattle.std.proofs.lemmas.Int.{ints}
@@ -26,7 +26,7 @@ use Rattle.rob_linear.proofs.Measure.{rank_rises, rank_below}
 use Rattle.rob_linear.proofs.Multiples.{factors_clear, pivot_wide, multiple_turn}
 use Rattle.rob_linear.proofs.Phases.{place_low, place_high}
 use Rattle.rob_entries.specs.Updates.{IsWideCleared}
-use Rattle.rob_simplex.specs.Dictionaries.{Table, positions, width_of, columns_of, basic_columns, spare_column, shape, rows_of, IsFree, IsClosed, IsPivoted, FirstNegative}
+use Rattle.rob_simplex.specs.Dictionaries.{Table, positions, width_of, columns_of, spare_column, shape, rows_of, IsFree, IsClosed, IsPivoted, FirstNegative}
 use Rattle.rob_simplex.specs.Phases.{StandsFor, TurnsOn, HasRefused, EndsIn, turns_left}
 use Rattle.rob_simplex.proofs.Ranks.{own_last, shorter, IsSmall, within_second, left_is, falls}
 use Rattle.rob_simplex.proofs.ReadRows.{basic_low, basic_high}
@@ -54,15 +54,6 @@ module _ {P : Program} {t : Table} (h : StandsFor P t) where
       let e : auxiliary_place P (own_of (system_of P) (columns_of t.basis) P.m) ≡ suc (P.n + P.m) =
       ap (auxiliary_place P) (own_last P (columns_of t.basis)) ∙ place_high P (P.n + P.m) (omega arith) in
       subst (λ k. pos 0 <ℤ rows_of t P.m k) e p
-
-  pub own_nonneg : pos 0 ≤ℤ rows_of t (positions t) (basic_columns t.columns t.basis (positions t))
-  own_nonneg =
-      let e : basic_columns t.columns t.basis (positions t) ≡ suc (P.n + P.m) =
-      basic_high t.columns t.basis (positions t) (omega arith) ∙ ap suc (omega (arith, h.rows_are, h.columns_are)) in
-      let p : pos 0 <ℤ rows_of t P.m (suc (P.n + P.m)) = objective_positive in
-      let q : pos 0 ≤ℤ rows_of t P.m (suc (P.n + P.m)) = omega (arith, ints) in
-      subst (λ i. pos 0 ≤ℤ rows_of t i (basic_columns t.columns t.basis (positions t))) (sym h.rows_are)
-      (subst (λ k. pos 0 ≤ℤ rows_of t P.m k) (sym e) q)
 
   size_is : t.columns + positions t ≡ P.n + P.m
   size_is = omega (arith, h.rows_are, h.columns_are)
@@ -368,12 +359,3 @@ pub ends_optimal : (P : Program) (t : Table) → StandsFor P t
     → ((c : ℕ) → c < t.columns + positions t → pos 0 ≤ℤ rows_of t (positions t) c) → EndsIn P None t
 ends_optimal P t h none k l =
     subst (λ i. pos 0 ≤ℤ rows_of t i k) h.rows_are (none k (omega (arith, h.rows_are, h.columns_are)))
-
-pub ends_unbounded : (P : Program) (t : Table) (column : ℕ) → StandsFor P t
-    → FirstNegative (t.columns + positions t) (rows_of t (positions t)) column
-    → ((i : ℕ) → i < positions t → rows_of t i column ≤ℤ pos 0) → EndsIn P (Some column) t
-ends_unbounded P t column h f none = (
-  subst (λ k. FirstNegative k (rows_of t P.m) column) (omega (arith, h.rows_are, h.columns_are))
-      (subst (λ i. FirstNegative (t.columns + positions t) (rows_of t i) column) h.rows_are f),
-  λ i l. none i (omega (arith, h.rows_are)),
-)

@@ -1,36 +1,18 @@
 -- Two numbers over what divides both: the same quotient, whose parts they are.
-use Rattle.std.proofs.Common.{◌≡◌, ℕ, ◌-◌, ◌^◌, ◌<◌, ◌≤◌, sym, ap, ap₂, ◌∙◌, subst, arith, inl, inr, Some, None}
+use Rattle.std.proofs.Common.{◌≡◌, ℕ, ◌-◌, ◌^◌, ◌<◌, ◌≤◌, sym, ap, ap₂, ◌∙◌, subst, arith, inl, inr}
 use Rattle.std.proofs.Math.Nat.{pos_of_dvd_of_pos}
 use Rattle.std.proofs.lemmas.Int.{ints}
 use lib.IntN.{ℤ, pos, nat_abs, ◌*ℤ◌}
 use lib.Signed.{◌<ℤ◌}
-use Rattle.rob_algebra.specs.Fraction.{Fraction, of_pair}
+use Rattle.rob_algebra.specs.Fraction.{of_pair}
 use Rattle.rob_algebra.specs.Gcd.{gcd, IsGcd-gcd}
 use Rattle.rob_algebra.specs.Integer.{mul_assoc, mul_left_comm, mul-zero}
 use Rattle.rob_algebra.specs.IntegerOrder.{mul_cancel_lt}
-use Rattle.rob_algebra.specs.Width.{Fits, IsWide, kept}
+use Rattle.rob_algebra.specs.Width.{IsWide}
 use Rattle.rob_algebra.proofs.Parts.{lowest_parts}
-use Rattle.rob_number.proofs.AnswerLaws.{ok_tells, err_tells}
 use Rattle.rob_entries.specs.Entries.{ArePartsOf}
 use Rattle.rob_simplex.specs.Judging.{AreShortParts}
 use Rattle.rob_simplex.proofs.LowestRows.{same_quotient}
-
--- what is over a limit is over a lower one
-pub wide_under : (low high : ℕ) (x : Fraction) → low ≤ high → IsWide high x → IsWide low x
-wide_under low high x l (inl w) = inl (omega arith)
-wide_under low high x l (inr w) = inr (omega arith)
-
--- the numbers themselves
-pub parts_alike : (n d p q : ℤ) → p ≡ n → q ≡ d → pos 0 <ℤ d → nat_abs p < 2 ^ 62 → nat_abs q < 2 ^ 62
-    → AreShortParts n d p q
-parts_alike n d p q en ed h ps qs =
-    record {
-      p_small = ps;
-      q_small = qs;
-      positive = subst (λ v. pos 0 <ℤ v) (sym ed) h;
-      same =
-          ap₂ (λ a b. of_pair a (nat_abs b)) en ed;
-    }
 
 module _ (n d first second : ℤ) (parts : ArePartsOf n d first second) (positive : pos 0 <ℤ d) where
   second_positive : pos 0 <ℤ second
@@ -79,10 +61,3 @@ module _ (n d first second : ℤ) (parts : ArePartsOf n d first second) (positiv
 module _ (limit : ℕ) (n d p q p' q' : ℤ) (h : AreShortParts n d p q) (ep : p' ≡ p) (eq : q' ≡ q) where
   seen : of_pair p' (nat_abs q') ≡ of_pair n (nat_abs d)
   seen = ap₂ (λ a b. of_pair a (nat_abs b)) ep eq ∙ h.same
-
-  pub answered : (y : Fraction) → Some y ≡ kept limit (of_pair p' (nat_abs q')) → (y ≡ of_pair n (nat_abs d))
-      × Fits limit (of_pair n (nat_abs d))
-  answered y e = ok_tells limit (of_pair n (nat_abs d)) y (e ∙ ap (kept limit) seen)
-
-  pub refused : None ≡ kept limit (of_pair p' (nat_abs q')) → IsWide limit (of_pair n (nat_abs d))
-  refused e = err_tells limit (of_pair n (nat_abs d)) (e ∙ ap (kept limit) seen)

@@ -1,5 +1,5 @@
 -- What a solver is after its dictionary has followed the path.
-use Rattle.std.proofs.Common.{◌≡◌, ℕ, ◌+◌, ◌^◌, ◌<◌, ◌∙◌, sym, refl, subst, arith, List, length, Option, Some, None}
+use Rattle.std.proofs.Common.{◌≡◌, ℕ, ◌+◌, ◌^◌, ◌<◌, ◌∙◌, sym, subst, arith, List, length, Option, Some, None}
 use Rattle.std.specs.Prelude.{⊤}
 use lib.IntN.{ℤ}
 use Rattle.rob_linear.specs.Vectors.{Columns}
@@ -29,26 +29,6 @@ pub ends_as : {P : Program} {start : Columns} {limit : ℕ} {t : Table} {e f : O
     → EndsFrom P start e t × Tells limit e t → EndsFrom P start f t × Tells limit f t
 ends_as {P = P} {start = start} {limit = limit} {t = t} is h =
     subst (λ x. EndsFrom P start x t × Tells limit x t) is h
-
--- ---- a new solver
-pub made_for : (P : Program) (t : Table) (w : List ℤ) → IsStartingTable P t
-    → IsMadeFor P (record { state = New; dictionary = t; weights = w })
-made_for P t w h = record { state = refl; rows = sym h.rows_are; columns = sym h.columns_are; starting = h }
-
-pub sound_new : (top limit : ℕ) (P : Program) (t : Table) (w : List ℤ) → IsStartingTable P t → t.limit ≡ top
-    → P.n + P.m < 2 ^ 31 → length w ≡ P.m → IsSound top limit (record { state = New; dictionary = t; weights = w })
-sound_new top limit P t w h el few size =
-    record {
-      limit_is = el;
-      few = omega (arith, h.columns_are, h.rows_are);
-      weights_size = size ∙ sym h.rows_are;
-      weights_within = λ e. absurd (let f : New ≡ Infeasible = e in cc);
-      own = λ x. absurd x;
-      column = omega arith;
-      growing = λ e. absurd (let f : New ≡ Unbounded 0 = e in cc);
-      objective = λ x. absurd x;
-      told = λ x. absurd x;
-    }
 
 -- it has not told anything: it is new, or has stopped
 abbrev pub untold : State → Type 0

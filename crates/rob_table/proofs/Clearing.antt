@@ -30,18 +30,6 @@ rows_apart rows new width i same j k d l =
 
 -- ---- one row more
 module _ (width e place : ℕ) (top : Vector) (pl : place < width) (rows : Matrix) where
-  pub none_cleared : AreCleared 0 width e place top rows rows
-  none_cleared = record { cleared = λ i l d. absurd (omega arith); row_stays = λ k l. refl; others = λ i k h l. refl }
-
-  -- row e stays
-  pub skip_row : (i : ℕ) (now : Matrix) → i ≡ e → AreCleared i width e place top rows now
-      → AreCleared (i + 1) width e place top rows now
-  skip_row i now s h = record {
-    cleared = λ j l d. elim (cases_eq j i) [ inl x ↦ absurd (d (x ∙ s)) | inr x ↦ h.cleared j (omega arith) d ];
-    row_stays = h.row_stays;
-    others = λ j k l kl. h.others j k (omega arith) kl;
-  }
-
   -- a row that is 0 there stays
   pub keep_row : (i : ℕ) (now : Matrix) → now i place ≡ pos 0 → AreCleared i width e place top rows now
       → AreCleared (i + 1) width e place top rows now

@@ -8,24 +8,12 @@ use Rattle.rob_table.specs.Tables.{row_at, bound_at, HasBounds}
 use Rattle.rob_table.specs.Lowering.{step_row}
 use Rattle.rob_table.proofs.Places.{set_here, set_elsewhere}
 use Rattle.rob_table.proofs.Clearing.{row_in}
-use Rattle.rob_table.proofs.LoweredRows.{step_else}
 
 step_is_one : (one place : ℕ) (number : ℤ) (k : ℕ) → k ≡ one → step_row one place number k ≡ pos 1
 step_is_one one place number k e = grind (arith, nat_tests)
 
 step_is_number : (one place : ℕ) (number : ℤ) (k : ℕ) → k ≢ one → k ≡ place → step_row one place number k ≡ number
 step_is_number one place number k d e = grind (arith, nat_tests)
-
--- the entries of a row that subtracts are within the limit
-pub step_within : (limit one place : ℕ) (number : ℤ) → 1 ≤ limit → nat_abs number ≤ limit → (k : ℕ)
-    → nat_abs (step_row one place number k) ≤ limit
-step_within limit one place number low small k = elim (cases_eq k one) [
-  | inl e ↦ subst (λ z. nat_abs z ≤ limit) (sym (step_is_one one place number k e)) low
-  | inr d ↦ elim (cases_eq k place) [
-    | inl e ↦ subst (λ z. nat_abs z ≤ limit) (sym (step_is_number one place number k d e)) small
-    | inr f ↦ subst (λ z. nat_abs z ≤ limit) (sym (step_else one place number k d f)) (omega arith)
-  ]
-]
 
 -- ---- one entry written, and the row's bound raised to it
 module _ (limit width : ℕ) (rows : List ℤ) (bounds : List ℕ) (i : ℕ) (il : i < length bounds) (place : ℕ)
