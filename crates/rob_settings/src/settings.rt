@@ -17,6 +17,13 @@ use std::alloc::Global;
 /// A setting: the values of the ranges around a place, the innermost first.
 pub type Setting = List<Whole>;
 
+/// The first and the last value of a range, at some values of those around it.
+#[derive(Drop)]
+struct EndValues {
+    from: Whole,
+    upto: Whole,
+}
+
 /// All settings of ranges, the outermost first, inside these values, the last range running fastest; or there are more
 /// than `most`.
 pub fn settings_of(
@@ -73,7 +80,14 @@ fn append_settings(
         [range, inner @ ..] => {
             let from = range.from().value(alloc, values)?;
             let upto = range.upto().value(alloc, values)?;
-            append_values(settings, alloc, from, &upto, inner, values, room)
+            append_values(
+                settings,
+                alloc,
+                EndValues { from, upto },
+                inner,
+                values,
+                room,
+            )
         }
     }
 }
@@ -83,18 +97,20 @@ fn append_settings(
 fn append_values(
     settings: &mut List<Setting>,
     alloc: Global,
-    from: Whole,
-    upto: &Whole,
+    ends: EndValues,
     inner: &[Ends],
     values: &[Whole],
     room: u32,
 ) -> Result<u32, Stop>
     ensures appended { OnOk result (settings.new
-        ≡ settings.old ++ between from upto.now inner.now values.now) }
+        ≡ settings.old ++ between ends.from ends.upto inner.now values.now) }
     ensures left { MatchResult result
-        (λ left. left_of (length (between from upto.now inner.now values.now)) room ≡ Some left)
-        (λ e. HasStop (left_of (length (between from upto.now inner.now values.now)) room) e) }
+        (λ left. left_of (length (between ends.from ends.upto inner.now values.now)) room
+        ≡ Some left)
+        (λ e. HasStop
+        (left_of (length (between ends.from ends.upto inner.now values.now)) room) e) }
 {
+    let EndValues { from, upto } = ends;
     let mut left = room;
     let mut value = from;
     'values: loop {
@@ -137,7 +153,14 @@ fn append_at(
         [range] => {
             let from = value_inside(alloc, range.from(), value, values)?;
             let upto = value_inside(alloc, range.upto(), value, values)?;
-            append_run(settings, alloc, from, &upto, value, values, room)
+            append_run(
+                settings,
+                alloc,
+                EndValues { from, upto },
+                value,
+                values,
+                room,
+            )
         }
         _ => {
             let inside = with_value(alloc, value, values)?;
@@ -150,18 +173,20 @@ fn append_at(
 fn append_run(
     settings: &mut List<Setting>,
     alloc: Global,
-    from: Whole,
-    upto: &Whole,
+    ends: EndValues,
     around: &Whole,
     values: &[Whole],
     room: u32,
 ) -> Result<u32, Stop>
     ensures appended { OnOk result (settings.new
-        ≡ settings.old ++ between from upto.now [] (around.now ∷ values.now)) }
+        ≡ settings.old ++ between ends.from ends.upto [] (around.now ∷ values.now)) }
     ensures left { MatchResult result
-        (λ left. left_of (length (between from upto.now [] (around.now ∷ values.now))) room ≡ Some left)
-        (λ e. HasStop (left_of (length (between from upto.now [] (around.now ∷ values.now))) room) e) }
+        (λ left. left_of (length (between ends.from ends.upto [] (around.now ∷ values.now))) room
+        ≡ Some left)
+        (λ e. HasStop
+        (left_of (length (between ends.from ends.upto [] (around.now ∷ values.now))) room) e) }
 {
+    let EndValues { from, upto } = ends;
     let mut left = room;
     let mut value = from;
     'values: loop {

@@ -23,71 +23,71 @@ append_settings-returns-in_ok-upto-in-len1-up-clause-left t c =
 
 pub append_values-returns-then-branch : goal.append_values-returns-then-branch
 append_values-returns-then-branch t c =
-    let e = between_none c.args.upto.now c.args.inner.now c.args.values.now c.values.value
-    (lt_from c.args.upto.now c.values.value (sym c.in_ok-is_less.ensures.less ∙ c.if-branch.true)) in
+    let e = between_none c.args.ends.upto c.args.inner.now c.args.values.now c.values.value
+    (lt_from c.args.ends.upto c.values.value (sym c.in_ok-is_less.ensures.less ∙ c.if-branch.true)) in
     let l = c.values in
     record {
-      appended = walk_made c.args.upto.now c.args.inner.now c.args.values.now l.value l.settings e l.invariant.appended;
-      left = walk_ended c.args.upto.now c.args.inner.now c.args.values.now l.value l.left e l.invariant.left;
+      appended = walk_made c.args.ends.upto c.args.inner.now c.args.values.now l.value l.settings e l.invariant.appended;
+      left = walk_ended c.args.ends.upto c.args.inner.now c.args.values.now l.value l.left e l.invariant.left;
     }
 
 pub append_values-returns-in_default : goal.append_values-returns-in_default
 append_values-returns-in_default t c =
-    let e = walk_none c.args.upto.now c.args.inner.now c.args.values.now c.values.value c.in_ok-live.field-0
+    let e = walk_none c.args.ends.upto c.args.inner.now c.args.values.now c.values.value c.in_ok-live.field-0
     c.in_default.is c.in_ok-live.ensures.live in
     let l = c.values in
     record {
-      appended = walk_made c.args.upto.now c.args.inner.now c.args.values.now l.value l.settings e l.invariant.appended;
-      left = walk_ended c.args.upto.now c.args.inner.now c.args.values.now l.value l.left e l.invariant.left;
+      appended = walk_made c.args.ends.upto c.args.inner.now c.args.values.now l.value l.settings e l.invariant.appended;
+      left = walk_ended c.args.ends.upto c.args.inner.now c.args.values.now l.value l.left e l.invariant.left;
     }
 
 pub append_values-returns-then-branch-2 : goal.append_values-returns-then-branch-2
 append_values-returns-then-branch-2 t c =
-    let some = walk_some c.args.upto.now c.args.inner.now c.args.values.now c.values.value c.in-Some.live
+    let some = walk_some c.args.ends.upto c.args.inner.now c.args.values.now c.values.value c.in-Some.live
     c.in_ok-live.field-0 c.in-Some.is c.in_ok-live.ensures.live in
-    let e = walk_over c.args.upto.now c.args.inner.now c.args.values.now c.values.value c.in-Some.live some.0 some.1
-    (lt_from c.args.upto.now c.in-Some.live (sym c.in_ok-is_less-2.ensures.less ∙ c.if-branch-2.true)) in
+    let e = walk_over c.args.ends.upto c.args.inner.now c.args.values.now c.values.value c.in-Some.live some.0 some.1
+    (lt_from c.args.ends.upto c.in-Some.live (sym c.in_ok-is_less-2.ensures.less ∙ c.if-branch-2.true)) in
     let l = c.values in
     record {
-      appended = walk_made c.args.upto.now c.args.inner.now c.args.values.now l.value l.settings e l.invariant.appended;
-      left = walk_ended c.args.upto.now c.args.inner.now c.args.values.now l.value l.left e l.invariant.left;
+      appended = walk_made c.args.ends.upto c.args.inner.now c.args.values.now l.value l.settings e l.invariant.appended;
+      left = walk_ended c.args.ends.upto c.args.inner.now c.args.values.now l.value l.left e l.invariant.left;
     }
 
 pub append_values-returns-in_err-left-clause-left : goal.append_values-returns-in_err-left-clause-left
 append_values-returns-in_err-left-clause-left t c =
-    let some = walk_some c.args.upto.now c.args.inner.now c.args.values.now c.values.value c.in-Some.live
+    let some = walk_some c.args.ends.upto c.args.inner.now c.args.values.now c.values.value c.in-Some.live
     c.in_ok-live.field-0 c.in-Some.is c.in_ok-live.ensures.live in
-    let within = lt_not c.args.upto.now c.in-Some.live (sym c.in_ok-is_less-2.ensures.less ∙ c.if-branch-2.false) in
+    let within = lt_not c.args.ends.upto c.in-Some.live (sym c.in_ok-is_less-2.ensures.less ∙ c.if-branch-2.false) in
     let p = err_from_is_err_and c.from_residual-in_err-left.result c.from_residual-in_err-left.ensures.1 in
     refused c.from_residual-in_err-left.result _
     (left_of (length (extensions c.args.inner.now (c.in-Some.live ∷ c.args.values.now))) c.values.left)
-    (left_of (length (between c.args.from c.args.upto.now c.args.inner.now c.args.values.now)) c.args.room)
+    (left_of (length (between c.args.ends.from c.args.ends.upto c.args.inner.now c.args.values.now)) c.args.room)
     c.in_err-left.field-0.0 p.0 p.1 p.2
-    (λ none. walk_stop c.args.upto.now c.args.inner.now c.args.values.now c.values.value c.in-Some.live some.0 some.1
+    (λ none. walk_stop c.args.ends.upto c.args.inner.now c.args.values.now c.values.value c.in-Some.live some.0 some.1
     c.values.left within c.values.invariant.left none)
     c.in_err-left.ensures.left
 
 pub append_values-values-smaller : goal.append_values-values-smaller
 append_values-values-smaller t c =
-    let some = walk_some c.args.upto.now c.args.inner.now c.args.values.now c.values.value c.in-Some.live
+    let some = walk_some c.args.ends.upto c.args.inner.now c.args.values.now c.values.value c.in-Some.live
     c.in_ok-live.field-0 c.in-Some.is c.in_ok-live.ensures.live in
-    walk_fewer c.args.upto.now c.args.inner.now c.args.values.now c.values.value c.in-Some.live c.in_ok-value.value
+    walk_fewer c.args.ends.upto c.args.inner.now c.args.values.now c.values.value c.in-Some.live c.in_ok-value.value
     some.0
-    (lt_not c.args.upto.now c.in-Some.live (sym c.in_ok-is_less-2.ensures.less ∙ c.if-branch-2.false))
+    (lt_not c.args.ends.upto c.in-Some.live (sym c.in_ok-is_less-2.ensures.less ∙ c.if-branch-2.false))
     c.in_ok-value.ensures.next
 
 pub append_values-values-preserved : goal.append_values-values-preserved
 append_values-values-preserved t c =
-    let some = walk_some c.args.upto.now c.args.inner.now c.args.values.now c.values.value c.in-Some.live
+    let some = walk_some c.args.ends.upto c.args.inner.now c.args.values.now c.values.value c.in-Some.live
     c.in_ok-live.field-0 c.in-Some.is c.in_ok-live.ensures.live in
-    let within = lt_not c.args.upto.now c.in-Some.live (sym c.in_ok-is_less-2.ensures.less ∙ c.if-branch-2.false) in
+    let within = lt_not c.args.ends.upto c.in-Some.live (sym c.in_ok-is_less-2.ensures.less ∙ c.if-branch-2.false) in
     record {
       appended =
-          walk_appended c.args.upto.now c.args.inner.now c.args.values.now c.values.value c.in-Some.live some.0 some.1
+          walk_appended c.args.ends.upto c.args.inner.now c.args.values.now c.values.value c.in-Some.live some.0 some.1
           c.values.settings c.append_at.new.settings c.in_ok-value.value within c.in_ok-value.ensures.next
           c.in_ok-left.ensures.appended c.values.invariant.appended;
       left =
-          walk_left c.args.upto.now c.args.inner.now c.args.values.now c.values.value c.in-Some.live some.0 some.1
+          walk_left c.args.ends.upto c.args.inner.now c.args.values.now c.values.value c.in-Some.live some.0 some.1
           c.values.left c.in_ok-left.left c.in_ok-value.value within c.in_ok-value.ensures.next
           c.in_ok-left.ensures.left c.values.invariant.left;
     }

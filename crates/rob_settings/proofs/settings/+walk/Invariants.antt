@@ -7,15 +7,15 @@ use Rattle.rob_settings.proofs.settings.+walk.Given as goal
 abbrev pub invariant-append_values-values : goal.invariant-append_values-values
 invariant-append_values-values l = record {
   appended :
-      l.settings ++ between l.value l.upto l.inner l.values
-      ≡ l.fn.settings ++ between l.fn.from l.upto l.inner l.values;
+      l.settings ++ between l.value l.fn.ends.upto l.inner l.values
+      ≡ l.fn.settings ++ between l.fn.ends.from l.fn.ends.upto l.inner l.values;
   left :
-      left_of (length (between l.value l.upto l.inner l.values)) l.left
-      ≡ left_of (length (between l.fn.from l.upto l.inner l.values)) l.room;
+      left_of (length (between l.value l.fn.ends.upto l.inner l.values)) l.left
+      ≡ left_of (length (between l.fn.ends.from l.fn.ends.upto l.inner l.values)) l.room;
 }
 
 abbrev pub decreases-append_values-values : goal.decreases-append_values-values
-decreases-append_values-values l = span l.value l.upto
+decreases-append_values-values l = span l.value l.fn.ends.upto
 
 abbrev pub decreases-append_settings : goal.decreases-append_settings
 decreases-append_settings l = 3 * length l.ranges.now
