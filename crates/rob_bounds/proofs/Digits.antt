@@ -3,7 +3,7 @@ use Rattle.std.proofs.Common.{◌≡◌, ◌≢◌, ℕ, zero, suc, ◌+◌, ◌
 use Rattle.std.proofs.Math.Nat.{pow-zero, pow-succ', mod-add-div, mul-div-le, lt_of_mul-lt-mul_left}
 use Rattle.std.proofs.lemmas.Bool.{cases_eq}
 use Rattle.std.proofs.lemmas.Bool.Decides.{nat_tests}
-use Rattle.rob_linear.proofs.Paths.{code}
+use Rattle.rob_linear.proofs.BasisPaths.Paths.{code}
 
 -- the digits of u, the last of m being that of the units
 abbrev pub digits : ℕ → ℕ → ℕ → ℕ → ℕ

@@ -8,8 +8,8 @@ use Rattle.std.specs.Int.RustNames.{unsigned_abs}
 use lib.IntN.{ℤ, pos, negsuc, ◌+ℤ◌, ◌-ℤ◌, ◌*ℤ◌, neg_ℤ}
 use Rattle.rob_algebra.specs.Integer.{ring}
 use Rattle.rob_linear.specs.Vectors.{sum_to, dot}
-use Rattle.rob_linear.proofs.Sums.{sum_ext, sum_add, sum_neg}
-use Rattle.rob_linear.proofs.Paths.{code, code_below, code_apart}
+use Rattle.rob_linear.proofs.LinearPrograms.Sums.{sum_ext, sum_add, sum_neg}
+use Rattle.rob_linear.proofs.BasisPaths.Paths.{code, code_below, code_apart}
 use Rattle.rob_bounds.specs.Bounds.{TakesTwice, HasSmallSolution}
 use Rattle.rob_bounds.proofs.Pigeonhole.{pigeonhole}
 use Rattle.rob_bounds.proofs.Digits.{digits, digits_below, digits_apart}

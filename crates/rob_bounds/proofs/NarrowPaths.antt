@@ -9,13 +9,13 @@ use Rattle.rob_linear.specs.Turns.{own_of, StandsWith}
 use Rattle.rob_linear.specs.Stages.{truncated, IsStage, IsHalfStage}
 use Rattle.rob_linear.specs.Paths.{HasAuxiliary, Reached, IsFeasibleBasis}
 use Rattle.rob_linear.specs.WideRows.{HasWideEntry, IsWideIn, IsWideStage, IsWideAt, HasWideRow, HasWideRowFrom}
-use Rattle.rob_linear.proofs.Starts.{system_tagged, auxiliary_tagged}
-use Rattle.rob_linear.proofs.Costs.{with_objective_at}
-use Rattle.rob_linear.proofs.TwoPhases.{InFirst, kept_tagged, kept_basis, turned_standing}
-use Rattle.rob_linear.proofs.Stages.{stage_basis, half_entry, half_spanned}
-use Rattle.rob_linear.proofs.Paths.{path_stands}
-use Rattle.rob_linear.proofs.Extensions.{extended, kept_extended, auxiliary_extended}
-use Rattle.rob_linear.proofs.WideRows.{wide_in_rows, wide_position, no_wide_stage, own_wide}
+use Rattle.rob_linear.proofs.BasisPaths.Starts.{system_tagged, auxiliary_tagged}
+use Rattle.rob_linear.proofs.BasisPaths.Costs.{with_objective_at}
+use Rattle.rob_linear.proofs.BasisPaths.TwoPhases.{InFirst, kept_tagged, kept_basis, turned_standing}
+use Rattle.rob_linear.proofs.CostChange.Stages.{stage_basis, half_entry, half_spanned}
+use Rattle.rob_linear.proofs.BasisPaths.Paths.{path_stands}
+use Rattle.rob_linear.proofs.BasisPaths.Extensions.{extended, kept_extended, auxiliary_extended}
+use Rattle.rob_linear.proofs.CostChange.WideRows.{wide_in_rows, wide_position, no_wide_stage, own_wide}
 use Rattle.rob_bounds.specs.Bounds.{IsOfSize, StartsWithin, IsNarrow, row_bound}
 use Rattle.rob_bounds.proofs.Sizes.{size-mul, size-sum, size-factor}
 use Rattle.rob_bounds.proofs.RowBounds.{row_within, objective_amount}

@@ -1,7 +1,7 @@
 -- A function on more numbers than it has values takes one of them twice.
 use Rattle.std.proofs.Common.{◌≡◌, ℕ, zero, suc, ◌<◌, ◌≤◌, ◌⊎◌, refl, ap, arith, inl, inr, List, [], ◌∷◌, length}
 use Rattle.std.proofs.lemmas.Bool.{cases_eq}
-use Rattle.rob_linear.proofs.Paths.{IsNew, AreDifferent, AreBelow, different_few}
+use Rattle.rob_linear.proofs.BasisPaths.Paths.{IsNew, AreDifferent, AreBelow, different_few}
 use Rattle.rob_bounds.specs.Bounds.{TakesTwice}
 
 -- f (p - 1), .., f 0

@@ -13,12 +13,12 @@ use Rattle.rob_algebra.specs.Integer.{zero-mul, *ℤ_comm, mul_assoc, mul-neg, n
 use Rattle.rob_algebra.specs.IntegerOrder.{mul_cancel_zero, mul-pos_z}
 use Rattle.rob_linear.specs.Vectors.{sum_to, dot}
 use Rattle.rob_linear.specs.Systems.{System, right, IsTagged, LiesAlong, IsPrimitive, IsBasis}
-use Rattle.rob_linear.proofs.Sums.{sum_ext}
-use Rattle.rob_linear.proofs.Solutions.{own_below, tags_in}
-use Rattle.rob_linear.proofs.Exact.{primitive_same}
-use Rattle.rob_linear.proofs.Primitive.{primitive_part}
-use Rattle.rob_linear.proofs.Unique.{row_unique}
-use Rattle.rob_linear.proofs.Extensions.{sum_of_rows, sum_of_rows-tag, sum_of_rows_spanned}
+use Rattle.rob_linear.proofs.LinearPrograms.Sums.{sum_ext}
+use Rattle.rob_linear.proofs.Bases.Solutions.{own_below, tags_in}
+use Rattle.rob_linear.proofs.Bases.Exact.{primitive_same}
+use Rattle.rob_linear.proofs.Bases.Primitive.{primitive_part}
+use Rattle.rob_linear.proofs.Bases.Unique.{row_unique}
+use Rattle.rob_linear.proofs.BasisPaths.Extensions.{sum_of_rows, sum_of_rows-tag, sum_of_rows_spanned}
 use Rattle.rob_bounds.specs.Bounds.{HasSmallSolution, StartsWithin, row_bound}
 use Rattle.rob_bounds.proofs.Sizes.{size-mul, size-neg, size-sum, size-factor}
 use Rattle.rob_bounds.proofs.Equations.{small_solution}

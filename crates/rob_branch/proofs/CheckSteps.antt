@@ -3,7 +3,7 @@ use Rattle.std.proofs.Common.{◌≡◌, ℕ, suc, ◌+◌, ◌-◌, ◌^◌, �
 use Rattle.std.proofs.lemmas.List.{map-append}
 use Rattle.std.specs.Prelude.{ℤ, nat_abs, map, Result, Ok, Err, IfOk, IfErr}
 use Rattle.rob_algebra.specs.Fraction.{Fraction}
-use Rattle.rob_meaning.proofs.EachLemmas.{each_left, each_right}
+use Rattle.rob_meaning.proofs.Lists.EachLemmas.{each_left, each_right}
 use Rattle.rob_meaning.specs.Certificates.{Status}
 use Rattle.rob_meaning.specs.RobustModel.{RobustModel}
 use Rattle.rob_number.proofs.CastLemmas.{seen_small}

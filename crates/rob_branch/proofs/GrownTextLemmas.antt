@@ -8,8 +8,8 @@ use Rattle.rob_meaning.specs.WellFormed.{IsModel}
 use Rattle.rob_reach.proofs.RuleLemmas.{rules_kept}
 use Rattle.rob_reach.specs.Ranges.{whole_rule}
 use Rattle.rob_reach.specs.Trees.{Tree}
-use Rattle.rob_tree.proofs.FitLemmas.{best_within}
-use Rattle.rob_tree.proofs.TreeLaws as laws
+use Rattle.rob_tree.proofs.Writing.FitLemmas.{best_within}
+use Rattle.rob_tree.proofs.OneText.TreeLaws as laws
 use Rattle.rob_tree.specs.Reading.{TreeFits}
 use Rattle.rob_tree.specs.Shape.{HasTreeShape}
 use Rattle.rob_tree.specs.TreeText.{IsTextOfTree, tree_text}

@@ -13,7 +13,7 @@ use Rattle.rob_reach.specs.Growing.{Search, Best, branches, start, Decides, Grow
 use Rattle.rob_reach.specs.Ranges.{whole_rule}
 use Rattle.rob_reach.specs.Trees.{Node, split, Tree, leaves}
 use Rattle.rob_tree.specs.Shape.{BranchesFit, HasTreeShape, IsShaped, KeepsParts}
-use Rattle.rob_tree.proofs.FitLemmas.{tree_fits}
+use Rattle.rob_tree.proofs.Writing.FitLemmas.{tree_fits}
 use Rattle.rob_tree.specs.View.{node_of, tree_of}
 use Rattle.rob_tree.specs.declared.tree.Tree as declared
 use Rattle.rob_branch.proofs.GrowthLemmas.{shaped_both}

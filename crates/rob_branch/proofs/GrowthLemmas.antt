@@ -2,7 +2,7 @@
 -- branch, and what is answered of both together.
 use Rattle.std.proofs.Common.{◌≡◌, ℕ, ◌+◌, ◌<◌, ◌≤◌, suc, List, [], ◌∷◌, ◌++◌, T, Bool, true, false, ap, sym, ◌∙◌, subst, arith, append_assoc, ◌⊎◌, inl, inr}
 use Rattle.std.specs.Prelude.{ℤ, Option, Some, None}
-use Rattle.rob_meaning.proofs.EachLemmas.{each_append}
+use Rattle.rob_meaning.proofs.Lists.EachLemmas.{each_append}
 use Rattle.rob_meaning.specs.Certificates.{Certificate, Status, optimal, infeasible, unbounded}
 use Rattle.rob_meaning.specs.Places.{Each}
 use Rattle.rob_meaning.specs.RobustModel.{RobustModel}

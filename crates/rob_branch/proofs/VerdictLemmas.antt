@@ -6,7 +6,7 @@ use Rattle.rob_check.proofs.ProofLaws.{proves_judged}
 use Rattle.rob_check.specs.Conditions.{verdict_of}
 use Rattle.rob_check.specs.Verdicts.{Judges}
 use Rattle.rob_check.specs.declared.verdict.Verdict.TheVariants as check
-use Rattle.rob_meaning.proofs.EachLemmas.{each_append, each_both, each_left, each_map}
+use Rattle.rob_meaning.proofs.Lists.EachLemmas.{each_append, each_both, each_left, each_map}
 use Rattle.rob_meaning.specs.Certificates.{Certificate, Status, optimal, infeasible, unbounded}
 use Rattle.rob_meaning.specs.Places.{Each}
 use Rattle.rob_meaning.specs.Proves.{Proves}

@@ -3,7 +3,7 @@ use Rattle.std.proofs.Common.{◌≡◌, ℕ, suc, ◌+◌, ◌-◌, ◌≤◌, 
 use Rattle.std.specs.Prelude.{flat_map, codes, None}
 use Rattle.std.proofs.lemmas.List.{length-map, map-append, map_push}
 use Rattle.rob_meaning.specs.Places.{tabulate}
-use Rattle.rob_meaning.proofs.TabulateLemmas.{tabulate-more}
+use Rattle.rob_meaning.proofs.Lists.TabulateLemmas.{tabulate-more}
 use Rattle.rob_meaning.specs.RobustModel.{RobustModel, in_set}
 use Rattle.rob_meaning.specs.Expressions.{variable}
 use Rattle.rob_model.specs.View.{adaptive_of, parameter_of, robust, row_of, set_line_of, variable_of}

@@ -4,7 +4,7 @@ use Rattle.std.specs.Prelude.{codes, flat_map, Option, Some, None}
 use Rattle.std.proofs.lemmas.List.{map-append, map_push}
 use Rattle.rob_algebra.specs.Fraction.{Fraction}
 use Rattle.rob_cells.proofs.BuildingLemmas.{flat_more}
-use Rattle.rob_meaning.proofs.TabulateLemmas.{tabulate-more}
+use Rattle.rob_meaning.proofs.Lists.TabulateLemmas.{tabulate-more}
 use Rattle.rob_meaning.specs.Named.{adaptive_names, declared_names, row_names, variable_names, written_names}
 use Rattle.rob_meaning.specs.Names.{Name}
 use Rattle.rob_meaning.specs.Places.{Each, tabulate}

@@ -10,12 +10,12 @@ use Rattle.rob_cells.specs.Counts.{AreCountsOf, AreSmall}
 use Rattle.rob_cells.specs.View.{cut_of}
 use Rattle.rob_cells.specs.declared.cut.Cut.{Cut}
 use Rattle.rob_cells.specs.declared.size.Counts.{Counts}
-use Rattle.rob_meaning.proofs.NameLemmas.{length-column_names, length-form_names, length-set_row_names}
+use Rattle.rob_meaning.proofs.Naming.NameLemmas.{length-column_names, length-form_names, length-set_row_names}
 use Rattle.rob_meaning.specs.Names.{column_names, form_names, set_row_names}
 use Rattle.rob_meaning.specs.RobustModel.{RobustModel, column_count}
 use Rattle.rob_meaning.specs.SetRows.{lift_count}
 use Rattle.rob_meaning.specs.Sizes.{adaptive_bounds, variable_bounds}
-use Rattle.rob_meaning.proofs.SizeLemmas.{parameter_bounds, rows_of}
+use Rattle.rob_meaning.proofs.Tables.SizeLemmas.{parameter_bounds, rows_of}
 use Rattle.rob_model.proofs.NameCountLemmas.{columns_many, kind_few}
 use Rattle.rob_model.specs.GroupNames.{parameter_bound_names}
 use Rattle.rob_model.specs.Valid.{IsValid}

@@ -9,7 +9,7 @@ use Rattle.rob_model.specs.GroupNames.{bound_names, parameter_bound_names}
 use Rattle.rob_pieces.specs.Cuts.{Cut, bit}
 use Rattle.rob_pieces.specs.SplitModel.{cell_lines, line_over, member_over, side_line, side_lines}
 use Rattle.rob_meaning.specs.Sizes.{declared_count}
-use Rattle.rob_meaning.proofs.SizeLemmas.{inequalities, length-both, line_rows, parameter_bounds, rows_of}
+use Rattle.rob_meaning.proofs.Tables.SizeLemmas.{inequalities, length-both, line_rows, parameter_bounds, rows_of}
 
 -- ---- the declared bounds of parameters
 both_names : (name : List ℕ) (lower upper : Option Fraction)

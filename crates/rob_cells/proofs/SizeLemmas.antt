@@ -8,7 +8,7 @@ use Rattle.rob_meaning.specs.Places.{tabulate}
 use Rattle.rob_meaning.specs.RobustModel.{AdaptiveVariable, RobustModel, Row, Sense, Variable, at_least, at_most, maximise, minimise}
 use Rattle.rob_meaning.specs.SetConditions.{if_declared}
 use Rattle.rob_meaning.specs.Sizes.{adaptive_bounds, variable_bounds}
-use Rattle.rob_meaning.proofs.SizeLemmas.{inequalities, length-declared, length-sides}
+use Rattle.rob_meaning.proofs.Tables.SizeLemmas.{inequalities, length-declared, length-sides}
 use Rattle.rob_pieces.specs.SplitModel.{bound_row, bound_rows, cell_rows, copy_in, cost_relation, cost_row, row_over}
 
 -- ---- one block for each cell

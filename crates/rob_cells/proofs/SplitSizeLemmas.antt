@@ -10,7 +10,7 @@ use Rattle.rob_meaning.specs.RobustModel.{RobustModel, Row, SetLine, column_coun
 use Rattle.rob_meaning.specs.SetRows as meaning
 use Rattle.rob_meaning.specs.SetRows.{lift_count, set_rows}
 use Rattle.rob_meaning.specs.Sizes.{adaptive_bounds, variable_bounds}
-use Rattle.rob_meaning.proofs.SizeLemmas.{bounds-joint, length-forms, length-row_forms, length-set_rows, parameter_bounds, rows_of}
+use Rattle.rob_meaning.proofs.Tables.SizeLemmas.{bounds-joint, length-forms, length-row_forms, length-set_rows, parameter_bounds, rows_of}
 use Rattle.rob_pieces.proofs.ColumnLemmas.{column_base, columns_count, length-names, parameters_count}
 use Rattle.rob_pieces.specs.Cuts.{Cut, cell_count}
 use Rattle.rob_pieces.specs.Pieces.{policy_columns}

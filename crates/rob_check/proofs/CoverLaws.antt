@@ -12,11 +12,11 @@ use Rattle.rob_algebra.specs.Lists.{dot_comm, length-scale, length-vec_mat, leng
 use Rattle.rob_algebra.specs.Polynomials.{lit, ◌:*◌, v0}
 use Rattle.rob_algebra.specs.Width.{kept}
 use Rattle.rob_cert.specs.Shape.{AreCoversOf, IsCoverOf}
-use Rattle.rob_meaning.proofs.ClearingLemmas.{length-tabulate}
-use Rattle.rob_meaning.proofs.CoverLemmas.{rows_shape, length-tail}
-use Rattle.rob_meaning.proofs.EachLemmas.{each_map}
-use Rattle.rob_meaning.proofs.MatrixLemmas.{length-mat_vec, matrix_height}
-use Rattle.rob_meaning.proofs.PlaceLemmas.{at-vec_mat, at-zeros, same_by_places}
+use Rattle.rob_meaning.proofs.Tables.ClearingLemmas.{length-tabulate}
+use Rattle.rob_meaning.proofs.Proving.CoverLemmas.{rows_shape, length-tail}
+use Rattle.rob_meaning.proofs.Lists.EachLemmas.{each_map}
+use Rattle.rob_meaning.proofs.Tables.MatrixLemmas.{length-mat_vec, matrix_height}
+use Rattle.rob_meaning.proofs.Lists.PlaceLemmas.{at-vec_mat, at-zeros, same_by_places}
 use Rattle.rob_meaning.specs.Certificates.{Cover}
 use Rattle.rob_meaning.specs.Clearing.{fractions}
 use Rattle.rob_meaning.specs.Forms.{head_of, matrices, matrix_at, numbers_at, parameter_part, tail_of}

@@ -12,9 +12,9 @@ use Rattle.rob_cert.specs.declared.certificate.Status.TheVariants.{Optimal, Unbo
 use Rattle.rob_cert.specs.declared.certificate.Cert.{Cert}
 use Rattle.rob_elab.specs.Forms.{IsForms}
 use Rattle.rob_elab.specs.declared.forms.Forms.{Forms}
-use Rattle.rob_meaning.proofs.EachLemmas.{each_map}
-use Rattle.rob_meaning.proofs.MatrixLemmas.{matrix_height, matrix_rows}
-use Rattle.rob_meaning.proofs.NameLemmas.{length-form_names}
+use Rattle.rob_meaning.proofs.Lists.EachLemmas.{each_map}
+use Rattle.rob_meaning.proofs.Tables.MatrixLemmas.{matrix_height, matrix_rows}
+use Rattle.rob_meaning.proofs.Naming.NameLemmas.{length-form_names}
 use Rattle.rob_meaning.specs.Certificates.{Cover, Item}
 use Rattle.rob_meaning.specs.Clearing.{fractions}
 use Rattle.rob_meaning.specs.Forms as meaning

@@ -16,7 +16,7 @@ use Rattle.rob_check.specs.Verdicts.{verdict}
 use Rattle.rob_check.specs.declared.verdict.Verdict.{Verdict}
 use Rattle.rob_check.specs.declared.verdict.Verdict.TheVariants.{Accepted}
 use Rattle.rob_check.proofs.VerdictLemmas.{goes, stops}
-use Rattle.rob_meaning.proofs.MatrixLemmas.{matrix_is}
+use Rattle.rob_meaning.proofs.Tables.MatrixLemmas.{matrix_is}
 
 module _ {N : Type 0} (value : N → Fraction) (limit : ℕ) (forms : List (List (List ℤ))) (j : ℕ) where
   -- ---- an item in a column

@@ -5,8 +5,8 @@ use Rattle.std.specs.Prelude.{Option, Some, None, if◌then◌else◌}
 use Rattle.rob_algebra.specs.Fraction.{Fraction, ◌≤ℚ◌, ◌<ℚ◌}
 use Rattle.rob_algebra.specs.FractionOrderLaws.{le_total_ℚ, not_lt_ℚ}
 use Rattle.rob_cert.specs.Shape.{IsItemOf}
-use Rattle.rob_meaning.proofs.AdmittedLemmas.{admission_law}
-use Rattle.rob_meaning.proofs.ConeLemmas.{taken_law}
+use Rattle.rob_meaning.proofs.Conditions.AdmittedLemmas.{admission_law}
+use Rattle.rob_meaning.proofs.Conditions.ConeLemmas.{taken_law}
 use Rattle.rob_meaning.specs.Certificates.{Item}
 use Rattle.rob_meaning.specs.Places.{0ℚ, 1ℚ, Each}
 use Rattle.rob_meaning.specs.Proves.{IsItem}

@@ -5,7 +5,7 @@ use Rattle.std.specs.Prelude.{Some, None, if◌then◌else◌}
 use Rattle.rob_algebra.specs.Fraction.{Fraction, ◌≤ℚ◌, ◌<ℚ◌}
 use Rattle.rob_algebra.specs.FractionOrderLaws.{le_total_ℚ, not_lt_ℚ}
 use Rattle.rob_cert.specs.Shape.{HasParts, HasShape}
-use Rattle.rob_meaning.proofs.ProvesLemmas.{certificate_true, items_tight}
+use Rattle.rob_meaning.proofs.Proving.ProvesLemmas.{certificate_true, items_tight}
 use Rattle.rob_meaning.specs.Certificates.{Certificate, Status, optimal, infeasible, unbounded}
 use Rattle.rob_meaning.specs.Forms.{plan_vector}
 use Rattle.rob_meaning.specs.Places.{0ℚ, 1ℚ, Each}

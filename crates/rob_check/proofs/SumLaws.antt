@@ -8,8 +8,8 @@ use Rattle.rob_algebra.specs.FractionOrder.{eq_ℚ-decides}
 use Rattle.rob_algebra.specs.Lists as Lists
 use Rattle.rob_algebra.specs.Lists.{length-vec_mat, length-zeros}
 use Rattle.rob_algebra.specs.Width.{kept}
-use Rattle.rob_meaning.proofs.ItemLemmas.{cuts_shape}
-use Rattle.rob_meaning.proofs.PlaceLemmas.{at-combination, at-cut, same_by_places}
+use Rattle.rob_meaning.proofs.Proving.ItemLemmas.{cuts_shape}
+use Rattle.rob_meaning.proofs.Lists.PlaceLemmas.{at-combination, at-cut, same_by_places}
 use Rattle.rob_meaning.specs.Certificates.{Item}
 use Rattle.rob_meaning.specs.Clearing.{fractions}
 use Rattle.rob_meaning.specs.Forms.{form_columns, matrices, matrix_at, plan_vector}

@@ -5,7 +5,7 @@ use Rattle.rob_algebra.specs.FractionLaws as Q
 use Rattle.rob_algebra.specs.FractionLaws.{ℚ_ring}
 use Rattle.rob_algebra.specs.Lists.{zeros, length-zeros}
 use Rattle.rob_algebra.specs.Polynomials.{lit, minus}
-use Rattle.rob_meaning.proofs.TauLemmas.{at-end}
+use Rattle.rob_meaning.proofs.Tables.TauLemmas.{at-end}
 use Rattle.rob_meaning.specs.Forms.{plan_vector}
 use Rattle.rob_meaning.specs.Places.{0ℚ, 1ℚ, at}
 use Rattle.rob_meaning.specs.Proves.{target}

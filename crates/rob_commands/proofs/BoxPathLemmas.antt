@@ -21,8 +21,8 @@ use Rattle.rob_report.proofs.SpotLemmas.{forms_spot, set_spot}
 use Rattle.rob_report.specs.Places.{IsSpotOf, IsWhereOf}
 use Rattle.rob_sets.specs.FirstWide.{IsFirstWide, IsWideThere, Judged, NothingWide, clearing, coefficients, spot_of}
 use Rattle.rob_sets.specs.SetForm.{judged_set}
-use Rattle.rob_tree.proofs.MovedShapes.{HasCountsOf, flipped, same_behind, same_self, same_through}
-use Rattle.rob_tree.proofs.SpelledLemmas.{column_inside}
+use Rattle.rob_tree.proofs.BoxShapes.MovedShapes.{HasCountsOf, flipped, same_behind, same_self, same_through}
+use Rattle.rob_tree.proofs.BoxShapes.SpelledLemmas.{column_inside}
 use Rattle.rob_tree.specs.View.{branch_of}
 use Rattle.rob_tree.specs.declared.tree.Branch as declared
 use Rattle.rob_elab.specs.Written.{judged}

@@ -12,10 +12,10 @@ use Rattle.rob_meaning.specs.Proves.{EachCovered, Proves, ProvesAs, amounts_of}
 use Rattle.rob_meaning.specs.RobustModel.{RobustModel, column_count}
 use Rattle.rob_meaning.specs.UncertaintySet.{Admits}
 use Rattle.rob_meaning.specs.WellFormed.{IsModel}
-use Rattle.rob_meaning.proofs.AdmittedLemmas.{admits_meets}
-use Rattle.rob_meaning.proofs.AtLemmas.{at_bound}
-use Rattle.rob_meaning.proofs.CoverLemmas.{covered_at}
-use Rattle.rob_meaning.proofs.LinearLemmas.{zero_le_one}
+use Rattle.rob_meaning.proofs.Conditions.AdmittedLemmas.{admits_meets}
+use Rattle.rob_meaning.proofs.Tables.AtLemmas.{at_bound}
+use Rattle.rob_meaning.proofs.Proving.CoverLemmas.{covered_at}
+use Rattle.rob_meaning.proofs.Lists.LinearLemmas.{zero_le_one}
 
 module _ (m : RobustModel) (model : IsModel m) where
   pub covered_bound : (c : Certificate) → Admits m c.inside → length c.plan ≡ column_count m → 0ℚ <ℚ c.scale

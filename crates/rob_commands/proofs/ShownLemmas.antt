@@ -1,7 +1,7 @@
 -- The leaf that shows the status of a tree that proves: its certificate, its plan, and what is printed of it.
 use Rattle.std.proofs.Common.{◌≡◌, ◌≢◌, ℕ, zero, suc, ◌+◌, ◌<◌, ◌^◌, List, [], ◌∷◌, ◌++◌, Option, Some, None, IfSome, Result, Ok, Err, IfOk, codes, refl, sym, ◌∙◌, ap, subst, arith}
 use Rattle.rob_cert.specs.Shape.{HasShape}
-use Rattle.rob_meaning.proofs.EachLemmas.{each_append}
+use Rattle.rob_meaning.proofs.Lists.EachLemmas.{each_append}
 use Rattle.rob_meaning.specs.Certificates.{Certificate, Status, optimal, infeasible, unbounded}
 use Rattle.rob_meaning.specs.Places.{Each}
 use Rattle.rob_meaning.specs.Proves.{Proves}
@@ -13,7 +13,7 @@ use Rattle.rob_reach.specs.Boxes.{box_above, box_below}
 use Rattle.rob_reach.specs.Trees.{HasLeaf, IsBestLeaf, IsEndlessLeaf, IsProved, Leaf, Node, ProvesTree, ShowsStatus, Tree, branch_count, leaf, leaf_count, node_count, leaves, left_open, split}
 use Rattle.rob_reach.specs.Verdicts.{Shows, leaf_at}
 use Rattle.rob_reach.specs.WholeStatus.{IsWholeOn}
-use Rattle.rob_tree.proofs.SpelledLemmas.{tree_spelled}
+use Rattle.rob_tree.proofs.BoxShapes.SpelledLemmas.{tree_spelled}
 use Rattle.rob_tree.specs.Shape.{IsTreeOf}
 use Rattle.rob_tree.specs.TreeText.{IsSpelledWith}
 use Rattle.rob_commands.proofs.NodeLemmas.{leaf_has, leaf_here, leaf_some, leaf_within}

@@ -10,7 +10,7 @@ use Rattle.rob_meaning.specs.RobustModel.{RobustModel}
 use Rattle.rob_meaning.specs.SetRows.{set_rows}
 use Rattle.rob_meaning.specs.UncertaintySet.{Admits}
 use Rattle.rob_meaning.specs.Vectors.{scale}
-use Rattle.rob_meaning.proofs.EachLemmas.{each_map}
+use Rattle.rob_meaning.proofs.Lists.EachLemmas.{each_map}
 use Rattle.rob_cert.specs.Shape.{IsCoverOf, IsItemOf, AreCoversOf, AreItemsOf}
 use Rattle.rob_cert.specs.declared.trace.Round.{Round as Told}
 use Rattle.rob_counterpart.specs.ReadCertificates.{plan_read, bound_read, weight_of}
@@ -18,9 +18,9 @@ use Rattle.rob_dualize.specs.Solving.{IsLastScenario}
 use Rattle.rob_runs.specs.Cuts.{Cut, IsCut, master_over}
 use Rattle.rob_runs.specs.Readings.{AreKept, GivesAmounts, covers_of_amounts, run_items, cleared_by}
 use Rattle.rob_runs.specs.Runs.{plan_at, direction_at, MasterIsOptimal, MasterIsUnbounded, MasterIsInfeasible}
-use Rattle.rob_runs.proofs.CoverLists.{covers_give_amounts}
-use Rattle.rob_runs.proofs.RunCertificates.{length-plan}
-use Rattle.rob_runs.proofs.ShapeLemmas.{covers_in, covers_in_order, items_in, items_in_order, items_count}
+use Rattle.rob_runs.proofs.Proving.CoverLists.{covers_give_amounts}
+use Rattle.rob_runs.proofs.Proving.RunCertificates.{length-plan}
+use Rattle.rob_runs.proofs.Proving.ShapeLemmas.{covers_in, covers_in_order, items_in, items_in_order, items_count}
 use Rattle.rob_algebra.specs.Lists.{length-scale}
 use Rattle.rob_algebra.specs.FractionLaws.{ℚ_ring}
 use Rattle.rob_dualize.specs.Ending.{infeasible_with}

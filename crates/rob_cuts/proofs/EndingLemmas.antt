@@ -12,7 +12,7 @@ use Rattle.rob_simplex.specs.Solutions.{point_of, dual_of, ray_of, weights_of}
 use Rattle.rob_simplex.specs.Endings.{IsOptimumOf, IsRayOf, HasWeightsFor}
 use Rattle.rob_counterpart.specs.Endings.{InfeasibleEnding}
 use Rattle.rob_counterpart.specs.ReadCertificates.{weight_of}
-use Rattle.rob_counterpart.proofs.SamePaths.{last_same}
+use Rattle.rob_counterpart.proofs.Positions.SamePaths.{last_same}
 use Rattle.rob_dualize.specs.Ending.{HasEnded}
 use Rattle.rob_dualize.proofs.EndingLemmas.{optimal_end, unbounded_end, infeasible_end, entered}
 use Rattle.rob_runs.specs.Cuts.{Cut, master_over}

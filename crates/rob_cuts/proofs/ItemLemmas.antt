@@ -6,15 +6,15 @@ use Rattle.rob_meaning.specs.Places.{tabulate}
 use Rattle.rob_cert.specs.declared.trace.Round.{Round as Told}
 use Rattle.rob_counterpart.specs.MasterItems.{weighted_kept}
 use Rattle.rob_counterpart.specs.ReadNumbers.{covers_kept}
-use Rattle.rob_counterpart.proofs.TabulateLemmas.{tabulate-same}
+use Rattle.rob_counterpart.proofs.Pairs.TabulateLemmas.{tabulate-same}
 use Rattle.rob_runs.specs.Cuts.{Cut, cut_of_number}
 use Rattle.rob_runs.specs.Readings.{of_form, by_form}
-use Rattle.rob_runs.proofs.StepLemmas.{of_form-append, weighted_kept-more}
-use Rattle.rob_sets.proofs.RowLemmas.{tabulate-more}
+use Rattle.rob_runs.proofs.Proving.StepLemmas.{of_form-append, weighted_kept-more}
+use Rattle.rob_sets.proofs.WholeRows.RowLemmas.{tabulate-more}
 use Rattle.rob_cuts.specs.Items.{item_of_cut, weighted_cuts, item_told}
 use Rattle.rob_cuts.specs.Certificates.{items_told}
 use Rattle.rob_cuts.specs.Rounds.{cut_of, cuts_told}
-use Rattle.rob_counterpart.proofs.KeptLemmas.{covers_kept-append}
+use Rattle.rob_counterpart.proofs.Proving.KeptLemmas.{covers_kept-append}
 
 -- ---- covers
 -- a set row more

@@ -9,13 +9,13 @@ use Rattle.rob_meaning.specs.RobustModel.{RobustModel}
 use Rattle.rob_meaning.specs.SetRows.{set_rows}
 use Rattle.rob_meaning.specs.WellFormed.{IsModel}
 use Rattle.rob_counterpart.specs.Splitting.{difference}
-use Rattle.rob_counterpart.proofs.TabulateLemmas.{length-tabulate}
+use Rattle.rob_counterpart.proofs.Pairs.TabulateLemmas.{length-tabulate}
 use Rattle.rob_runs.specs.Cuts.{Cut}
 use Rattle.rob_runs.specs.Readings.{IsKept, cleared_by}
 use Rattle.rob_runs.specs.Searches.{FindsRay}
 use Rattle.rob_runs.specs.Told.{TellsWorst}
-use Rattle.rob_runs.proofs.FoundLemmas.{found_value, scenario_cuts_off, ray_cuts_off}
-use Rattle.rob_runs.proofs.WholeLemmas.{factor_pos, times_pos, over_pos_out}
+use Rattle.rob_runs.proofs.Searching.FoundLemmas.{found_value, scenario_cuts_off, ray_cuts_off}
+use Rattle.rob_runs.proofs.Clearing.WholeLemmas.{factor_pos, times_pos, over_pos_out}
 use Rattle.std.specs.Prelude.{Result, Ok, Err, IfOk, IfErr, MatchResult}
 use Rattle.rob_model.specs.declared.place.Spot.TheVariants.{Clearing}
 use Rattle.rob_model.specs.declared.place.Where.TheVariants as of

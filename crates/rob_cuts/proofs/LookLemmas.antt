@@ -10,22 +10,22 @@ use Rattle.rob_meaning.specs.Forms.{plan_vector}
 use Rattle.rob_meaning.specs.Places.{0ℚ, 1ℚ, at, tabulate}
 use Rattle.rob_meaning.specs.RobustModel.{RobustModel, column_count}
 use Rattle.rob_meaning.specs.Vectors.{scale}
-use Rattle.rob_meaning.proofs.PlaceLemmas.{at-tabulate}
-use Rattle.rob_meaning.proofs.TabulateLemmas.{tabulate-more}
+use Rattle.rob_meaning.proofs.Lists.PlaceLemmas.{at-tabulate}
+use Rattle.rob_meaning.proofs.Lists.TabulateLemmas.{tabulate-more}
 use Rattle.rob_model.specs.declared.plan.Plan.{Plan}
 use Rattle.rob_counterpart.specs.Counterpart.{robust_of}
 use Rattle.rob_counterpart.specs.ReadCertificates.{plan_read, bound_read}
 use Rattle.rob_counterpart.specs.ReadNumbers.{differences}
 use Rattle.rob_counterpart.specs.Splitting.{difference, plus, minus, OneIsZero}
-use Rattle.rob_counterpart.proofs.MasterLemmas.{master_is}
-use Rattle.rob_counterpart.proofs.TabulateLemmas.{tabulate-same, length-tabulate, scale-tabulate}
-use Rattle.rob_counterpart.proofs.SplitLemmas.{point_opposite, move_opposite, master_pair}
+use Rattle.rob_counterpart.proofs.Searching.MasterLemmas.{master_is}
+use Rattle.rob_counterpart.proofs.Pairs.TabulateLemmas.{tabulate-same, length-tabulate, scale-tabulate}
+use Rattle.rob_counterpart.proofs.Pairs.SplitLemmas.{point_opposite, move_opposite, master_pair}
 use Rattle.rob_runs.specs.Cuts.{Cut, cuts_of, master_over, wholes}
 use Rattle.rob_runs.specs.Readings.{cleared_by}
 use Rattle.rob_runs.specs.Runs.{plan_at, direction_at, MasterIsOptimal, MasterIsUnbounded}
 use Rattle.rob_runs.specs.Searches.{own_at}
 use Rattle.rob_runs.specs.Spots.{IsWideCleared}
-use Rattle.rob_runs.proofs.WholeLemmas.{wholes-scale, length-wholes}
+use Rattle.rob_runs.proofs.Clearing.WholeLemmas.{wholes-scale, length-wholes}
 use Rattle.rob_elab.specs.Forms.{IsForms}
 use Rattle.rob_elab.specs.declared.forms.Forms.{Forms}
 use Rattle.rob_cert.specs.declared.ending.Stop.{Stop}

@@ -20,11 +20,11 @@ use Rattle.rob_counterpart.specs.Master.{cut_entry as entry_of_cut}
 use Rattle.rob_counterpart.specs.Reform.{pairs, tau_cost}
 use Rattle.rob_counterpart.specs.SamePrograms.{AreSame}
 use Rattle.rob_counterpart.specs.Splitting.{signed_entry}
-use Rattle.rob_counterpart.proofs.TabulateLemmas.{length-tabulate}
+use Rattle.rob_counterpart.proofs.Pairs.TabulateLemmas.{length-tabulate}
 use Rattle.rob_dualize.proofs.TabulateLemmas.{item-tabulate}
 use Rattle.rob_runs.specs.Cuts.{Cut, cut_of_number, cuts_of, master_over}
 use Rattle.rob_runs.specs.Spots.{cut_term}
-use Rattle.rob_runs.proofs.SumLemmas.{cut_is_master_entry}
+use Rattle.rob_runs.proofs.Clearing.SumLemmas.{cut_is_master_entry}
 use Rattle.rob_dualize.specs.Wholes.{cost_of}
 use Rattle.rob_cuts.specs.Master.{cut_number, plan_pairs, cut_entry, cut_row, cut_right, IsMasterList, AddsCut}
 

@@ -13,13 +13,13 @@ use Rattle.rob_rows.specs.LinearPrograms.{HasNumbersWithin}
 use Rattle.rob_rows.specs.PrimitiveParts.{IsWithin}
 use Rattle.rob_counterpart.specs.Counterpart.{sign_of}
 use Rattle.rob_counterpart.specs.Splitting.{signed_entry}
-use Rattle.rob_counterpart.proofs.TabulateLemmas.{length-tabulate}
+use Rattle.rob_counterpart.proofs.Pairs.TabulateLemmas.{length-tabulate}
 use Rattle.rob_dualize.proofs.CounterpartLists.{signed_small}
 use Rattle.rob_dualize.proofs.TabulateLemmas.{item-tabulate}
-use Rattle.rob_counterpart.proofs.ReformPlaces.{signed_even, signed_odd, half_even, half_odd}
+use Rattle.rob_counterpart.proofs.Positions.ReformPlaces.{signed_even, signed_odd, half_even, half_odd}
 use Rattle.rob_runs.specs.Cuts.{Cut}
 use Rattle.rob_runs.specs.Spots.{HasWidePrefix}
-use Rattle.rob_sets.proofs.RowLemmas.{tabulate-more}
+use Rattle.rob_sets.proofs.WholeRows.RowLemmas.{tabulate-more}
 use Rattle.rob_dualize.specs.Wholes.{cost_of}
 use Rattle.rob_dualize.proofs.SetProgramLemmas.{negated_within}
 use Rattle.rob_cuts.specs.Master.{cut_number, cut_entry}

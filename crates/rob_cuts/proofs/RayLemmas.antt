@@ -10,11 +10,11 @@ use Rattle.rob_algebra.proofs.Signs.{zero_num}
 use Rattle.rob_linear.specs.Vectors as V
 use Rattle.rob_meaning.specs.Clearing.{denominator, MakesWhole, whole_at}
 use Rattle.rob_meaning.specs.Places.{0ℚ, at, Each}
-use Rattle.rob_meaning.proofs.LeastLemmas.{denominator_least}
+use Rattle.rob_meaning.proofs.Lists.LeastLemmas.{denominator_least}
 use Rattle.rob_runs.specs.Cuts.{wholes}
 use Rattle.rob_runs.specs.Spots.{SomeWide}
-use Rattle.rob_runs.proofs.DenominatorLemmas.{denominator_bounded}
-use Rattle.rob_runs.proofs.WholeLemmas.{length-wholes}
+use Rattle.rob_runs.proofs.Clearing.DenominatorLemmas.{denominator_bounded}
+use Rattle.rob_runs.proofs.Clearing.WholeLemmas.{length-wholes}
 use Rattle.rob_sets.specs.FirstWide.{Some_of}
 use Rattle.rob_worst.proofs.StopLemmas.{some_at}
 

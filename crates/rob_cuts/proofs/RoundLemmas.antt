@@ -37,8 +37,8 @@ use Rattle.rob_runs.specs.Cuts.{Cut, master_over}
 use Rattle.rob_runs.specs.Readings.{AreKept, covers_of_amounts, cleared_by}
 use Rattle.rob_runs.specs.Runs.{plan_at, direction_at, best, boundless, KeepsForms, CutsOff, MasterIsOptimal, MasterIsUnbounded, MasterIsInfeasible}
 use Rattle.rob_runs.specs.Spots.{LooksAt}
-use Rattle.rob_runs.proofs.FoundLemmas.{found_keeps}
-use Rattle.rob_runs.proofs.RunCertificates.{length-direction_at}
+use Rattle.rob_runs.proofs.Searching.FoundLemmas.{found_keeps}
+use Rattle.rob_runs.proofs.Proving.RunCertificates.{length-direction_at}
 use Rattle.rob_cuts.specs.Certificates.{CoveredPlan, optimal_with, unbounded_with, items_told}
 use Rattle.rob_cuts.specs.Master.{IsMasterList}
 use Rattle.rob_cuts.specs.Rounds.{round_told, cut_of, cuts_told, CutFits, TellsRun}

@@ -30,7 +30,7 @@ use Rattle.rob_cuts.specs.Solving.{AreOfModel, FitsRoute}
 use Rattle.rob_cuts.proofs.StopLemmas.{IsWideThere, stops_also, sum_place}
 use Rattle.rob_cuts.proofs.MasterLemmas.{cut_added}
 use Rattle.rob_cuts.proofs.RunLemmas.{cuts-more, tells_more, rounds_few, limit_is, next_form, fits_alone}
-use Rattle.rob_meaning.proofs.EachLemmas.{each_push}
+use Rattle.rob_meaning.proofs.Lists.EachLemmas.{each_push}
 
 -- no round yet
 pub state_none : {limit : ℕ} {forms : Forms} {set : SetForm} {run : Run} → 1 ≤ limit → IsMasterList forms [] run.master

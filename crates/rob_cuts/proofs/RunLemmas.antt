@@ -13,14 +13,14 @@ use Rattle.rob_elab.specs.declared.forms.Forms.{Forms}
 use Rattle.rob_sets.specs.SetForm.{IsSetForm, cleared_row}
 use Rattle.rob_sets.specs.declared.set_form.SetForm.{SetForm}
 use Rattle.rob_counterpart.specs.MasterItems.{cut_item, weighted_kept}
-use Rattle.rob_counterpart.proofs.TabulateLemmas.{tabulate-same}
+use Rattle.rob_counterpart.proofs.Pairs.TabulateLemmas.{tabulate-same}
 use Rattle.rob_runs.specs.Cuts.{Cut, IsCut, cut_of_number, cuts_of}
 use Rattle.rob_runs.specs.Readings.{by_form, run_items}
 use Rattle.rob_runs.specs.Runs.{Round, IsRound, trace_cuts}
 use Rattle.rob_runs.specs.Searches.{basic_cut_limit}
-use Rattle.rob_runs.proofs.CutLemmas.{each_numbered, vector_numbered}
-use Rattle.rob_runs.proofs.ProgressLemmas.{run_cuts, run_more, round_cut}
-use Rattle.rob_runs.proofs.FinishedRuns.{run_few}
+use Rattle.rob_runs.proofs.Rounds.CutLemmas.{each_numbered, vector_numbered}
+use Rattle.rob_runs.proofs.Rounds.ProgressLemmas.{run_cuts, run_more, round_cut}
+use Rattle.rob_runs.proofs.Rounds.FinishedRuns.{run_few}
 use Rattle.rob_cuts.specs.Items.{item_of_cut}
 use Rattle.rob_cuts.specs.Certificates.{items_told}
 use Rattle.rob_cuts.specs.Runs.{round_limit}

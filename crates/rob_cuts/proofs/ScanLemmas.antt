@@ -12,7 +12,7 @@ use Rattle.rob_meaning.specs.WellFormed.{IsModel}
 use Rattle.rob_cert.specs.View.{cover_of}
 use Rattle.rob_cert.specs.declared.certificate.Cover.{Cover as TheCover}
 use Rattle.rob_counterpart.specs.ReadNumbers.{covers_kept}
-use Rattle.rob_counterpart.proofs.TabulateLemmas.{length-tabulate}
+use Rattle.rob_counterpart.proofs.Pairs.TabulateLemmas.{length-tabulate}
 use Rattle.rob_elab.specs.Forms.{IsForms}
 use Rattle.rob_elab.specs.declared.forms.Forms.{Forms}
 use Rattle.rob_sets.specs.SetForm.{IsSetForm}
@@ -24,8 +24,8 @@ use Rattle.rob_cert.specs.declared.ending.Stop.{Stop}
 use Rattle.rob_cert.specs.declared.ending.Stop.TheVariants.{EmptySet, Wide, Memory}
 use Rattle.rob_runs.specs.Runs.{KeepsForm}
 use Rattle.rob_runs.specs.Spots.{ComesTo}
-use Rattle.rob_runs.proofs.FoundLemmas.{found_keeps}
-use Rattle.rob_runs.proofs.StepLemmas.{covers_up_to-more, covers_up_to-same}
+use Rattle.rob_runs.proofs.Searching.FoundLemmas.{found_keeps}
+use Rattle.rob_runs.proofs.Proving.StepLemmas.{covers_up_to-more, covers_up_to-same}
 use Rattle.rob_worst.specs.Finding.{IsWideAt, HasSearchCause, Tells}
 use Rattle.rob_worst.proofs.VectorLemmas.{plan_count, step_count}
 use Rattle.rob_cuts.specs.declared.cut.Cut.{Cut as Made}

@@ -25,9 +25,9 @@ use Rattle.rob_runs.specs.Cuts.{Cut}
 use Rattle.rob_runs.specs.Readings.{IsReadOff}
 use Rattle.rob_runs.specs.Runs.{Round, trace_cuts}
 use Rattle.rob_runs.specs.Spots.{RunSpot, set_row, master_row, search_row, clearing, cost, cut_clearing, cut_sum, IsWideAfter}
-use Rattle.rob_runs.proofs.FinishedRuns.{read_off_finished}
-use Rattle.rob_runs.proofs.ProgressLemmas.{run_cuts}
-use Rattle.rob_runs.proofs.RunCertificates.{read_off_proves}
+use Rattle.rob_runs.proofs.Rounds.FinishedRuns.{read_off_finished}
+use Rattle.rob_runs.proofs.Rounds.ProgressLemmas.{run_cuts}
+use Rattle.rob_runs.proofs.Proving.RunCertificates.{read_off_proves}
 use Rattle.rob_dualize.specs.SetSolving.{HasSetCause, IsWideInSet}
 use Rattle.rob_dualize.specs.Solving.{HasScenario}
 use Rattle.rob_dualize.specs.Wholes.{HoldsOfEach}

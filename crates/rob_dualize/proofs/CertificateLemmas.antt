@@ -17,10 +17,10 @@ use Rattle.rob_counterpart.specs.Endings.{InfeasibleEnding}
 use Rattle.rob_counterpart.specs.ReadCertificates.{weight_of}
 use Rattle.rob_counterpart.specs.Splitting.{difference, plus, minus, OneIsZero}
 use Rattle.rob_counterpart.specs.Reform.{reform, pairs, block, positive_row, negative_row}
-use Rattle.rob_counterpart.proofs.Blocks.{block_in}
-use Rattle.rob_counterpart.proofs.PairNumbers.{point_one, dual_one, weight_one, unbounded_point_one, move_one}
-use Rattle.rob_counterpart.proofs.ReformPlaces.{reform_is}
-use Rattle.rob_counterpart.proofs.TabulateLemmas.{length-tabulate}
+use Rattle.rob_counterpart.proofs.Pairs.Blocks.{block_in}
+use Rattle.rob_counterpart.proofs.Pairs.PairNumbers.{point_one, dual_one, weight_one, unbounded_point_one, move_one}
+use Rattle.rob_counterpart.proofs.Positions.ReformPlaces.{reform_is}
+use Rattle.rob_counterpart.proofs.Pairs.TabulateLemmas.{length-tabulate}
 use Rattle.rob_dualize.specs.Ending.{HasEnded}
 use Rattle.rob_dualize.specs.Numbers.{told, KeepPairs, KeepRows}
 use Rattle.rob_counterpart.specs.ReadNumbers.{differences, covers_to, items_to}

@@ -12,7 +12,7 @@ use Rattle.rob_meaning.specs.Places.{0ℚ, 1ℚ}
 use Rattle.rob_meaning.specs.RobustModel.{RobustModel, column_count}
 use Rattle.rob_meaning.specs.UncertaintySet.{Admits}
 use Rattle.rob_meaning.specs.WellFormed.{IsModel}
-use Rattle.rob_meaning.proofs.EachLemmas.{each_map, each_both}
+use Rattle.rob_meaning.proofs.Lists.EachLemmas.{each_map, each_both}
 use Rattle.rob_number.specs.declared.lp_kind.LpKind.{LpKind}
 use Rattle.rob_number.specs.declared.lp_kind.LpKind.TheVariants as kind
 use Rattle.rob_simplex.specs.Dictionaries.{columns_of}
@@ -24,10 +24,10 @@ use Rattle.rob_counterpart.specs.Reform.{block}
 use Rattle.rob_counterpart.specs.Counterpart.{robust_of, counterpart}
 use Rattle.rob_counterpart.specs.Endings.{OptimalEnding, InfeasibleEnding, UnboundedEnding}
 use Rattle.rob_counterpart.specs.ReadCertificates.{weight_of, optimal_read, infeasible_read, unbounded_read}
-use Rattle.rob_counterpart.proofs.CertificateLemmas.{read_optimal_proves, read_infeasible_proves, read_unbounded_proves, optimal_is_read, infeasible_is_read, unbounded_is_read}
-use Rattle.rob_counterpart.proofs.SamePaths.{own_same, own_auxiliary_same, last_same, optimal_same, infeasible_same, unbounded_same}
-use Rattle.rob_counterpart.proofs.SameSystems.{systems_same}
-use Rattle.rob_counterpart.proofs.TabulateLemmas.{length-tabulate}
+use Rattle.rob_counterpart.proofs.Proving.CertificateLemmas.{read_optimal_proves, read_infeasible_proves, read_unbounded_proves, optimal_is_read, infeasible_is_read, unbounded_is_read}
+use Rattle.rob_counterpart.proofs.Positions.SamePaths.{own_same, own_auxiliary_same, last_same, optimal_same, infeasible_same, unbounded_same}
+use Rattle.rob_counterpart.proofs.Positions.SameSystems.{systems_same}
+use Rattle.rob_counterpart.proofs.Pairs.TabulateLemmas.{length-tabulate}
 use Rattle.rob_counterpart.specs.Splitting.{difference}
 use Rattle.rob_dualize.specs.Ending.{HasEnded, read_from}
 use Rattle.rob_counterpart.specs.ReadNumbers.{covers_to, items_to}

@@ -10,13 +10,13 @@ use Rattle.rob_counterpart.specs.Counterpart.{cell}
 use Rattle.rob_counterpart.specs.RobustProgram.{RobustProgram, entry}
 use Rattle.rob_counterpart.specs.Splitting.{signed_entry}
 use Rattle.rob_counterpart.specs.Reform.{pairs, plan_entry, multiplier_entry, row_entry}
-use Rattle.rob_counterpart.proofs.ReformPlaces.{where_less}
+use Rattle.rob_counterpart.proofs.Positions.ReformPlaces.{where_less}
 use Rattle.rob_sets.specs.declared.set_form.SetForm.{SetForm}
 use Rattle.rob_sets.specs.declared.set_form.SetRow.{SetRow}
 use Rattle.rob_elab.specs.declared.forms.Forms.{Forms}
 use Rattle.rob_dualize.specs.Wholes.{AreSound, IsSound}
 use Rattle.rob_dualize.proofs.CounterpartLists.{in_multipliers, outside_multipliers}
-use Rattle.rob_meaning.proofs.MatrixLemmas.{matrix_is as matrix_item}
+use Rattle.rob_meaning.proofs.Tables.MatrixLemmas.{matrix_is as matrix_item}
 use Rattle.rob_dualize.specs.SetProgram.{left_sides, right_sides}
 
 -- a machine number that is small is what it is read as

@@ -24,8 +24,8 @@ use Rattle.rob_counterpart.specs.Reform.{reform, block}
 use Rattle.rob_counterpart.specs.SamePrograms.{AreSame}
 use Rattle.rob_counterpart.specs.SetPrograms.{set_of}
 use Rattle.rob_counterpart.specs.Splitting.{plus, minus, OneIsZero}
-use Rattle.rob_counterpart.proofs.SetLemmas.{over_set_is, cost_is}
-use Rattle.rob_counterpart.proofs.SplitLemmas.{point_opposite, set_pair}
+use Rattle.rob_counterpart.proofs.Sets.SetLemmas.{over_set_is, cost_is}
+use Rattle.rob_counterpart.proofs.Pairs.SplitLemmas.{point_opposite, set_pair}
 use Rattle.rob_dualize.specs.Ending.{HasLastPoint, HasEnded, IsSolvedAs, IsStoppedAt, IsStoppedAs, read_from, position_of}
 use Rattle.rob_dualize.specs.Refusals.{IsRefusedAt}
 use Rattle.rob_elab.specs.Elaborated.{AreElaborated}

@@ -12,8 +12,8 @@ use Rattle.rob_meaning.specs.Places.{1ℚ}
 use Rattle.rob_meaning.specs.Proves.{HasStatus}
 use Rattle.rob_meaning.specs.UncertaintySet.{Admits}
 use Rattle.rob_meaning.specs.WellFormed.{IsModel}
-use Rattle.rob_meaning.proofs.WorkedNotation.{int, cover, item, best}
-use Rattle.rob_meaning.proofs.WorkedTests.{found, test_model, test_admits, test_certificate}
+use Rattle.rob_meaning.proofs.ByHand.WorkedNotation.{int, cover, item, best}
+use Rattle.rob_meaning.proofs.ByHand.WorkedTests.{found, test_model, test_admits, test_certificate}
 use Rattle.rob_counterpart.specs.Counterpart.{set_program, counterpart}
 use Rattle.rob_model.specs.declared.place.Spot.{Spot}
 use Rattle.rob_dualize.specs.SmallestModel.{one_demand}

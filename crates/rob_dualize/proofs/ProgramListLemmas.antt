@@ -4,7 +4,7 @@ use Rattle.std.proofs.lemmas.List.{length-map, get_or_default}
 use lib.IntN.{ℤ, pos, nat_abs}
 use Rattle.rob_linear.specs.Vectors.{at}
 use Rattle.rob_meaning.specs.Places.{Each}
-use Rattle.rob_meaning.proofs.EachLemmas.{each_at}
+use Rattle.rob_meaning.proofs.Lists.EachLemmas.{each_at}
 use Rattle.rob_rows.specs.PrimitiveParts.{IsWithin}
 use Rattle.rob_rows.specs.LinearPrograms.{IsShaped, HasNumbersWithin, program_of}
 use Rattle.rob_rows.specs.declared.program.Lp.{Lp}

@@ -15,19 +15,19 @@ use Rattle.rob_algebra.specs.Polynomials.{lit, ◌:-◌, v0, v1}
 use Rattle.rob_algebra.specs.FractionOrder.{eq_ℚ, eq_ℚ-decides}
 use Rattle.rob_meaning.specs.Certificates.{Cover, Item}
 use Rattle.rob_meaning.specs.Places.{0ℚ, 1ℚ, at, tabulate}
-use Rattle.rob_meaning.proofs.PlaceLemmas.{at-tabulate}
+use Rattle.rob_meaning.proofs.Lists.PlaceLemmas.{at-tabulate}
 use Rattle.rob_cert.specs.View.{cover_of, item_of}
 use Rattle.rob_cert.specs.declared.certificate.Cover.{Cover as TheCover}
 use Rattle.rob_cert.specs.declared.certificate.Item.{Item as TheItem}
 use Rattle.rob_counterpart.specs.RobustProgram.{RobustProgram}
 use Rattle.rob_counterpart.specs.Splitting.{difference, plus, minus, OneIsZero}
 use Rattle.rob_counterpart.specs.Reform.{multiplier, positive_row, negative_row, constant_row, block, pairs}
-use Rattle.rob_counterpart.proofs.Blocks.{block_in}
-use Rattle.rob_counterpart.proofs.TabulateLemmas.{tabulate-same}
-use Rattle.rob_sets.proofs.RowLemmas.{tabulate-more}
+use Rattle.rob_counterpart.proofs.Pairs.Blocks.{block_in}
+use Rattle.rob_counterpart.proofs.Pairs.TabulateLemmas.{tabulate-same}
+use Rattle.rob_sets.proofs.WholeRows.RowLemmas.{tabulate-more}
 use Rattle.rob_dualize.specs.Numbers.{told}
 use Rattle.rob_counterpart.specs.ReadNumbers.{differences, cover_at, covers_at, covers_to, vector_at, item_at, items_to, concat, covers_kept, items_kept, all_zero}
-use Rattle.rob_counterpart.proofs.KeptLemmas.{covers_kept-append}
+use Rattle.rob_counterpart.proofs.Proving.KeptLemmas.{covers_kept-append}
 
 -- ---- covers, one after another
 concat-next : (xs : List (List Cover)) (ys : List Cover) → concat (xs ++ ys ∷ []) ≡ concat xs ++ ys

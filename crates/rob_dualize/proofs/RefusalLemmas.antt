@@ -12,14 +12,14 @@ use Rattle.rob_linear.specs.Systems.{System, IsPrimitive}
 use Rattle.rob_linear.specs.Turns.{own_of}
 use Rattle.rob_linear.specs.Vectors.{Columns}
 use Rattle.rob_linear.specs.WideRows.{HasWideRow, TellsWideRow}
-use Rattle.rob_linear.proofs.LastBases.{last_ends}
-use Rattle.rob_linear.proofs.Optimality.{farkas, optimal_ending, unbounded_ending}
-use Rattle.rob_linear.proofs.Truths.{infeasible}
+use Rattle.rob_linear.proofs.BasisPaths.LastBases.{last_ends}
+use Rattle.rob_linear.proofs.Meaning.Optimality.{farkas, optimal_ending, unbounded_ending}
+use Rattle.rob_linear.proofs.Meaning.Truths.{infeasible}
 use Rattle.rob_counterpart.specs.Endings.{slack_entries, OptimalEnding, InfeasibleEnding, UnboundedEnding}
 use Rattle.rob_counterpart.specs.SamePrograms.{AreSame}
-use Rattle.rob_counterpart.proofs.CompletenessLemmas.{optimal_exists, unbounded_exists}
-use Rattle.rob_counterpart.proofs.SamePaths.{infeasible_same, last_same, own_auxiliary_same, wide_row_same}
-use Rattle.rob_counterpart.proofs.SameSystems.{systems_same}
+use Rattle.rob_counterpart.proofs.Proving.CompletenessLemmas.{optimal_exists, unbounded_exists}
+use Rattle.rob_counterpart.proofs.Positions.SamePaths.{infeasible_same, last_same, own_auxiliary_same, wide_row_same}
+use Rattle.rob_counterpart.proofs.Positions.SameSystems.{systems_same}
 use Rattle.rob_simplex.specs.declared.state.LpStop.{LpStop}
 use Rattle.rob_simplex.specs.declared.state.LpStop.TheVariants.{Wide as At}
 use Rattle.rob_simplex.specs.Dictionaries.{Table, columns_of, rows_of, FirstNegative}

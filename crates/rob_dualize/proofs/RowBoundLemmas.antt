@@ -11,7 +11,7 @@ use Rattle.rob_bounds.specs.Bounds.{IsOfSize, IsNarrow, row_bound}
 use Rattle.rob_counterpart.specs.Reform.{reform}
 use Rattle.rob_counterpart.specs.RobustProgram.{RobustProgram}
 use Rattle.rob_counterpart.specs.SamePrograms.{AreSame}
-use Rattle.rob_counterpart.proofs.SamePaths.{same_back}
+use Rattle.rob_counterpart.proofs.Positions.SamePaths.{same_back}
 use Rattle.rob_narrow.specs.NarrowPrograms.{IsGreatest}
 use Rattle.rob_narrow.proofs.Numbers.{program_sized}
 use Rattle.rob_rows.specs.declared.program.Lp.{Lp}

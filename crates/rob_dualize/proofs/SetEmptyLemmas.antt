@@ -7,21 +7,21 @@ use Rattle.rob_linear.specs.Systems.{IsBasis, Feasible}
 use Rattle.rob_linear.specs.Turns.{own_of}
 use Rattle.rob_linear.specs.Paths.{Last, EndsAtOptimum, EndsAtRay, EndsInFirstPhase}
 use Rattle.rob_linear.specs.Optimality.{IsFeasible, IsInfeasible, IsOptimal, IsBasicPoint}
-use Rattle.rob_linear.proofs.Truths.{infeasible}
-use Rattle.rob_linear.proofs.Optimality.{farkas, optimal_ending, unbounded_ending}
-use Rattle.rob_linear.proofs.LastBases.{last_ends, last_exists}
+use Rattle.rob_linear.proofs.Meaning.Truths.{infeasible}
+use Rattle.rob_linear.proofs.Meaning.Optimality.{farkas, optimal_ending, unbounded_ending}
+use Rattle.rob_linear.proofs.BasisPaths.LastBases.{last_ends, last_exists}
 use Rattle.rob_meaning.specs.RobustModel.{RobustModel}
 use Rattle.rob_meaning.specs.UncertaintySet.{Admits, IsEmptySet}
 use Rattle.rob_meaning.specs.WellFormed.{IsModel}
-use Rattle.rob_meaning.proofs.EmptyLemmas.{shows_empty}
+use Rattle.rob_meaning.proofs.Conditions.EmptyLemmas.{shows_empty}
 use Rattle.rob_counterpart.specs.Counterpart.{set_program}
 use Rattle.rob_counterpart.specs.Endings.{slack_entries, InfeasibleEnding, OptimalEnding, UnboundedEnding}
 use Rattle.rob_counterpart.specs.ReadCertificates.{scenario_read, weights_read}
 use Rattle.rob_counterpart.specs.SamePrograms.{AreSame}
-use Rattle.rob_counterpart.proofs.CompletenessLemmas.{optimal_exists, unbounded_exists}
-use Rattle.rob_counterpart.proofs.SamePaths.{infeasible_same}
-use Rattle.rob_counterpart.proofs.SameSystems.{systems_same}
-use Rattle.rob_counterpart.proofs.ScenarioLemmas.{set_weights, basis_admitted}
+use Rattle.rob_counterpart.proofs.Proving.CompletenessLemmas.{optimal_exists, unbounded_exists}
+use Rattle.rob_counterpart.proofs.Positions.SamePaths.{infeasible_same}
+use Rattle.rob_counterpart.proofs.Positions.SameSystems.{systems_same}
+use Rattle.rob_counterpart.proofs.Sets.ScenarioLemmas.{set_weights, basis_admitted}
 
 module _ (m : RobustModel) (model : IsModel m) (P : Program) (same : AreSame P (set_program m)) where
   scenario : (own : Columns) (rows : Matrix) (x : ℕ → Fraction) → IsBasis (system_of P) own rows

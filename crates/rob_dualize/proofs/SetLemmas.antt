@@ -25,8 +25,8 @@ use Rattle.rob_counterpart.specs.Counterpart.{set_program}
 use Rattle.rob_counterpart.specs.ReadCertificates.{scenario_read}
 use Rattle.rob_counterpart.specs.SamePrograms.{AreSame}
 use Rattle.rob_counterpart.specs.Splitting.{plus, minus, OneIsZero}
-use Rattle.rob_counterpart.proofs.SameSystems.{over_set_same}
-use Rattle.rob_counterpart.proofs.SetLemmas.{over_set_is, cost_is}
+use Rattle.rob_counterpart.proofs.Positions.SameSystems.{over_set_same}
+use Rattle.rob_counterpart.proofs.Sets.SetLemmas.{over_set_is, cost_is}
 use Rattle.rob_sets.specs.SetForm.{IsSetForm, RowFits, cleared_row}
 use Rattle.rob_sets.specs.declared.set_form.SetRow.{SetRow}
 use Rattle.rob_sets.specs.declared.set_form.SetForm.{SetForm}

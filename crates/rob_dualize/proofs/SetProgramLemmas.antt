@@ -10,18 +10,18 @@ use Rattle.rob_meaning.specs.Places.{Each, tabulate}
 use Rattle.rob_meaning.specs.RobustModel.{RobustModel}
 use Rattle.rob_meaning.specs.SetRows as meaning
 use Rattle.rob_meaning.specs.SetRows.{set_rows, set_column_count, lift_count, bound_rows, statement_rows, coefficients, row_denominator, whole_row, whole_limit}
-use Rattle.rob_meaning.proofs.ClearingLemmas.{length-tabulate}
+use Rattle.rob_meaning.proofs.Tables.ClearingLemmas.{length-tabulate}
 use Rattle.rob_model.specs.Limits.{IsWithinLimits}
 use Rattle.rob_counterpart.specs.Counterpart.{robust_of, set_program, cell}
 use Rattle.rob_counterpart.specs.SamePrograms.{AreSame}
 use Rattle.rob_counterpart.specs.Splitting.{plus, minus}
-use Rattle.rob_counterpart.proofs.SameSystems.{over_set_same}
+use Rattle.rob_counterpart.proofs.Positions.SameSystems.{over_set_same}
 use Rattle.rob_sets.specs.SetForm.{IsSetForm, RowFits, cleared_row}
 use Rattle.rob_sets.specs.declared.set_form.SetForm.{SetForm}
 use Rattle.rob_sets.specs.declared.set_form.SetRow.{SetRow}
-use Rattle.rob_sets.proofs.BoundRowLemmas.{bounds_many}
-use Rattle.rob_sets.proofs.StatementLemmas.{statements_many}
-use Rattle.rob_sets.proofs.ListLemmas.{take_one_more}
+use Rattle.rob_sets.proofs.WholeRows.BoundRowLemmas.{bounds_many}
+use Rattle.rob_sets.proofs.WholeRows.StatementLemmas.{statements_many}
+use Rattle.rob_sets.proofs.Cells.ListLemmas.{take_one_more}
 use Rattle.rob_dualize.specs.SetProgram.{HasWholeRows, IsOverRobust, robust_set, in_pairs, left_sides, right_sides}
 
 -- ---- numbers in pairs

@@ -6,11 +6,11 @@ use Rattle.rob_meaning.specs.Certificates.{Cover, Item, IsBefore}
 use Rattle.rob_meaning.specs.Places.{0ℚ, Each, tabulate, InOrder}
 use Rattle.rob_counterpart.specs.RobustProgram.{RobustProgram}
 use Rattle.rob_counterpart.specs.Reform.{positive_row, negative_row}
-use Rattle.rob_counterpart.proofs.TabulateLemmas.{length-tabulate}
+use Rattle.rob_counterpart.proofs.Pairs.TabulateLemmas.{length-tabulate}
 use Rattle.rob_counterpart.specs.ReadNumbers.{cover_at, covers_at, covers_to, vector_at, item_at, items_to, items_kept, concat, all_zero}
-use Rattle.rob_counterpart.proofs.KeptOrder.{ordered_concat, each_concat, kept_ordered, kept_nonzero, kept_each}
-use Rattle.rob_meaning.proofs.OrderLemmas.{ordered_tabulate}
-use Rattle.rob_meaning.proofs.TabulateLemmas.{each_tabulate}
+use Rattle.rob_counterpart.proofs.Proving.KeptOrder.{ordered_concat, each_concat, kept_ordered, kept_nonzero, kept_each}
+use Rattle.rob_meaning.proofs.Lists.OrderLemmas.{ordered_tabulate}
+use Rattle.rob_meaning.proofs.Lists.TabulateLemmas.{each_tabulate}
 
 -- ---- what is kept of a list
 items_each : (P : Item → Type 0) (is : List Item) → Each P is → Each P (items_kept is)

@@ -4,7 +4,7 @@ use Rattle.std.proofs.lemmas.List.{length-map}
 use Rattle.rob_meaning.specs.Forms.{matrix_of, forms}
 use Rattle.rob_meaning.specs.RobustModel.{RobustModel}
 use Rattle.rob_meaning.specs.SetRows.{set_rows}
-use Rattle.rob_meaning.proofs.NameLemmas.{length-form_names, length-set_row_names}
+use Rattle.rob_meaning.proofs.Naming.NameLemmas.{length-form_names, length-set_row_names}
 use Rattle.rob_model.specs.Limits.{IsWithinLimits}
 use Rattle.rob_model.specs.declared.group.Kind.TheVariants.{Form, SetRow}
 use Rattle.rob_model.proofs.NameCountLemmas.{kind_few}

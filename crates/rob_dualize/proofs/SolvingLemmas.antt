@@ -19,8 +19,8 @@ use Rattle.rob_meaning.specs.RobustModel.{RobustModel}
 use Rattle.rob_meaning.specs.SetRows.{set_rows}
 use Rattle.rob_meaning.specs.UncertaintySet.{Admits}
 use Rattle.rob_meaning.specs.WellFormed.{IsModel}
-use Rattle.rob_meaning.proofs.EmptyInLemmas.{shows_empty_in}
-use Rattle.rob_meaning.proofs.EmptyLemmas.{shows_empty}
+use Rattle.rob_meaning.proofs.Conditions.EmptyInLemmas.{shows_empty_in}
+use Rattle.rob_meaning.proofs.Conditions.EmptyLemmas.{shows_empty}
 use Rattle.rob_model.specs.declared.place.Spot.{Spot}
 use Rattle.rob_model.specs.declared.place.Program.{Program as Named}
 use Rattle.rob_model.specs.declared.place.Program.TheVariants as named
@@ -38,11 +38,11 @@ use Rattle.rob_cert.specs.declared.ending.Stop.TheVariants.{EmptySet, Wide, Memo
 use Rattle.rob_counterpart.specs.Counterpart.{set_program, counterpart}
 use Rattle.rob_counterpart.specs.Endings.{InfeasibleEnding}
 use Rattle.rob_counterpart.specs.ReadCertificates.{weight_of, weights_read, scenario_read}
-use Rattle.rob_counterpart.proofs.SamePaths.{last_same}
-use Rattle.rob_counterpart.proofs.SameSystems.{systems_same}
-use Rattle.rob_counterpart.proofs.OwnSetLemmas.{weights_in}
-use Rattle.rob_counterpart.proofs.ScenarioLemmas.{set_weights, basis_admitted}
-use Rattle.rob_counterpart.proofs.TabulateLemmas.{tabulate-same}
+use Rattle.rob_counterpart.proofs.Positions.SamePaths.{last_same}
+use Rattle.rob_counterpart.proofs.Positions.SameSystems.{systems_same}
+use Rattle.rob_counterpart.proofs.Sets.OwnSetLemmas.{weights_in}
+use Rattle.rob_counterpart.proofs.Sets.ScenarioLemmas.{set_weights, basis_admitted}
+use Rattle.rob_counterpart.proofs.Pairs.TabulateLemmas.{tabulate-same}
 use Rattle.rob_dualize.specs.Ending.{HasEnded, HasLastPoint, IsWideStop, StopsAt}
 use Rattle.rob_dualize.specs.Refusals.{IsRefusedAt}
 use Rattle.rob_dualize.specs.SetSolving.{Finds, HasSetCause}

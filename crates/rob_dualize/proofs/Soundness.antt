@@ -13,7 +13,7 @@ use Rattle.rob_meaning.specs.Places.{Each}
 use Rattle.rob_meaning.specs.RobustModel.{RobustModel, Sense, minimise, maximise, column_count}
 use Rattle.rob_meaning.specs.SetRows as meaning
 use Rattle.rob_meaning.specs.SetRows.{set_rows, set_column_count, whole_row, whole_limit}
-use Rattle.rob_meaning.proofs.MatrixLemmas.{matrix_height, matrix_rows}
+use Rattle.rob_meaning.proofs.Tables.MatrixLemmas.{matrix_height, matrix_rows}
 use Rattle.rob_sets.specs.SetForm.{cleared_row, IsSetForm, RowFits, SetFits}
 use Rattle.rob_sets.specs.declared.set_form.SetForm.{SetForm}
 use Rattle.rob_sets.specs.declared.set_form.SetRow.{SetRow}
@@ -23,7 +23,7 @@ use Rattle.rob_elab.specs.Forms.{FormsFit, IsForms, MatrixFits}
 use Rattle.rob_elab.specs.declared.forms.Forms.{Forms}
 use Rattle.rob_counterpart.specs.RobustProgram.{RobustProgram}
 use Rattle.rob_counterpart.specs.Counterpart.{cell, sign_of, robust_of}
-use Rattle.rob_counterpart.proofs.ModelLemmas.{set_shape}
+use Rattle.rob_counterpart.proofs.Sets.ModelLemmas.{set_shape}
 use Rattle.rob_dualize.specs.SetProgram.{left_sides, right_sides}
 use Rattle.rob_dualize.specs.Told.{CanBeTold}
 use Rattle.rob_dualize.specs.Wholes.{wholes, counterpart_of, AreSound, IsFew, IsSound}

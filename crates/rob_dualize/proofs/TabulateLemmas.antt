@@ -4,9 +4,9 @@ use Rattle.std.specs.Prelude.{slice_index_or}
 use Rattle.std.proofs.lemmas.List.{get_or_default}
 use Rattle.rob_algebra.specs.Fraction.{Fraction}
 use Rattle.rob_meaning.specs.Places.{Each, tabulate}
-use Rattle.rob_meaning.proofs.EachLemmas.{each_append}
+use Rattle.rob_meaning.proofs.Lists.EachLemmas.{each_append}
 use Rattle.rob_simplex.specs.Dictionaries.{columns_of}
-use Rattle.rob_sets.proofs.RowLemmas.{tabulate-more, pushed}
+use Rattle.rob_sets.proofs.WholeRows.RowLemmas.{tabulate-more, pushed}
 
 -- the item at a place
 pub item-tabulate : {A : Type 0} (n : ℕ) (f : ℕ → A) (k : ℕ) (d : A) → k < n → slice_index_or (tabulate n f) k d ≡ f k

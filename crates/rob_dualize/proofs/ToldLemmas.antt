@@ -9,8 +9,8 @@ use Rattle.rob_linear.specs.Programs.{Program}
 use Rattle.rob_meaning.specs.Places.{tabulate}
 use Rattle.rob_counterpart.specs.RobustProgram.{RobustProgram}
 use Rattle.rob_counterpart.specs.Reform.{pairs, block, multiplier, row_entry, right_entry, reform}
-use Rattle.rob_counterpart.proofs.Blocks.{at_block}
-use Rattle.rob_counterpart.proofs.TabulateLemmas.{length-tabulate}
+use Rattle.rob_counterpart.proofs.Pairs.Blocks.{at_block}
+use Rattle.rob_counterpart.proofs.Pairs.TabulateLemmas.{length-tabulate}
 use Rattle.rob_dualize.specs.Told.{listed}
 use Rattle.rob_dualize.proofs.CounterpartLists.{IsListed}
 use Rattle.rob_dualize.proofs.EntryLemmas.{zero_before, zero_behind}

@@ -16,10 +16,10 @@ use Rattle.rob_sets.specs.Tables.{numbers_of}
 use Rattle.rob_sets.specs.Tabulating.{IsTableOf}
 use Rattle.rob_sets.specs.declared.error.ElabErr.{ElabErr}
 use Rattle.rob_sets.specs.declared.table.Table.{Table as TableData}
-use Rattle.rob_sets.proofs.JudgedLemmas.{stops_right}
-use Rattle.rob_sets.proofs.ListLemmas.{each_none}
-use Rattle.rob_sets.proofs.PartedLemmas.{Parted}
-use Rattle.rob_sets.proofs.ProgressLemmas.{Progress, ends, ends_with, numbered_go_on, numbered_stop}
+use Rattle.rob_sets.proofs.Judging.JudgedLemmas.{stops_right}
+use Rattle.rob_sets.proofs.Cells.ListLemmas.{each_none}
+use Rattle.rob_sets.proofs.Cells.PartedLemmas.{Parted}
+use Rattle.rob_sets.proofs.Judging.ProgressLemmas.{Progress, ends, ends_with, numbered_go_on, numbered_stop}
 use Rattle.rob_elab.specs.Appending.{Appends, AppendsTable}
 use Rattle.rob_elab.specs.Forms.{MatrixFits, judged_from}
 

@@ -7,7 +7,7 @@ use Rattle.rob_meaning.specs.Forms.{difference}
 use Rattle.rob_meaning.specs.SetConditions.{if_declared}
 use Rattle.rob_model.specs.View.{expression_of}
 use Rattle.rob_model.specs.declared.expr.Expr.TheVariants.{Number}
-use Rattle.rob_sets.proofs.LeafLemmas.{number_is}
+use Rattle.rob_sets.proofs.Expressions.LeafLemmas.{number_is}
 
 module _ (e : Expression) where
   -- the forms of a bound that may be declared

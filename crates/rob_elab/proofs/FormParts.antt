@@ -4,8 +4,8 @@ use Rattle.std.specs.Prelude.{ℕ, zero, List, [], ◌∷◌, ◌++◌}
 use Rattle.rob_meaning.specs.Expressions.{Expression}
 use Rattle.rob_meaning.specs.Forms.{adaptive_forms, forms, objective_form, row_forms, tau_column, variable_forms}
 use Rattle.rob_meaning.specs.RobustModel.{RobustModel}
-use Rattle.rob_sets.proofs.PartedLemmas.{parted}
-use Rattle.rob_sets.proofs.ProgressLemmas.{begins}
+use Rattle.rob_sets.proofs.Cells.PartedLemmas.{parted}
+use Rattle.rob_sets.proofs.Judging.ProgressLemmas.{begins}
 use Rattle.rob_elab.proofs.AppendLemmas.{AppendsForms, FormProgress, Matrices, forms_go_on}
 
 module _ (m : RobustModel) where

@@ -11,10 +11,10 @@ use Rattle.rob_model.specs.declared.model.Adaptive.{Adaptive}
 use Rattle.rob_model.specs.declared.model.RowDef.{RowDef}
 use Rattle.rob_model.specs.declared.model.Var.{Var}
 use Rattle.rob_model.specs.declared.expr.Expr.TheVariants as Is
-use Rattle.rob_sets.proofs.BoundRowLemmas.{length-declared}
-use Rattle.rob_sets.proofs.PartedLemmas.{Parted}
-use Rattle.rob_sets.proofs.LeafLemmas.{adaptive_is, variable_is}
-use Rattle.rob_sets.proofs.ListLemmas.{length-both}
+use Rattle.rob_sets.proofs.WholeRows.BoundRowLemmas.{length-declared}
+use Rattle.rob_sets.proofs.Cells.PartedLemmas.{Parted}
+use Rattle.rob_sets.proofs.Expressions.LeafLemmas.{adaptive_is, variable_is}
+use Rattle.rob_sets.proofs.Cells.ListLemmas.{length-both}
 use Rattle.rob_model.proofs.NameCountLemmas.{columns_many}
 
 -- ---- how many

@@ -12,8 +12,8 @@ use Rattle.rob_sets.specs.Subexpressions.{subexpressions}
 use Rattle.rob_sets.specs.Tables.{numbers_of}
 use Rattle.rob_sets.specs.Tabulating.{IsTableOf}
 use Rattle.rob_sets.specs.declared.table.Table.{Table}
-use Rattle.rob_sets.proofs.DifferenceLemmas.{some_of_left, some_of_right}
-use Rattle.rob_sets.proofs.TabulatingLemmas.{leaf_is}
+use Rattle.rob_sets.proofs.Expressions.DifferenceLemmas.{some_of_left, some_of_right}
+use Rattle.rob_sets.proofs.Expressions.TabulatingLemmas.{leaf_is}
 
 -- what is wide in the objective is wide in its form
 pub in_objective : (P : Expression → Type 0) (sense : Sense) (e tau : Expression) → Some_of P (subexpressions e)

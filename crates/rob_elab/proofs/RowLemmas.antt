@@ -6,13 +6,13 @@ use Rattle.rob_algebra.specs.Fraction.{Fraction}
 use Rattle.rob_meaning.specs.Clearing.{denominator, entries, lcm, whole_at}
 use Rattle.rob_meaning.specs.Coefficients.{Table}
 use Rattle.rob_meaning.specs.Places.{Each, tabulate}
-use Rattle.rob_meaning.proofs.EachLemmas.{each_append}
+use Rattle.rob_meaning.proofs.Lists.EachLemmas.{each_append}
 use Rattle.rob_elab.specs.Forms.{MatrixFits, rows_of}
 use Rattle.rob_sets.specs.FirstWide.{IsWideCleared, Some_of}
 use Rattle.rob_sets.specs.declared.error.Stop.{Stop}
-use Rattle.rob_sets.proofs.ClearingSteps.{denominator-first, denominator-more, whole_none}
-use Rattle.rob_sets.proofs.ListLemmas.{append-nil, some_left, some_right}
-use Rattle.rob_sets.proofs.RowLemmas.{tabulate-more}
+use Rattle.rob_sets.proofs.WholeRows.ClearingSteps.{denominator-first, denominator-more, whole_none}
+use Rattle.rob_sets.proofs.Cells.ListLemmas.{append-nil, some_left, some_right}
+use Rattle.rob_sets.proofs.WholeRows.RowLemmas.{tabulate-more}
 
 -- ---- the common denominator
 -- lists that grow, and what each grows by

@@ -1,8 +1,8 @@
 -- A model is written, or a number of it is wide: its sets decide before its forms.
 use Rattle.std.proofs.Common.{ℕ}
 use Rattle.rob_meaning.specs.RobustModel.{RobustModel}
-use Rattle.rob_meaning.proofs.EachLemmas.{each_append}
-use Rattle.rob_sets.proofs.JudgedLemmas.{first_left, first_right}
+use Rattle.rob_meaning.proofs.Lists.EachLemmas.{each_append}
+use Rattle.rob_sets.proofs.Judging.JudgedLemmas.{first_left, first_right}
 use Rattle.rob_sets.specs.FirstWide.{HasCause, IsWideThere, NothingWide}
 use Rattle.rob_sets.specs.SetForm.{judged_set}
 use Rattle.rob_sets.specs.declared.error.ElabErr.{ElabErr}

@@ -13,7 +13,7 @@ use Rattle.rob_algebra.specs.IntegerOrder.{mul_cancel_lt, mul_cancel_zero}
 use Rattle.rob_linear.specs.Vectors.{Vector, at}
 use Rattle.rob_linear.specs.Systems.{IsCombined, IsPrimitive}
 use Rattle.rob_linear.specs.Multiples.{IsClearedBy}
-use Rattle.rob_linear.proofs.Multiples.{factors_clear}
+use Rattle.rob_linear.proofs.RowForms.Multiples.{factors_clear}
 use Rattle.rob_rows.specs.PrimitiveParts.{combination, content, IsPrimitivePart, IsWithin, HasWideEntry, HasWidePart}
 use Rattle.rob_rows.proofs.Combinations.{combination-at, length-combination}
 use Rattle.rob_rows.proofs.Contents.{content_zero}

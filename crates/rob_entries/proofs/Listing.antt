@@ -4,7 +4,7 @@ use Rattle.std.proofs.lemmas.Bool.{cases_eq, cases_lt}
 use Rattle.std.proofs.lemmas.List.{get_or_default, get_or-take, length-take, get_or-set_same, get_or-set_other}
 use lib.IntN.{ℤ, pos}
 use Rattle.rob_linear.specs.Vectors.{Vector, at}
-use Rattle.rob_linear.proofs.Square.{cases_zero}
+use Rattle.rob_linear.proofs.Bases.Square.{cases_zero}
 use Rattle.rob_rows.specs.PrimitiveParts.{IsWithin}
 use Rattle.rob_entries.specs.Updates.{AreListed}
 

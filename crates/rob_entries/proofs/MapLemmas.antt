@@ -11,7 +11,7 @@ use Rattle.rob_algebra.specs.Integer.{mul-zero}
 use Rattle.rob_algebra.specs.IntegerOrder.{mul_cancel_zero}
 use Rattle.rob_linear.specs.Vectors.{Vector, at}
 use Rattle.rob_linear.specs.Multiples.{IsClearedBy}
-use Rattle.rob_linear.proofs.Square.{cases_zero}
+use Rattle.rob_linear.proofs.Bases.Square.{cases_zero}
 use Rattle.rob_entries.specs.Maps.{IsMapped, AreMarked}
 use Rattle.rob_entries.specs.Updates.{AreListed}
 use Rattle.rob_entries.proofs.MappedRows.{number_read}

@@ -5,7 +5,7 @@ use Rattle.std.proofs.lemmas.Int.{ints}
 use lib.IntN.{ℤ, pos, ◌*ℤ◌, ◌-ℤ◌}
 use Rattle.rob_algebra.specs.Integer.{mul-zero}
 use Rattle.rob_linear.specs.Vectors.{Vector, at}
-use Rattle.rob_linear.proofs.Square.{cases_zero}
+use Rattle.rob_linear.proofs.Bases.Square.{cases_zero}
 use Rattle.rob_entries.specs.Updates.{AreListed}
 use Rattle.rob_entries.proofs.MappedRows.{number_here, number_other}
 

@@ -5,7 +5,7 @@ use Rattle.std.proofs.Common.{◌≡◌, ℕ, suc, ◌+◌, ◌%◌, ◌^◌, �
 use Rattle.std.specs.Fmt.{digits}
 use Rattle.std.specs.Prelude.{◌≢◌, Option, Some, codes}
 use Rattle.rob_algebra.specs.Fraction.{Fraction, ratio}
-use Rattle.rob_meaning.proofs.WorkedTests.{found, both, so, test_admits, test_below, test_at_most, test_differ, test_each, test_numbers, test_model}
+use Rattle.rob_meaning.proofs.ByHand.WorkedTests.{found, both, so, test_admits, test_below, test_at_most, test_differ, test_each, test_numbers, test_model}
 use Rattle.rob_meaning.specs.Named.{AreDistinct, HasDistinctMembers, IsFree, IsNamed, IsPlain, declared_names}
 use Rattle.rob_meaning.specs.Names.{Name}
 use Rattle.rob_meaning.specs.RobustModel.{RobustModel, SetLine, line, budget, Member, AdaptiveVariable, column_count}
@@ -13,7 +13,7 @@ use Rattle.rob_meaning.specs.SetRows.{lift_count}
 use Rattle.rob_meaning.specs.Places.{tabulate}
 use Rattle.rob_meaning.specs.UncertaintySet.{Admits, HasScenario}
 use Rattle.rob_meaning.specs.WellFormed.{IsModel}
-use Rattle.rob_meaning.proofs.WorkedDecisions.{either}
+use Rattle.rob_meaning.proofs.ByHand.WorkedDecisions.{either}
 use Rattle.rob_model.specs.Limits.{IsWithinLimits, model_size}
 use Rattle.rob_gen.specs.Generated.{generated, model_over, periods, centre, whole}
 use Rattle.rob_gen.proofs.NumberLemmas.{periods_again, centre_again}

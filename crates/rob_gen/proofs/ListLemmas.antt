@@ -2,7 +2,7 @@
 use Rattle.std.proofs.Common.{◌≡◌, ℕ, ◌+◌, List, [], ◌∷◌, ◌++◌, map, ap, sym, ◌∙◌, add-one, append_assoc}
 use Rattle.std.proofs.lemmas.List.{map-append}
 use Rattle.rob_meaning.specs.Places.{tabulate}
-use Rattle.rob_meaning.proofs.TabulateLemmas.{tabulate-more}
+use Rattle.rob_meaning.proofs.Lists.TabulateLemmas.{tabulate-more}
 
 -- the items of one place more
 pub tabulate_next : {A : Type 0} (f : ℕ → A) (k : ℕ) → tabulate k f ++ f k ∷ [] ≡ tabulate (k + 1) f

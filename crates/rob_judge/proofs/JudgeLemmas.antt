@@ -12,8 +12,8 @@ use Rattle.rob_expand.specs.declared.placed.Part.{Part as CodePart}
 use Rattle.rob_settings.specs.Inner.{is_long_in}
 use Rattle.rob_expand.specs.Placed.{Part, placed_of, part_of, parts_of, factors_of}
 use Rattle.rob_expand.specs.Judging.{finding, is_too_long, worse, worst, indices_found, length_found, range_found, ranges_found, tree_found, parts_found, factors_found, item_found}
-use Rattle.rob_expand.proofs.StepLemmas.{part_is}
-use Rattle.rob_expand.proofs.FindingLemmas.{worse_nothing, worse_both, worse_long, finding_both, worst_nothing, worst_same, worst_long}
+use Rattle.rob_expand.proofs.Counting.StepLemmas.{part_is}
+use Rattle.rob_expand.proofs.Walks.FindingLemmas.{worse_nothing, worse_both, worse_long, finding_both, worst_nothing, worst_same, worst_long}
 
 -- ---- ranges
 -- a range with none inside

@@ -12,10 +12,10 @@ use Rattle.rob_index.specs.Forms.{Ends, value_of, minus, length_form, values_of,
 use Rattle.rob_index.specs.Settings.{Setting, natural, count, settings, index_value}
 use Rattle.rob_index.specs.Places.{Inside, of_index, ref_places, optional_places, range_place, under, range_places, tree_places, part_places, factor_places, each_places, sides_places, inner_places, places}
 use Rattle.rob_index.specs.Fast.{setting_of, index_form, ends_of, nest_of, names_in}
-use Rattle.rob_index.proofs.ListLemmas.{any_same, any_map}
-use Rattle.rob_index.proofs.FormLemmas.{minus_is}
-use Rattle.rob_index.proofs.FastLemmas.{index_is, settings_are, map_flat, flat_same}
-use Rattle.rob_index.proofs.ExpansionLemmas.{settings-append}
+use Rattle.rob_index.proofs.LinesRead.ListLemmas.{any_same, any_map}
+use Rattle.rob_index.proofs.Faults.FormLemmas.{minus_is}
+use Rattle.rob_index.proofs.Faults.FastLemmas.{index_is, settings_are, map_flat, flat_same}
+use Rattle.rob_index.proofs.Expanding.ExpansionLemmas.{settings-append}
 use Rattle.rob_expand.specs.declared.finding.Finding.{Finding}
 use Rattle.rob_expand.specs.declared.finding.Finding.TheVariants.{Nothing}
 use Rattle.rob_settings.specs.declared.item.Item.{Item}
@@ -24,9 +24,9 @@ use Rattle.rob_settings.specs.declared.item.Named.{Named}
 use Rattle.rob_expand.specs.Placing.{placed_name, placed_tree, placed_parts, placed_factors}
 use Rattle.rob_expand.specs.Statements.{head_of, over_of, trees_of, items_of, name_item, member_item, IsLine}
 use Rattle.rob_expand.specs.Judging.{finding, worse, worst, is_outside, index_found, indices_found, length_found, range_found, ranges_found, tree_found, parts_found, factors_found, optional_found, item_found, line_found, lines_found}
-use Rattle.rob_expand.proofs.TreesLemmas.{trees_found}
-use Rattle.rob_expand.proofs.WalkLemmas.{flat_mapped}
-use Rattle.rob_expand.proofs.FindingLemmas.{worse_nothing, worse_assoc, worse_both, worst_nothing, worst_same, worst_append, worst_worse, worst_flat, worst_finding, worst_long, worst_out}
+use Rattle.rob_expand.proofs.Values.TreesLemmas.{trees_found}
+use Rattle.rob_expand.proofs.Walks.WalkLemmas.{flat_mapped}
+use Rattle.rob_expand.proofs.Walks.FindingLemmas.{worse_nothing, worse_assoc, worse_both, worst_nothing, worst_same, worst_append, worst_worse, worst_flat, worst_finding, worst_long, worst_out}
 
 -- ---- settings inside ranges, as lists of values
 -- the settings of these ranges are these values of these names

@@ -4,14 +4,14 @@ use Rattle.std.specs.Prelude.{ℤ, pos, ◌+ℤ◌, ◌-ℤ◌, ◌≤ℤ◌, �
 use Rattle.std.proofs.lemmas.Int.{ints, by_lt_z}
 use Rattle.rob_index.specs.Settings.{natural, upwards}
 use Rattle.rob_index.specs.Forms.{Ends, value_of, values_of, length_form}
-use Rattle.rob_index.proofs.FormLemmas.{minus_is}
-use Rattle.rob_index.proofs.ListLemmas.{natural_is}
+use Rattle.rob_index.proofs.Faults.FormLemmas.{minus_is}
+use Rattle.rob_index.proofs.LinesRead.ListLemmas.{natural_is}
 use Rattle.rob_ranges.proofs.DigitLemmas.{lt_no}
 use Rattle.rob_expand.specs.declared.finding.Finding.{Finding}
 use Rattle.rob_expand.specs.declared.finding.Finding.TheVariants.{Nothing}
 use Rattle.rob_settings.specs.Live.{IsDead}
 use Rattle.rob_expand.specs.Judging.{finding, worse, worst, ranges_found, values_found}
-use Rattle.rob_expand.proofs.FindingLemmas.{worse_assoc, worse_both, worse_nothing}
+use Rattle.rob_expand.proofs.Walks.FindingLemmas.{worse_assoc, worse_both, worse_nothing}
 use Rattle.rob_settings.proofs.InnerLemmas.{no_values}
 use Rattle.rob_settings.proofs.SettingsLemmas.{IsFirst}
 use Rattle.rob_ranges.proofs.NestLemmas.{count_next, count_none}

@@ -5,7 +5,7 @@ use Rattle.rob_expand.specs.declared.finding.Finding.{Finding}
 use Rattle.rob_settings.specs.declared.item.Item.{Item}
 use Rattle.rob_expand.specs.Judging.{worse, worst, item_found}
 use Rattle.rob_settings.specs.Spots.{IsThinAt, busy, is_idle, picks}
-use Rattle.rob_expand.proofs.FindingLemmas.{worse_assoc, worst_append}
+use Rattle.rob_expand.proofs.Walks.FindingLemmas.{worse_assoc, worst_append}
 use Rattle.rob_judge.proofs.JudgeLemmas.{quiet_item}
 use Rattle.rob_settings.proofs.SpotLemmas.{idle_none, idle_short}
 

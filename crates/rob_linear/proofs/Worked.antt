@@ -8,13 +8,13 @@ use Rattle.rob_linear.specs.Systems.{IsBasis, IsCombined}
 use Rattle.rob_linear.specs.Programs.{Program, starting_row, system_of, auxiliary_tag, auxiliary_row, auxiliary_of}
 use Rattle.rob_linear.specs.Turns.{ComesBefore, IsPivot, own_of, TurnsTo}
 use Rattle.rob_linear.specs.Paths.{StartsAtSlacks, StartsAtAuxiliary, Last}
-use Rattle.rob_linear.proofs.Solutions.{tags_in, primitive_by_one}
-use Rattle.rob_linear.proofs.Pivots.{basis_pivotable, pivot_is_basis}
-use Rattle.rob_linear.proofs.Starts.{system_tagged, auxiliary_tagged, negated_start, negated_pivotable}
-use Rattle.rob_linear.proofs.Choices.{before_not_self}
-use Rattle.rob_linear.proofs.Turns.{turn_exchange}
-use Rattle.rob_linear.proofs.TwoPhases.{slacks_stand, stands_without, start_exchange}
-use Rattle.rob_linear.proofs.LastBases.{optimum_is_last, first_phase_is_last}
+use Rattle.rob_linear.proofs.Bases.Solutions.{tags_in, primitive_by_one}
+use Rattle.rob_linear.proofs.Bases.Pivots.{basis_pivotable, pivot_is_basis}
+use Rattle.rob_linear.proofs.BasisPaths.Starts.{system_tagged, auxiliary_tagged, negated_start, negated_pivotable}
+use Rattle.rob_linear.proofs.Bases.Choices.{before_not_self}
+use Rattle.rob_linear.proofs.Bases.Turns.{turn_exchange}
+use Rattle.rob_linear.proofs.BasisPaths.TwoPhases.{slacks_stand, stands_without, start_exchange}
+use Rattle.rob_linear.proofs.BasisPaths.LastBases.{optimum_is_last, first_phase_is_last}
 
 -- ---- maximise 3 a; a <= 4. Columns: a, its slack, the objective, the right side.
 abbrev selling : Program

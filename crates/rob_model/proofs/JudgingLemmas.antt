@@ -10,7 +10,7 @@ use Rattle.rob_algebra.specs.FractionLaws.{ℚ-add_assoc}
 use Rattle.rob_algebra.specs.FractionOrderLaws.{le_refl_ℚ, le_of_lt_ℚ, not_lt_ℚ}
 use Rattle.rob_algebra.specs.FractionOrder.{cmp_ℚ, cmp_ℚ-ranks, eq_ℚ-decides}
 use Rattle.rob_algebra.specs.Width.{kept}
-use Rattle.rob_meaning.proofs.AdmittedLemmas.{admission_law}
+use Rattle.rob_meaning.proofs.Conditions.AdmittedLemmas.{admission_law}
 use Rattle.rob_meaning.specs.WellFormed.{IsModel}
 use Rattle.rob_meaning.specs.Expressions.{Expression}
 use Rattle.rob_meaning.specs.Places.{0ℚ, 1ℚ, at, Each}

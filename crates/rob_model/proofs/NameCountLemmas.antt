@@ -7,7 +7,7 @@ use Rattle.rob_meaning.specs.Names.{Name}
 use Rattle.rob_model.specs.GroupNames.{numbered, side_names, bound_names, statement_row_names, condition_names, parameter_bound_names}
 use Rattle.rob_meaning.specs.RobustModel.{Parameter, Variable, AdaptiveVariable, Row, Relation, at_most, at_least, equal, SetLine, line, budget, RobustModel, column_from}
 use Rattle.rob_meaning.specs.SetRows.{lift_count}
-use Rattle.rob_meaning.proofs.NameLemmas.{length-column_names, length-set_column_names}
+use Rattle.rob_meaning.proofs.Naming.NameLemmas.{length-column_names, length-set_column_names}
 use Rattle.rob_model.specs.Limits.{IsWithinLimits}
 use Rattle.rob_model.specs.NameGroups.{groups, names, together}
 use Rattle.rob_model.specs.declared.group.Kind.{Kind}

@@ -4,7 +4,7 @@ use Rattle.std.specs.Prelude.{◌≢◌, Option, Some, None, slice_get, flat_map
 use Rattle.rob_meaning.specs.Names.{Name}
 use Rattle.rob_model.specs.GroupNames.{side_names, bound_names, rule_names, statement_row_names, lift_names, condition_names, parameter_bound_names}
 use Rattle.rob_meaning.specs.Places.{Each}
-use Rattle.rob_meaning.proofs.EachLemmas.{each_append}
+use Rattle.rob_meaning.proofs.Lists.EachLemmas.{each_append}
 use Rattle.rob_meaning.specs.RobustModel.{Parameter, Variable, AdaptiveVariable, Row, SetLine, RobustModel}
 use Rattle.rob_model.specs.NameGroups.{together, groups_by_number, groups, names, row_groups, variable_bound_groups, adaptive_bound_groups, parameter_bound_groups, parameter_groups, lift_groups, condition_groups}
 use Rattle.std.proofs.lemmas.Option.{slice_get_within}

@@ -5,10 +5,10 @@ use Rattle.rob_meaning.specs.Named.{AreDistinct, IsNamed}
 use Rattle.rob_meaning.specs.Names.{Name, column_names, form_names, set_row_names}
 use Rattle.rob_meaning.specs.RobustModel.{RobustModel}
 use Rattle.rob_meaning.specs.WellFormed.{IsModel}
-use Rattle.rob_meaning.proofs.DeclaredLemmas.{parameters_distinct as joint_distinct}
-use Rattle.rob_meaning.proofs.DistinctLemmas.{distinct_left}
-use Rattle.rob_meaning.proofs.NamedFormLemmas.{distinct_columns, distinct_forms}
-use Rattle.rob_meaning.proofs.NamedSetLemmas.{distinct_set_rows}
+use Rattle.rob_meaning.proofs.Naming.DeclaredLemmas.{parameters_distinct as joint_distinct}
+use Rattle.rob_meaning.proofs.Lists.DistinctLemmas.{distinct_left}
+use Rattle.rob_meaning.proofs.Naming.NamedFormLemmas.{distinct_columns, distinct_forms}
+use Rattle.rob_meaning.proofs.Naming.NamedSetLemmas.{distinct_set_rows}
 use Rattle.rob_model.specs.Naming.{Finds, FindsOwn, parameter_names}
 use Rattle.rob_model.proofs.KeptLemmas.{some_is}
 use Rattle.rob_model.proofs.PartLemmas.{each_get}

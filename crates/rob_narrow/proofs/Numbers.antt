@@ -7,7 +7,7 @@ use Rattle.std.specs.Int.RustNames.{unsigned_abs}
 use lib.IntN.{ℤ, pos}
 use Rattle.rob_linear.specs.Vectors.{at}
 use Rattle.rob_linear.specs.WideRows.{HasWideRow}
-use Rattle.rob_linear.proofs.Vectors.{at-past}
+use Rattle.rob_linear.proofs.LinearPrograms.Vectors.{at-past}
 use Rattle.rob_bounds.specs.Bounds.{IsOfSize, IsNarrow, row_bound}
 use Rattle.rob_bounds.proofs.NarrowPaths.{narrow_path}
 use Rattle.rob_rows.specs.declared.program.Lp.{Lp}

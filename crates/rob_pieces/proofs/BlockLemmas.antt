@@ -1,8 +1,8 @@
 -- Lists that consist of one block for each cell, and what is said of each item by its cell.
 use Rattle.std.specs.Prelude.{◌≡◌, ℕ, zero, suc, ◌+◌, ◌<◌, List, [], ◌∷◌, ◌++◌, map, flat_map, get_or}
 use Rattle.std.proofs.Common.{sym, ◌∙◌, ap, subst, arith}
-use Rattle.rob_meaning.proofs.EachLemmas.{each_append}
-use Rattle.rob_meaning.proofs.TabulateLemmas.{each_tabulate}
+use Rattle.rob_meaning.proofs.Lists.EachLemmas.{each_append}
+use Rattle.rob_meaning.proofs.Lists.TabulateLemmas.{each_tabulate}
 use Rattle.rob_meaning.specs.Places.{Each, EachFrom, tabulate}
 use Rattle.rob_pieces.specs.Cuts.{Cut, IsCell, cell_count, cell_numbers}
 

@@ -3,8 +3,8 @@ use Rattle.std.specs.Prelude.{◌≡◌, ℕ, zero, suc, pred, ◌+◌, ◌*◌,
 use Rattle.std.proofs.Common.{sym, ◌∙◌, ap, ap₂, subst, arith, length-append, suc-mul, zero-mul, mul_comm, mul-le-mul_right}
 use Rattle.std.proofs.lemmas.List.{length-map, take_at}
 use Rattle.std.proofs.lemmas.Nat.{div-mul-add}
-use Rattle.rob_meaning.proofs.AdmittedLemmas.{length-later}
-use Rattle.rob_meaning.proofs.JointScenarioLemmas.{length-tabulate, list_in-left}
+use Rattle.rob_meaning.proofs.Conditions.AdmittedLemmas.{length-later}
+use Rattle.rob_meaning.proofs.Scenarios.JointScenarioLemmas.{length-tabulate, list_in-left}
 use Rattle.rob_meaning.specs.Places.{tabulate}
 use Rattle.rob_meaning.specs.RobustModel.{AdaptiveVariable, RobustModel, column_count, column_from, column_of, in_set, list_in, list_of, set_count, written_count, written_parameters}
 use Rattle.rob_pieces.specs.Cuts.{Cut, cell_count, cell_numbers, IsCell}

@@ -2,8 +2,8 @@
 use Rattle.std.specs.Prelude.{◌≡◌, ℕ, zero, suc, ◌+◌, ◌<◌, List, [], ◌∷◌, length, map, refl, Option, Some, None}
 use Rattle.std.proofs.Common.{sym, ap, subst, arith}
 use Rattle.rob_algebra.specs.Fraction.{Fraction}
-use Rattle.rob_meaning.proofs.AloneLemmas.{all_written}
-use Rattle.rob_meaning.proofs.EachLemmas.{each_append, each_map}
+use Rattle.rob_meaning.proofs.Scenarios.AloneLemmas.{all_written}
+use Rattle.rob_meaning.proofs.Lists.EachLemmas.{each_append, each_map}
 use Rattle.rob_meaning.specs.Expressions.{adaptive}
 use Rattle.rob_meaning.specs.Names.{Name}
 use Rattle.rob_meaning.specs.Places.{Each}

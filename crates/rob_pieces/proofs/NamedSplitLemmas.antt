@@ -5,10 +5,10 @@ use Rattle.std.specs.Prelude.{◌≡◌, ◌≢◌, ℕ, zero, suc, ◌^◌, ◌
 use Rattle.std.proofs.Common.{sym, ◌∙◌, ap, subst, arith, pow_mono}
 use Rattle.std.proofs.lemmas.Bool.{eqb-false}
 use Rattle.rob_algebra.specs.Fraction.{Fraction}
-use Rattle.rob_meaning.proofs.AloneLemmas.{all_taken}
-use Rattle.rob_meaning.proofs.EachLemmas.{each_append, each_left, each_right}
-use Rattle.rob_meaning.proofs.JoinedLemmas.{decimal_plain}
-use Rattle.rob_meaning.proofs.NamedLemmas.{each_unmapped, plain_word}
+use Rattle.rob_meaning.proofs.Scenarios.AloneLemmas.{all_taken}
+use Rattle.rob_meaning.proofs.Lists.EachLemmas.{each_append, each_left, each_right}
+use Rattle.rob_meaning.proofs.Naming.JoinedLemmas.{decimal_plain}
+use Rattle.rob_meaning.proofs.Naming.NamedLemmas.{each_unmapped, plain_word}
 use Rattle.rob_meaning.specs.Named.{AreDistinct, HasDistinctMembers, IsFree, IsNamed, IsPlain, adaptive_names, declared_names, row_names, variable_names, written_names}
 use Rattle.rob_meaning.specs.Names.{Name}
 use Rattle.rob_meaning.specs.Places.{Each}

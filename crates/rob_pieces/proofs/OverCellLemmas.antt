@@ -4,7 +4,7 @@ use Rattle.std.proofs.Common.{sym, ◌∙◌, ap, ap₂, subst, arith, suc-mul, 
 use Rattle.rob_algebra.specs.Fraction.{Fraction, ◌+ℚ◌, ◌-ℚ◌, ◌*ℚ◌, ◌/ℚ◌, ◌≤ℚ◌}
 use Rattle.rob_algebra.specs.FractionLaws as Q
 use Rattle.rob_algebra.specs.Polynomials.{lit, minus, ◌:+◌, v0}
-use Rattle.rob_meaning.proofs.TauLemmas.{column_room}
+use Rattle.rob_meaning.proofs.Tables.TauLemmas.{column_room}
 use Rattle.rob_meaning.specs.Degrees.{AreLinear, FactorsLinear, IsLinear, decision_degree, one_if_some, uncertain_degree}
 use Rattle.rob_meaning.specs.Expressions.{Expression, Factors, Terms, adaptive, adaptive_in, factor, no_factors, no_terms, number, parameter, product, sum, term, variable}
 use Rattle.rob_meaning.specs.Places.{at, Each}

@@ -2,9 +2,9 @@
 use Rattle.std.specs.Prelude.{◌≡◌, ℕ, zero, suc, ◌+◌, ◌<◌, List, [], ◌∷◌, length, map, flat_map, refl, Option, Some, None, ◌↔◌}
 use Rattle.std.proofs.Common.{sym, subst, arith}
 use Rattle.rob_algebra.specs.Fraction.{Fraction}
-use Rattle.rob_meaning.proofs.AdmittedLemmas.{each_from_append, each_from_left, each_from_map}
-use Rattle.rob_meaning.proofs.EachLemmas.{each_append, each_left, each_map, each_right}
-use Rattle.rob_meaning.proofs.StatusLemmas.{better, no_worse_both, no_worse_trans, not_better, no_worse_refl}
+use Rattle.rob_meaning.proofs.Conditions.AdmittedLemmas.{each_from_append, each_from_left, each_from_map}
+use Rattle.rob_meaning.proofs.Lists.EachLemmas.{each_append, each_left, each_map, each_right}
+use Rattle.rob_meaning.proofs.Proving.StatusLemmas.{better, no_worse_both, no_worse_trans, not_better, no_worse_refl}
 use Rattle.rob_meaning.specs.Expressions.{Expression, adaptive}
 use Rattle.rob_meaning.specs.Guarantee.{HasBound, IsNoWorse, KeepsIn}
 use Rattle.rob_meaning.specs.Names.{Name}

@@ -2,10 +2,10 @@
 use Rattle.std.specs.Prelude.{◌≡◌, ℕ, zero, suc, pred, ◌+◌, ◌*◌, ◌-◌, ◌<◌, List, [], ◌∷◌, ◌++◌, length, get_or, take, drop, refl}
 use Rattle.std.proofs.Common.{sym, ◌∙◌, ap, ap₂, arith, length-append, length-drop, length-take-le, take-append-drop, suc-mul, zero-mul}
 use Rattle.rob_algebra.specs.Fraction.{Fraction}
-use Rattle.rob_meaning.proofs.JointScenarioLemmas.{at-right, length-tabulate}
-use Rattle.rob_meaning.proofs.ListLemmas.{at-tabulate}
-use Rattle.rob_meaning.proofs.TabulateLemmas.{each_tabulate}
-use Rattle.rob_meaning.proofs.TauLemmas.{at-left}
+use Rattle.rob_meaning.proofs.Scenarios.JointScenarioLemmas.{at-right, length-tabulate}
+use Rattle.rob_meaning.proofs.Lists.ListLemmas.{at-tabulate}
+use Rattle.rob_meaning.proofs.Lists.TabulateLemmas.{each_tabulate}
+use Rattle.rob_meaning.proofs.Tables.TauLemmas.{at-left}
 use Rattle.rob_meaning.specs.Places.{at, tabulate, Each}
 use Rattle.rob_meaning.specs.RobustModel.{RobustModel, column_count}
 use Rattle.rob_pieces.proofs.ColumnLemmas.{column_base, columns_count}

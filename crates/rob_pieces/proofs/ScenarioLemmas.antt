@@ -2,10 +2,10 @@
 use Rattle.std.specs.Prelude.{◌≡◌, ℕ, zero, suc, ◌+◌, ◌*◌, ◌<◌, List, [], ◌∷◌, length, map, refl, ◌↔◌}
 use Rattle.std.proofs.Common.{sym, ◌∙◌, ap, subst, arith, pow_pos}
 use Rattle.rob_algebra.specs.Fraction.{Fraction, ◌≤ℚ◌}
-use Rattle.rob_meaning.proofs.AdmittedLemmas.{Bounded, some_admitted_law}
-use Rattle.rob_meaning.proofs.AloneLemmas.{all_taken, all_written}
-use Rattle.rob_meaning.proofs.EachLemmas.{each_append, each_left, each_map, each_right}
-use Rattle.rob_meaning.proofs.JointScenarioLemmas.{at-joined}
+use Rattle.rob_meaning.proofs.Conditions.AdmittedLemmas.{Bounded, some_admitted_law}
+use Rattle.rob_meaning.proofs.Scenarios.AloneLemmas.{all_taken, all_written}
+use Rattle.rob_meaning.proofs.Lists.EachLemmas.{each_append, each_left, each_map, each_right}
+use Rattle.rob_meaning.proofs.Scenarios.JointScenarioLemmas.{at-joined}
 use Rattle.rob_meaning.specs.Places.{at, Each, EachFrom}
 use Rattle.rob_meaning.specs.RobustModel.{Parameter, RobustModel, SetLine, set_count, written_count, written_parameters}
 use Rattle.rob_meaning.specs.UncertaintySet.{Admits, AdmitsIn, IsEmptySet, KeepsLine, in_each_set, part_of}

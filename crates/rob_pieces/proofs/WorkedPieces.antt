@@ -3,9 +3,9 @@ use Rattle.std.proofs.Common.{refl, ap, arith}
 use Rattle.std.specs.Fmt.{digits}
 use Rattle.std.specs.Prelude.{◌≡◌, ◌<◌, ℕ, negsuc, nat_abs, true, List, [], ◌∷◌, Some, None, codes}
 use Rattle.rob_algebra.specs.Fraction.{Fraction, of_int, ratio}
-use Rattle.rob_meaning.proofs.EmptyLemmas.{shows_empty}
-use Rattle.rob_meaning.proofs.WorkedNotation.{int, over, ◌⊕◌, ◌⊖◌, uncertain, var, rule, row, cover, item, best}
-use Rattle.rob_meaning.proofs.WorkedTests.{found, test_certificate, test_empty, test_model}
+use Rattle.rob_meaning.proofs.Conditions.EmptyLemmas.{shows_empty}
+use Rattle.rob_meaning.proofs.ByHand.WorkedNotation.{int, over, ◌⊕◌, ◌⊖◌, uncertain, var, rule, row, cover, item, best}
+use Rattle.rob_meaning.proofs.ByHand.WorkedTests.{found, test_certificate, test_empty, test_model}
 use Rattle.rob_meaning.specs.Expressions.{number, parameter, variable, adaptive, sum, term, no_terms}
 use Rattle.rob_meaning.specs.Names.{column_names, form_names, set_row_names}
 use Rattle.rob_meaning.specs.Places.{0ℚ, 1ℚ}

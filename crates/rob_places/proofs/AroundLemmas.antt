@@ -7,7 +7,7 @@ use Rattle.rob_index.specs.Forms.{Ends}
 use Rattle.rob_index.specs.Places.{under}
 use Rattle.rob_index.specs.Rules.{is_bound, is_unbound_atom, has_unbound}
 use Rattle.rob_index.specs.Fast.{ends_of, nest_of, names_in}
-use Rattle.rob_index.proofs.ListLemmas.{or_false}
+use Rattle.rob_index.proofs.LinesRead.ListLemmas.{or_false}
 use Rattle.rob_ranges.proofs.NestLists.{all_but_last_is}
 use Rattle.rob_places.specs.Around.{Around, inside, outside, around_of, binds, is_loose, has_loose}
 

@@ -8,9 +8,9 @@ use Rattle.std.proofs.lemmas.Int.{ints, by_lt_z}
 use Rattle.rob_algebra.specs.Integer.{add_assoc}
 use Rattle.rob_index.specs.Settings.{count, upwards}
 use Rattle.rob_index.specs.Forms.{Form, Ends, value_of, first_factor, outer, far_end, without, minus, greatest, all_run, is_dead, lack_form, length_form, only, at_one, fixed, onto}
-use Rattle.rob_index.proofs.FormLemmas.{without_is, outer_is, minus_is}
-use Rattle.rob_index.proofs.ListLemmas.{natural_is, natural_low}
-use Rattle.rob_index.proofs.NestLemmas.{le_from, le_to, lt_from, lt_not, no_values}
+use Rattle.rob_index.proofs.Faults.FormLemmas.{without_is, outer_is, minus_is}
+use Rattle.rob_index.proofs.LinesRead.ListLemmas.{natural_is, natural_low}
+use Rattle.rob_index.proofs.Faults.NestLemmas.{le_from, le_to, lt_from, lt_not, no_values}
 use Rattle.rob_ranges.proofs.DigitLemmas.{lt_to, lt_no}
 
 -- the innermost of some ranges is the first of the nest

@@ -4,7 +4,7 @@ use Rattle.std.specs.Prelude.{ℤ, pos, negsuc, ◌+ℤ◌, ◌*ℤ◌, ◌≤�
 use Rattle.std.proofs.lemmas.Int.{ints}
 use Rattle.rob_algebra.specs.Integer.{neg-mul}
 use Rattle.rob_algebra.specs.IntegerOrder.{mul_le_mul}
-use Rattle.rob_index.proofs.NestLemmas.{lt_from}
+use Rattle.rob_index.proofs.Faults.NestLemmas.{lt_from}
 use Rattle.rob_ranges.specs.declared.digits.Wide.{Wide}
 use Rattle.rob_ranges.specs.declared.short.Short.{Short}
 use Rattle.rob_ranges.specs.declared.span.Span.{Span}

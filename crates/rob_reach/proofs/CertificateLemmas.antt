@@ -9,11 +9,11 @@ use Rattle.rob_algebra.specs.FractionLaws.{ℚ_ring}
 use Rattle.rob_algebra.specs.Lists.{scale, plus_all, length-scale, length-plus_all}
 use Rattle.rob_algebra.specs.RingSolver as Solver
 use Rattle.rob_algebra.specs.Polynomials.{lit, minus, ◌:+◌, ◌:-◌, ◌:*◌, v0, v1, v2, v3}
-use Rattle.rob_meaning.proofs.AbsoluteLemmas.{pos_some, inv_pos}
-use Rattle.rob_meaning.proofs.AdmittedLemmas.{admits_meets}
-use Rattle.rob_meaning.proofs.AtLemmas.{at_bound, sum_at-plus_plan, sum_at-scale_plan}
-use Rattle.rob_meaning.proofs.CoverLemmas.{covered_at}
-use Rattle.rob_meaning.proofs.LinearLemmas.{zero_lt_one, zero_le_one}
+use Rattle.rob_meaning.proofs.Lists.AbsoluteLemmas.{pos_some, inv_pos}
+use Rattle.rob_meaning.proofs.Conditions.AdmittedLemmas.{admits_meets}
+use Rattle.rob_meaning.proofs.Tables.AtLemmas.{at_bound, sum_at-plus_plan, sum_at-scale_plan}
+use Rattle.rob_meaning.proofs.Proving.CoverLemmas.{covered_at}
+use Rattle.rob_meaning.proofs.Lists.LinearLemmas.{zero_lt_one, zero_le_one}
 use Rattle.rob_meaning.specs.Certificates.{Certificate, Cover}
 use Rattle.rob_meaning.specs.Forms.{form_at, matrices, matrix_at, plan_vector, sum_at}
 use Rattle.rob_meaning.specs.Guarantee.{HasBound, IsNoWorse}
@@ -22,7 +22,7 @@ use Rattle.rob_meaning.specs.Proves.{EachCovered, Improves, ProvesOptimal, Prove
 use Rattle.rob_meaning.specs.RobustModel.{RobustModel, Sense, maximise, minimise}
 use Rattle.rob_meaning.specs.UncertaintySet.{Admits}
 use Rattle.rob_meaning.specs.WellFormed.{IsModel}
-use Rattle.rob_meaning.proofs.ProvesLemmas.{length-last, moved}
+use Rattle.rob_meaning.proofs.Proving.ProvesLemmas.{length-last, moved}
 
 -- along a direction that improves, any number is reached: the bound is no worse
 -- than it from the start, or at some multiple

@@ -6,7 +6,7 @@ use Rattle.std.specs.Ordering.{MatchOrdering}
 use Rattle.rob_algebra.specs.Fraction.{Fraction, ◌≤ℚ◌, ◌<ℚ◌}
 use Rattle.rob_algebra.specs.FractionOrderLaws as Q
 use Rattle.rob_algebra.specs.FractionOrder.{cmp_ℚ, cmp_ℚ-ranks}
-use Rattle.rob_meaning.proofs.StatusLemmas.{no_worse_trans, no_worse_refl}
+use Rattle.rob_meaning.proofs.Proving.StatusLemmas.{no_worse_trans, no_worse_refl}
 use Rattle.rob_meaning.specs.Certificates.{Certificate, Status, optimal, infeasible, unbounded}
 use Rattle.rob_meaning.specs.Guarantee.{IsNoWorse}
 use Rattle.rob_meaning.specs.Places.{Each}
@@ -23,7 +23,7 @@ use Rattle.rob_reach.specs.Growing.{Best, Search, start, is_least, is_no_better,
 use Rattle.rob_reach.specs.Ranges.{are_bounded, product_of_ranges}
 use Rattle.rob_reach.specs.Trees.{Node, leaf, split, left_open, Tree, Leaf, leaves, BranchesOn, HasLeaf, IsProved, IsInfeasibleLeaf, IsNoBetterLeaf, IsBestLeaf, IsEndlessLeaf, ProvesTree}
 use Rattle.rob_reach.specs.WholeStatus.{HasWholeStatus}
-use Rattle.rob_meaning.proofs.EachLemmas.{each_append}
+use Rattle.rob_meaning.proofs.Lists.EachLemmas.{each_append}
 
 -- ---- comparing values
 no_better_true : (sense : Sense) (a b : Fraction) → is_no_better sense a b ≡ true → IsNoWorse sense b a

@@ -11,7 +11,7 @@ use Rattle.rob_meaning.specs.RobustModel.{Variable, AdaptiveVariable, SetLine, l
 use Rattle.rob_meaning.specs.UncertaintySet.{Relates, KeepsBounds, KeepsLine, total_deviation, in_each_set}
 use Rattle.rob_meaning.specs.Values.{value, sum_value, product_value, signed, rule_part, rule_value, rule_value_in}
 use Rattle.rob_meaning.specs.WellFormed.{IsInside, TermsInside, FactorsInside, IsExpression, IsSetLine, IsOf, TermsOf, FactorsOf, IsLineOf, IsModel}
-use Rattle.rob_meaning.proofs.EachLemmas.{each_map}
+use Rattle.rob_meaning.proofs.Lists.EachLemmas.{each_map}
 
 pub each_from_map : {A : Type 0} (P Q : ℕ → A → Type 0) → ((k : ℕ) (x : A) → P k x → Q k x) → (k : ℕ) (xs : List A) →
     EachFrom k P xs → EachFrom k Q xs

@@ -4,7 +4,7 @@ use Rattle.rob_algebra.specs.Fraction.{Fraction}
 use Rattle.rob_meaning.specs.Places.{0ℚ}
 use Rattle.rob_meaning.specs.RobustModel.{RobustModel}
 use Rattle.rob_reach.specs.WholeStatus.{IsWholeOptimal, IsWholeInfeasible, IsWholeUnbounded}
-use Rattle.rob_meaning.proofs.StatusLemmas.{no_worse_both, better, not_better}
+use Rattle.rob_meaning.proofs.Proving.StatusLemmas.{no_worse_both, better, not_better}
 
 module _ (m : RobustModel) (names : List ℕ) where
   pub one_optimum : (v w : Fraction) → IsWholeOptimal m names v → IsWholeOptimal m names w → v ≡ w

@@ -3,7 +3,7 @@ use Rattle.std.specs.Prelude.{◌≡◌, ◌≢◌, ◌<◌, ℕ, zero, suc, Lis
 use Rattle.std.proofs.Common.{ap, ap₂, sym, subst, arith}
 use Rattle.rob_algebra.specs.Fraction.{Fraction, ◌≤ℚ◌, ◌<ℚ◌}
 use Rattle.rob_algebra.specs.FractionOrderLaws as Q
-use Rattle.rob_meaning.proofs.StatusLemmas.{one_optimum, optimal_not_infeasible, optimal_not_unbounded, infeasible_not_unbounded}
+use Rattle.rob_meaning.proofs.Proving.StatusLemmas.{one_optimum, optimal_not_infeasible, optimal_not_unbounded, infeasible_not_unbounded}
 use Rattle.rob_meaning.specs.Guarantee.{HasBound, IsNoWorse}
 use Rattle.rob_meaning.specs.Named.{IsNamed, HasDistinctMembers}
 use Rattle.rob_meaning.specs.Places.{Each, EachFrom}
@@ -12,7 +12,7 @@ use Rattle.rob_meaning.specs.Status.{IsOptimal, IsInfeasible, IsUnbounded}
 use Rattle.rob_meaning.specs.UncertaintySet.{in_each_set, part_of, Admits, AdmitsIn, IsEmptySet, KeepsLine, total_deviation}
 use Rattle.rob_meaning.specs.WellFormed.{IsModel, IsSetLine, IsLineOf}
 use Rattle.rob_reach.proofs.SameColumns as Same
-use Rattle.rob_meaning.proofs.EachLemmas.{each_map}
+use Rattle.rob_meaning.proofs.Lists.EachLemmas.{each_map}
 use Rattle.rob_reach.specs.Sweeps.{limited, limit_at, with_budget, Rises, SweepAnswer, is_optimal, is_infeasible, is_unbounded, is_empty, Answers, Swept, GrowsHarder}
 
 -- ---- one number is replaced

@@ -6,9 +6,9 @@ use Rattle.rob_algebra.specs.FractionLaws as Q
 use Rattle.rob_algebra.specs.FractionLaws.{ℚ_ring}
 use Rattle.rob_algebra.specs.Lists.{scale, plus_all, length-scale}
 use Rattle.rob_algebra.specs.Polynomials.{lit, ◌:+◌, ◌:*◌, v0, v1}
-use Rattle.rob_meaning.proofs.PlaceLemmas.{at-scale, at-plus_all}
-use Rattle.rob_meaning.proofs.ProvesLemmas.{certificate_true}
-use Rattle.rob_meaning.proofs.StatusLemmas.{no_worse_trans, bound_weakens}
+use Rattle.rob_meaning.proofs.Lists.PlaceLemmas.{at-scale, at-plus_all}
+use Rattle.rob_meaning.proofs.Proving.ProvesLemmas.{certificate_true}
+use Rattle.rob_meaning.proofs.Proving.StatusLemmas.{no_worse_trans, bound_weakens}
 use Rattle.rob_meaning.specs.Certificates.{Certificate, Status, optimal, infeasible, unbounded}
 use Rattle.rob_meaning.specs.Guarantee.{HasBound, IsNoWorse}
 use Rattle.rob_meaning.specs.Places.{0ℚ, at, Each}
@@ -23,7 +23,7 @@ use Rattle.rob_reach.specs.Ranges.{is_bounded, are_bounded}
 use Rattle.rob_reach.specs.Trees.{Node, leaf, split, left_open, Tree, Leaf, leaves, BranchesOn, HasLeaf, IsProved, IsInfeasibleLeaf, IsNoBetterLeaf, IsBestLeaf, IsEndlessLeaf, ShowsStatus, ProvesTree}
 use Rattle.rob_reach.specs.WholeNumbers.{IsWhole}
 use Rattle.rob_reach.specs.WholeStatus.{IsWholeOn, WholeBound, IsWholeInfeasible, IsWholeUnbounded, HasWholeStatus}
-use Rattle.rob_meaning.proofs.EachLemmas.{each_append}
+use Rattle.rob_meaning.proofs.Lists.EachLemmas.{each_append}
 
 -- ---- lists of leaves
 -- some leaf has the property

@@ -11,7 +11,7 @@ use Rattle.rob_reach.specs.Boxes.{box_below, box_above}
 use Rattle.rob_reach.specs.Trees.{Node, leaf, split, left_open, Tree, Leaf, leaves, leaf_count, HasLeaf, IsProved, IsInfeasibleLeaf, IsNoBetterLeaf, IsBestLeaf, IsEndlessLeaf, ShowsStatus, ProvesTree}
 use Rattle.rob_reach.specs.Verdicts.{IsTree, IsFirstFault, IsClosed, KeepsOpen, KeepsBest, status, value, best, whole, Condition, leaf_at, leaf_conditions, best_conditions, last_conditions, tree_conditions, MayBe, KeepsValue, HoldsOf, Holds}
 use Rattle.rob_reach.specs.WholeStatus.{IsWholeOn}
-use Rattle.rob_meaning.proofs.EachLemmas.{each_append, each_left, each_right}
+use Rattle.rob_meaning.proofs.Lists.EachLemmas.{each_append, each_left, each_right}
 
 -- the leaf isn't open
 abbrev HasCertificate : Leaf → Type 0

@@ -1,8 +1,8 @@
 -- Budget sweeps worked by hand.
 use Rattle.std.specs.Prelude.{[], ◌∷◌, Some, None, codes}
 use Rattle.rob_algebra.specs.Fraction.{ratio}
-use Rattle.rob_meaning.proofs.WorkedNotation.{int, over, ◌⊕◌, uncertain, var, around, row, cover, item, best}
-use Rattle.rob_meaning.proofs.WorkedTests.{found, test_certificate}
+use Rattle.rob_meaning.proofs.ByHand.WorkedNotation.{int, over, ◌⊕◌, uncertain, var, around, row, cover, item, best}
+use Rattle.rob_meaning.proofs.ByHand.WorkedTests.{found, test_certificate}
 use Rattle.rob_meaning.specs.Expressions.{parameter, variable}
 use Rattle.rob_meaning.specs.Places.{0ℚ, 1ℚ}
 use Rattle.rob_meaning.specs.RobustModel.{RobustModel, at_least, budget, minimise}

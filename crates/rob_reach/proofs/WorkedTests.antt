@@ -2,8 +2,8 @@
 use Rattle.std.proofs.Common.{sym, subst, inl, inr, refl}
 use Rattle.std.specs.Prelude.{◌≡◌, ℕ, zero, suc, Bool, true, false, List, [], ◌∷◌, Option, Some, None, IfSome, ◌⊎◌, T}
 use Rattle.rob_algebra.specs.Fraction.{Fraction}
-use Rattle.rob_meaning.proofs.EmptyLemmas.{shows_empty}
-use Rattle.rob_meaning.proofs.WorkedTests.{test_model, test_admits, test_le, test_same, test_empty, both, so, test_count, test_each, test_proves}
+use Rattle.rob_meaning.proofs.Conditions.EmptyLemmas.{shows_empty}
+use Rattle.rob_meaning.proofs.ByHand.WorkedTests.{test_model, test_admits, test_le, test_same, test_empty, both, so, test_count, test_each, test_proves}
 use Rattle.rob_meaning.specs.Certificates.{Status, optimal, infeasible, unbounded, Certificate}
 use Rattle.rob_meaning.specs.Guarantee.{IsNoWorse}
 use Rattle.rob_meaning.specs.Places.{at}

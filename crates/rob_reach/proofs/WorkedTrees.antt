@@ -3,8 +3,8 @@ use Rattle.std.proofs.Common.{ap, arith, ◌∙◌, inl, inr, refl}
 use Rattle.std.proofs.lemmas.Int.{ints}
 use Rattle.std.specs.Prelude.{◌≡◌, pos, [], ◌∷◌, Some, None, codes}
 use Rattle.rob_algebra.specs.Fraction.{Fraction, ratio}
-use Rattle.rob_meaning.proofs.WorkedNotation.{int, over, times, uncertain, var, row, cover, item, best, none, without_end}
-use Rattle.rob_meaning.proofs.WorkedTests.{found, test_certificate, test_le, test_proves}
+use Rattle.rob_meaning.proofs.ByHand.WorkedNotation.{int, over, times, uncertain, var, row, cover, item, best, none, without_end}
+use Rattle.rob_meaning.proofs.ByHand.WorkedTests.{found, test_certificate, test_le, test_proves}
 use Rattle.rob_meaning.specs.Certificates.{Certificate, optimal, infeasible, unbounded}
 use Rattle.rob_meaning.specs.Expressions.{number, parameter, variable}
 use Rattle.rob_meaning.specs.Places.{0ℚ, 1ℚ}

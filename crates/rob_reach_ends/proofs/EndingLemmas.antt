@@ -2,7 +2,7 @@
 use Rattle.std.specs.Prelude.{ℕ, List, ◌⊎◌}
 use Rattle.std.proofs.Common.{inl, inr}
 use Rattle.rob_algebra.specs.Fraction.{Fraction}
-use Rattle.rob_counterpart.proofs.CompletenessLemmas.{some_certificate}
+use Rattle.rob_counterpart.proofs.Proving.CompletenessLemmas.{some_certificate}
 use Rattle.rob_meaning.specs.Certificates.{Status, optimal, infeasible, unbounded}
 use Rattle.rob_meaning.specs.RobustModel.{RobustModel}
 use Rattle.rob_meaning.specs.UncertaintySet.{Admits}

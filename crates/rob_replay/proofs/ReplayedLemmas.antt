@@ -6,8 +6,8 @@ use Rattle.rob_algebra.specs.FractionLaws as Q
 use Rattle.rob_algebra.specs.FractionOrderLaws.{nonneg_sub_ℚ}
 use Rattle.rob_algebra.specs.Polynomials.{lit, ◌:-◌, v0}
 use Rattle.rob_algebra.specs.Width.{kept}
-use Rattle.rob_meaning.proofs.AdmittedLemmas.{admits_jointly}
-use Rattle.rob_meaning.proofs.JointBoundLemmas.{bound_joint}
+use Rattle.rob_meaning.proofs.Conditions.AdmittedLemmas.{admits_jointly}
+use Rattle.rob_meaning.proofs.Scenarios.JointBoundLemmas.{bound_joint}
 use Rattle.rob_meaning.specs.Guarantee.{HasBound, IsNoWorse}
 use Rattle.rob_meaning.specs.Places.{0ℚ, Each, EachFrom}
 use Rattle.rob_meaning.specs.RobustModel.{RobustModel, Row, AdaptiveVariable, Relation, at_most, at_least, equal}

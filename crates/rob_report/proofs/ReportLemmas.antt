@@ -2,7 +2,7 @@
 use Rattle.std.proofs.Common.{◌≡◌, ℕ, suc, ◌+◌, ◌<◌, List, [], ◌∷◌, ◌++◌, map, length, get_or, drop, arith, ap, ap₂, sym, ◌∙◌, append_assoc, append-nil, add-one}
 use Rattle.std.specs.Prelude.{codes}
 use Rattle.rob_algebra.specs.Fraction.{Fraction}
-use Rattle.rob_cert.proofs.WriterLemmas.{behind}
+use Rattle.rob_cert.proofs.Writing.WriterLemmas.{behind}
 use Rattle.rob_cert.specs.Spelling.{number_text, spaced}
 use Rattle.rob_meaning.specs.Names.{Name, parameter_name}
 use Rattle.rob_meaning.specs.Places.{at}

@@ -3,7 +3,7 @@ use Rattle.std.proofs.Common.{◌≡◌, ℕ, ℤ, suc, ◌+◌, ◌<◌, List, 
 use Rattle.std.specs.Fmt.{decimal}
 use Rattle.std.specs.Prelude.{codes}
 use Rattle.rob_algebra.specs.Fraction.{Fraction}
-use Rattle.rob_cert.proofs.WriterLemmas.{behind}
+use Rattle.rob_cert.proofs.Writing.WriterLemmas.{behind}
 use Rattle.rob_cert.specs.declared.trace.Round.{Round}
 use Rattle.rob_meaning.specs.RobustModel.{RobustModel}
 use Rattle.rob_model.specs.View.{parameter_of}

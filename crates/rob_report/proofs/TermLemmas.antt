@@ -1,7 +1,7 @@
 -- Terms that are left out, and sums of no term.
 use Rattle.std.proofs.Common.{◌≡◌, ℕ, zero, suc, List, [], ◌∷◌, ◌++◌, refl, ap, ap₂, ◌∙◌, append_assoc}
 use Rattle.std.specs.Prelude.{ℤ, pos, negsuc, codes}
-use Rattle.rob_cert.proofs.WriterLemmas.{behind}
+use Rattle.rob_cert.proofs.Writing.WriterLemmas.{behind}
 use Rattle.rob_meaning.specs.Names.{Name}
 use Rattle.rob_report.specs.Lines.{line, unless_zero}
 use Rattle.rob_report.specs.Rows.{form_line}

@@ -2,7 +2,7 @@
 use Rattle.std.proofs.Common.{◌≡◌, ℕ, List, [], ◌∷◌, ◌++◌, map, refl, ap, sym, ◌∙◌, append_assoc}
 use Rattle.std.specs.Prelude.{codes}
 use Rattle.rob_algebra.specs.Fraction.{Fraction}
-use Rattle.rob_cert.proofs.WriterLemmas.{behind}
+use Rattle.rob_cert.proofs.Writing.WriterLemmas.{behind}
 use Rattle.rob_cert.specs.Spelling.{spaced}
 use Rattle.rob_model.specs.View.{parameter_of}
 use Rattle.rob_model.specs.declared.model.Param.{Param}

@@ -9,10 +9,10 @@ use mir.Val.{SFits, to_z, of_z}
 use Rattle.rob_index.specs.Membership.{Among, here, there}
 use Rattle.rob_index.specs.Forms.{Form, Ends, fixed, value_of, values_of, length_form, without, extensions, first_factor, only, plus_times}
 use Rattle.rob_algebra.specs.IntegerOrder.{mul_nonneg}
-use Rattle.rob_index.proofs.DecisionLemmas.{fixed_within}
-use Rattle.rob_index.proofs.FormLemmas.{minus_is, plus_times_is}
-use Rattle.rob_index.proofs.ListLemmas.{values_within}
-use Rattle.rob_index.proofs.NestLemmas.{never_over, lt_from}
+use Rattle.rob_index.proofs.Faults.DecisionLemmas.{fixed_within}
+use Rattle.rob_index.proofs.Faults.FormLemmas.{minus_is, plus_times_is}
+use Rattle.rob_index.proofs.LinesRead.ListLemmas.{values_within}
+use Rattle.rob_index.proofs.Faults.NestLemmas.{never_over, lt_from}
 use Rattle.rob_ranges.proofs.DigitLemmas.{lt_no}
 use Rattle.rob_ranges.proofs.NestLemmas.{greatest_fixed, le_no, run_over}
 use Rattle.rob_ranges.specs.declared.short.Short.{Short}

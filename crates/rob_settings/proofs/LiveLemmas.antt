@@ -6,7 +6,7 @@ use Rattle.std.proofs.lemmas.Int.{ints}
 use Rattle.rob_algebra.specs.Integer.{products}
 use Rattle.rob_algebra.specs.IntegerOrder.{mul_nonneg, mul_mono, le_total}
 use Rattle.rob_index.specs.Forms.{Ends, value_of, outer, first_factor}
-use Rattle.rob_index.proofs.FormLemmas.{outer_is}
+use Rattle.rob_index.proofs.Faults.FormLemmas.{outer_is}
 use Rattle.rob_settings.specs.Live.{lack_at}
 
 -- the change from each value to the next

@@ -9,7 +9,7 @@ use Rattle.rob_algebra.specs.IntegerOrder.{mul_nonneg}
 use Rattle.rob_index.specs.Statements.{digits}
 use Rattle.rob_index.specs.Forms.{Form, value_of, plus_times}
 use Rattle.rob_index.specs.Fast.{atom_form, sign_factor}
-use Rattle.rob_index.proofs.FormLemmas.{plus_times_is}
+use Rattle.rob_index.proofs.Faults.FormLemmas.{plus_times_is}
 use Rattle.rob_ranges.specs.declared.short.Short.{Short}
 use Rattle.rob_ranges.specs.DigitLists.{wide_of}
 use Rattle.rob_ranges.specs.Shorts.{first_of, second_of, short_value}

@@ -6,7 +6,7 @@ use Rattle.std.proofs.lemmas.Int.{ints, by_lt_z}
 use Rattle.std.proofs.Common.{length-append, append_assoc, append-nil}
 use Rattle.rob_index.specs.Settings.{natural, count, upwards}
 use Rattle.rob_index.specs.Forms.{Ends, value_of, extensions}
-use Rattle.rob_index.proofs.ListLemmas.{natural_is}
+use Rattle.rob_index.proofs.LinesRead.ListLemmas.{natural_is}
 use Rattle.rob_settings.specs.Room.{left_of, after}
 use Rattle.rob_settings.specs.Live.{IsDead}
 use Rattle.rob_settings.specs.Settings.{between}

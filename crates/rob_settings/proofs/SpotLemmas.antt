@@ -5,7 +5,7 @@ use Rattle.std.proofs.lemmas.List.{at_drop_more}
 use Rattle.rob_algebra.proofs.ListLemmas.{drop_past}
 use Rattle.rob_syntax.specs.Plain.{is_nothing}
 use Rattle.rob_index.specs.Forms.{extensions}
-use Rattle.rob_index.proofs.ListLemmas.{both_true}
+use Rattle.rob_index.proofs.LinesRead.ListLemmas.{both_true}
 use Rattle.rob_settings.specs.declared.item.Item.{Item}
 use Rattle.rob_settings.specs.declared.spot.Spot.{Spot}
 use Rattle.rob_settings.specs.Inner.{is_long_in}

@@ -1,6 +1,6 @@
 -- A canonical text that is read has no more tokens than a text may have: what is written of it is what its tokens are.
 use Rattle.std.proofs.Common.{◌≡◌, ℕ, ◌+◌, false, List, [], ◌∷◌, ◌++◌, length, map, refl, subst, arith, length-append}
-use Rattle.rob_meaning.proofs.EachLemmas.{each_append}
+use Rattle.rob_meaning.proofs.Lists.EachLemmas.{each_append}
 use Rattle.rob_meaning.specs.Places.{Each}
 use Rattle.rob_meaning.specs.RobustModel.{RobustModel, SetLine, budget, line}
 use Rattle.rob_parse.specs.Modelled.{ReadsModel}

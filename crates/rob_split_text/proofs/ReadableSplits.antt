@@ -5,8 +5,8 @@ use Rattle.std.proofs.lemmas.List.{length-map}
 use Rattle.rob_algebra.specs.Fraction.{Fraction, neg_ℚ}
 use Rattle.rob_algebra.specs.Width.{Fits}
 use Rattle.rob_algebra.proofs.Parts.{neg_parts}
-use Rattle.rob_meaning.proofs.AloneLemmas.{all_taken}
-use Rattle.rob_meaning.proofs.EachLemmas.{each_append, each_map}
+use Rattle.rob_meaning.proofs.Scenarios.AloneLemmas.{all_taken}
+use Rattle.rob_meaning.proofs.Lists.EachLemmas.{each_append, each_map}
 use Rattle.rob_meaning.specs.Expressions.{Expression, Terms, Factors, number, parameter, variable, adaptive, adaptive_in, sum, product, no_terms, term, no_factors, factor}
 use Rattle.rob_meaning.specs.Places.{Each}
 use Rattle.rob_meaning.specs.RobustModel as model

@@ -2,7 +2,7 @@
 use Rattle.std.proofs.Common.{◌≡◌, ℕ, zero, suc, ◌<◌, Bool, true, false, List, [], ◌∷◌, ◌++◌, length, map, refl, sym, ap, ◌∙◌, subst, arith}
 use Rattle.std.proofs.lemmas.List.{map-append}
 use Rattle.rob_lex.specs.Offences.{most_open}
-use Rattle.rob_meaning.proofs.EachLemmas.{each_all, each_append, each_both, each_left, each_right}
+use Rattle.rob_meaning.proofs.Lists.EachLemmas.{each_all, each_append, each_both, each_left, each_right}
 use Rattle.rob_meaning.specs.Expressions.{Expression, Terms, Factors, number, parameter, variable, adaptive, adaptive_in, sum, product, no_terms, term, no_factors, factor}
 use Rattle.rob_meaning.specs.Names.{Name}
 use Rattle.rob_meaning.specs.Places.{Each}

@@ -3,9 +3,9 @@
 use Rattle.std.proofs.Common.{◌≡◌, ℕ, suc, ◌^◌, ◌<◌, ◌≤◌, List, [], ◌∷◌, ◌++◌, length, map, refl, sym, ap, ◌∙◌, subst, arith, pow_mono}
 use Rattle.std.specs.Prelude.{Option, Some, None, codes}
 use Rattle.rob_algebra.specs.Fraction.{Fraction}
-use Rattle.rob_meaning.proofs.AloneLemmas.{all_taken}
-use Rattle.rob_meaning.proofs.EachLemmas.{each_append, each_both, each_left, each_map, each_right}
-use Rattle.rob_meaning.proofs.NamedLemmas.{each_unmapped}
+use Rattle.rob_meaning.proofs.Scenarios.AloneLemmas.{all_taken}
+use Rattle.rob_meaning.proofs.Lists.EachLemmas.{each_append, each_both, each_left, each_map, each_right}
+use Rattle.rob_meaning.proofs.Naming.NamedLemmas.{each_unmapped}
 use Rattle.rob_meaning.specs.Named.{adaptive_names, declared_names, row_names, variable_names, written_names}
 use Rattle.rob_meaning.specs.Names.{Name}
 use Rattle.rob_meaning.specs.Places.{Each}

@@ -3,7 +3,7 @@ use Rattle.std.specs.Prelude.{◌≡◌, List}
 use Rattle.std.proofs.Common.{sym, subst}
 use Rattle.rob_algebra.specs.Fraction.{Fraction}
 use Rattle.rob_dualize.specs.Solving.{IsShownEmpty}
-use Rattle.rob_meaning.proofs.ProvesLemmas.{certificate_true}
+use Rattle.rob_meaning.proofs.Proving.ProvesLemmas.{certificate_true}
 use Rattle.rob_meaning.specs.Certificates.{Certificate, Status, optimal, infeasible, unbounded}
 use Rattle.rob_meaning.specs.Proves.{HasStatus, Proves, ProvesAs}
 use Rattle.rob_meaning.specs.RobustModel.{RobustModel}

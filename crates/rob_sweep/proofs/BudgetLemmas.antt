@@ -3,7 +3,7 @@ use Rattle.std.proofs.Common.{◌≡◌, ℕ, ◌+◌, ◌*◌, ◌-◌, ◌<◌
 use Rattle.std.proofs.lemmas.List.{map-append}
 use Rattle.std.specs.Bool.{Decides}
 use Rattle.rob_algebra.specs.Fraction.{Fraction}
-use Rattle.rob_meaning.proofs.NameLemmas.{length-set_row_names}
+use Rattle.rob_meaning.proofs.Naming.NameLemmas.{length-set_row_names}
 use Rattle.rob_meaning.specs.Forms.{forms}
 use Rattle.rob_meaning.specs.Named.{IsNamed}
 use Rattle.rob_meaning.specs.RobustModel.{SetLine, line, budget, RobustModel}

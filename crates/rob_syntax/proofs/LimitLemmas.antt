@@ -6,7 +6,7 @@ use Rattle.rob_index.specs.Statements.{Range, Ranged, Indexed}
 use Rattle.rob_index.specs.Statements as stated
 use Rattle.rob_index.specs.Lines.{AreRanges, AreAllRanged, HasMembers, IsLine}
 use Rattle.rob_syntax.specs.Few.{are_few, all_few, has_some, is_line}
-use Rattle.rob_index.proofs.ListLemmas.{both_true, true_both}
+use Rattle.rob_index.proofs.LinesRead.ListLemmas.{both_true, true_both}
 
 few_from : (rs : List Range) → are_few rs ≡ true → AreRanges rs
 few_from rs h = leb-true (length rs) 2 h

@@ -6,7 +6,7 @@ use Rattle.rob_index.specs.Statements as stated
 use Rattle.rob_index.specs.Expansion.{IsPlain, ArePlainParts, ArePlainFactors}
 use Rattle.rob_index.specs.PlainLines.{IsPlainRanged, HasPlainOver, ArePlainSides, IsPlainLine}
 use Rattle.rob_syntax.specs.Plain.{is_nothing, is_plain_tree, are_plain_parts, are_plain_factors, are_plain_members, are_plain_entries, is_plain_over, are_plain_sides, is_plain_line}
-use Rattle.rob_index.proofs.ListLemmas.{both_true, true_both}
+use Rattle.rob_index.proofs.LinesRead.ListLemmas.{both_true, true_both}
 
 -- ---- tests and what they say
 pub nothing_from : {A : Type 0} (xs : List A) → is_nothing xs ≡ true → xs ≡ []

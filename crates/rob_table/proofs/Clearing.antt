@@ -4,7 +4,7 @@ use Rattle.std.proofs.lemmas.Bool.{cases_eq, cases_order}
 use lib.IntN.{ℤ, pos}
 use Rattle.rob_linear.specs.Vectors.{Matrix, Vector, at}
 use Rattle.rob_linear.specs.Multiples.{IsClearedBy}
-use Rattle.rob_linear.proofs.Multiples.{zero_clears}
+use Rattle.rob_linear.proofs.RowForms.Multiples.{zero_clears}
 use Rattle.rob_entries.specs.Updates.{IsWideCleared}
 use Rattle.rob_entries.proofs.ClearingLemmas.{cleared_ext}
 use Rattle.rob_table.specs.Tables.{row_at, HasBounds, AreCleared, IsStopped}

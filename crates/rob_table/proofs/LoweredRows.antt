@@ -8,7 +8,7 @@ use Rattle.rob_algebra.specs.Integer.{ring, mul-zero, mul-one}
 use Rattle.rob_linear.specs.Vectors.{Vector, Matrix}
 use Rattle.rob_linear.specs.Multiples.{IsClearedBy}
 use Rattle.rob_linear.specs.Stages.{unit_row}
-use Rattle.rob_linear.proofs.Stages.{unit_one, unit_zero}
+use Rattle.rob_linear.proofs.CostChange.Stages.{unit_one, unit_zero}
 use Rattle.rob_entries.specs.Updates.{IsWideCleared}
 use Rattle.rob_table.specs.Tables.{IsUnchangedBut}
 use Rattle.rob_table.specs.Lowering.{IsLowered, IsWideLowered, step_row}

@@ -4,7 +4,7 @@ use Rattle.std.proofs.lemmas.Bool.{cases_eq}
 use Rattle.std.proofs.lemmas.List.{get_or-set_same, get_or-set_other, length-set}
 use lib.IntN.{ℤ, pos}
 use Rattle.rob_linear.specs.Beside.{exchanged}
-use Rattle.rob_linear.proofs.BesidePaths.{exchanged_q, exchanged_p, exchanged_other, exchanged_low}
+use Rattle.rob_linear.proofs.KeptOut.BesidePaths.{exchanged_q, exchanged_p, exchanged_other, exchanged_low}
 use Rattle.rob_table.specs.Tables.{row_at, bound_at, HasBounds}
 use Rattle.rob_table.proofs.Places.{set_here, set_elsewhere}
 

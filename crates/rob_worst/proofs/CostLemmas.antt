@@ -8,18 +8,18 @@ use Rattle.rob_linear.specs.Vectors.{sum_to, at}
 use Rattle.rob_meaning.specs.Forms.{matrix_at, form_columns}
 use Rattle.rob_meaning.specs.Places.{Each, tabulate}
 use Rattle.rob_meaning.specs.RobustModel.{RobustModel}
-use Rattle.rob_meaning.proofs.EachLemmas.{each_at, each_append}
+use Rattle.rob_meaning.proofs.Lists.EachLemmas.{each_at, each_append}
 use Rattle.rob_number.proofs.CastLemmas.{seen}
 use Rattle.rob_counterpart.specs.Counterpart.{cell, robust_of}
 use Rattle.rob_counterpart.specs.RobustProgram.{number_at}
-use Rattle.rob_counterpart.proofs.ModelLemmas.{number_outside}
-use Rattle.rob_counterpart.proofs.ReformPlaces.{where_less, where_not_less}
+use Rattle.rob_counterpart.proofs.Sets.ModelLemmas.{number_outside}
+use Rattle.rob_counterpart.proofs.Positions.ReformPlaces.{where_less, where_not_less}
 use Rattle.rob_elab.specs.Forms.{IsForms}
 use Rattle.rob_elab.specs.declared.forms.Forms.{Forms}
 use Rattle.rob_runs.specs.Cuts.{wholes}
 use Rattle.rob_runs.specs.Spots.{HasWidePrefix, cost_term}
-use Rattle.rob_runs.proofs.SumLemmas.{cost_is_number}
-use Rattle.rob_sets.proofs.RowLemmas.{tabulate-more}
+use Rattle.rob_runs.proofs.Clearing.SumLemmas.{cost_is_number}
+use Rattle.rob_sets.proofs.WholeRows.RowLemmas.{tabulate-more}
 use Rattle.std.specs.Prelude.{Option, Some, None, MatchOption}
 use Rattle.rob_dualize.specs.SetProgram.{in_pairs}
 use Rattle.rob_dualize.proofs.SetProgramLemmas.{in_pairs-push}

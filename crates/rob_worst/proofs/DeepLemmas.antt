@@ -12,16 +12,16 @@ use Rattle.rob_counterpart.specs.Counterpart.{robust_of, set_program}
 use Rattle.rob_counterpart.specs.RobustProgram.{number_at}
 use Rattle.rob_counterpart.specs.SamePrograms.{AreSame}
 use Rattle.rob_counterpart.specs.SetPrograms.{HasCost}
-use Rattle.rob_counterpart.proofs.SamePaths.{own_wide_same}
+use Rattle.rob_counterpart.proofs.Positions.SamePaths.{own_wide_same}
 use Rattle.rob_runs.specs.Cuts.{wholes}
 use Rattle.rob_runs.specs.Searches.{search_at}
-use Rattle.rob_runs.proofs.FinderLemmas.{finder_last, finder_same, finder_wide}
+use Rattle.rob_runs.proofs.Searching.FinderLemmas.{finder_last, finder_same, finder_wide}
 use Rattle.rob_simplex.specs.declared.state.State.{State}
 use Rattle.rob_simplex.specs.Dictionaries.{columns_of}
 use Rattle.rob_simplex.specs.PathEnds.{PathStopsFrom}
 use Rattle.rob_simplex.specs.Resuming.{IsCausedFrom}
 use Rattle.rob_simplex.specs.Solvers.{Solver, positions, entries, HasWeights, StandsAs, has_point}
-use Rattle.rob_simplex.proofs.Deepened.{can_resume, deep_is, same_point}
+use Rattle.rob_simplex.proofs.Rows.Deepened.{can_resume, deep_is, same_point}
 use Rattle.rob_simplex.specs.declared.state.LpStop.{LpStop}
 use Rattle.rob_simplex.specs.declared.state.LpStop.TheVariants.{Wide as At}
 use Rattle.rob_solver.specs.Depths.{deep_limit}

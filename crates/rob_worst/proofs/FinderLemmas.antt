@@ -27,8 +27,8 @@ use Rattle.rob_cert.specs.declared.ending.Worst.{Worst}
 use Rattle.rob_cert.specs.declared.ending.Worst.TheVariants.{At, Along}
 use Rattle.rob_runs.specs.Searches.{FindsScenario, FindsRay, search_at}
 use Rattle.rob_linear.specs.WideRows.{TellsWideRow}
-use Rattle.rob_runs.proofs.ResumeLemmas.{own_without}
-use Rattle.rob_runs.proofs.SumLemmas.{constant_is_sum}
+use Rattle.rob_runs.proofs.Searching.ResumeLemmas.{own_without}
+use Rattle.rob_runs.proofs.Clearing.SumLemmas.{constant_is_sum}
 use Rattle.rob_sets.specs.SetForm.{IsSetForm}
 use Rattle.rob_sets.specs.declared.set_form.SetForm.{SetForm}
 use Rattle.rob_dualize.specs.Ending.{StopsAt, IsMadeAs, position_of}

@@ -31,16 +31,16 @@ use Rattle.rob_counterpart.specs.SamePrograms.{AreSame}
 use Rattle.rob_counterpart.specs.SetPrograms.{IsOverSet, HasCost, set_of}
 use Rattle.rob_counterpart.specs.Splitting.{plus, minus, OneIsZero}
 use Rattle.rob_counterpart.specs.WorstCases.{row_amounts}
-use Rattle.rob_counterpart.proofs.ModelLemmas.{set_limits-tabulate}
-use Rattle.rob_counterpart.proofs.SamePaths.{own_same, optimal_same, unbounded_same}
-use Rattle.rob_counterpart.proofs.SameSystems.{systems_same}
-use Rattle.rob_counterpart.proofs.SetLemmas.{over_set_is}
-use Rattle.rob_counterpart.proofs.SplitLemmas.{AreOpposite, point_opposite, move_opposite}
-use Rattle.rob_counterpart.proofs.TabulateLemmas.{tabulate-same}
+use Rattle.rob_counterpart.proofs.Sets.ModelLemmas.{set_limits-tabulate}
+use Rattle.rob_counterpart.proofs.Positions.SamePaths.{own_same, optimal_same, unbounded_same}
+use Rattle.rob_counterpart.proofs.Positions.SameSystems.{systems_same}
+use Rattle.rob_counterpart.proofs.Sets.SetLemmas.{over_set_is}
+use Rattle.rob_counterpart.proofs.Pairs.SplitLemmas.{AreOpposite, point_opposite, move_opposite}
+use Rattle.rob_counterpart.proofs.Pairs.TabulateLemmas.{tabulate-same}
 use Rattle.rob_runs.specs.Cuts.{wholes}
 use Rattle.rob_runs.specs.Searches.{search_at, FindsScenario, FindsRay}
 use Rattle.rob_linear.specs.WideRows.{TellsWideRow}
-use Rattle.rob_runs.proofs.FinderLemmas.{finder_same, finder_last, finder_wide}
+use Rattle.rob_runs.proofs.Searching.FinderLemmas.{finder_same, finder_last, finder_wide}
 use Rattle.rob_dualize.specs.Ending.{position_of}
 use Rattle.rob_worst.specs.Finders.{HasSearched}
 

@@ -9,13 +9,13 @@ use Rattle.rob_meaning.specs.Forms.{form_columns}
 use Rattle.rob_meaning.specs.Places.{Each, tabulate}
 use Rattle.rob_meaning.specs.RobustModel.{RobustModel}
 use Rattle.rob_meaning.specs.SetRows.{set_column_count}
-use Rattle.rob_meaning.proofs.EachLemmas.{each_at}
+use Rattle.rob_meaning.proofs.Lists.EachLemmas.{each_at}
 use Rattle.rob_number.proofs.CastLemmas.{natural_seen}
 use Rattle.rob_counterpart.specs.Counterpart.{robust_of, set_program}
 use Rattle.rob_counterpart.specs.RobustProgram.{number_at}
 use Rattle.rob_counterpart.specs.SetPrograms.{HasCost}
 use Rattle.rob_counterpart.specs.Splitting.{plus, minus}
-use Rattle.rob_counterpart.proofs.TabulateLemmas.{length-tabulate}
+use Rattle.rob_counterpart.proofs.Pairs.TabulateLemmas.{length-tabulate}
 use Rattle.rob_dualize.proofs.TabulateLemmas.{item-tabulate}
 use Rattle.rob_elab.specs.Forms.{IsForms}
 use Rattle.rob_elab.specs.declared.forms.Forms.{Forms}

@@ -5,8 +5,8 @@ use lib.IntN.{ℤ}
 use Rattle.rob_algebra.specs.Fraction.{Fraction}
 use Rattle.rob_meaning.specs.Clearing.{whole_at}
 use Rattle.rob_model.specs.declared.plan.Plan.{Plan}
-use Rattle.rob_sets.proofs.ClearingSteps.{first_more}
-use Rattle.rob_sets.proofs.RowLemmas.{pushed}
+use Rattle.rob_sets.proofs.WholeRows.ClearingSteps.{first_more}
+use Rattle.rob_sets.proofs.WholeRows.RowLemmas.{pushed}
 use Rattle.rob_worst.specs.Vectors.{plan_of, step_of}
 
 module _ {N : Type 0} (value : N → Fraction) where

@@ -12,7 +12,7 @@ use Rattle.rob_parse.specs.Building.{FitsTree, FitsSummands, FitsOperands}
 use Rattle.rob_parse.specs.Written.{expression, terms, factors}
 use Rattle.rob_parse.specs.Models.{factors_taken, taken, terms_taken}
 use Rattle.rob_syntax.specs.Trees.{Part, tree_of, part_of, summands_of, operands_of}
-use Rattle.rob_rules.proofs.WalkLemmas.{part_is}
+use Rattle.rob_rules.proofs.Trees.WalkLemmas.{part_is}
 
 module _ {A B C : Type 0} (g : A → C) (f : B → C) where
   map-append : (list : List A) (y : A) → map g (list ++ y ∷ []) ≡ map g list ++ g y ∷ []

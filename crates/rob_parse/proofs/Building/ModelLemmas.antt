@@ -3,12 +3,12 @@ use Rattle.std.proofs.Common.{Bool, ◌≡◌, ℕ, ◌<◌, ◌≤◌, true, fa
 use Rattle.std.specs.Prelude.{◌&&◌, Option, Some, None}
 use Rattle.std.specs.List.{list_any, flat_map}
 use Rattle.rob_algebra.specs.Fraction.{◌<ℚ◌}
-use Rattle.rob_index.proofs.NamingLemmas.{neither}
+use Rattle.rob_index.proofs.Names.NamingLemmas.{neither}
 use Rattle.rob_meaning.specs.Places.{0ℚ, Each}
 use Rattle.rob_meaning.specs.RobustModel as model
 use Rattle.rob_meaning.specs.RobustModel.{RobustModel, AdaptiveVariable}
-use Rattle.rob_meaning.proofs.AloneLemmas.{model_alone}
-use Rattle.rob_meaning.proofs.EachLemmas.{each_append}
+use Rattle.rob_meaning.proofs.Scenarios.AloneLemmas.{model_alone}
+use Rattle.rob_meaning.proofs.Lists.EachLemmas.{each_append}
 use Rattle.rob_meaning.specs.WellFormed.{IsModel, IsExpression, IsSetSide, IsSetLine, IsMember}
 use Rattle.rob_rules.specs.declared.sort.Sort.{Sort}
 use Rattle.rob_rules.specs.declared.sort.Sort.TheVariants as sort
@@ -32,7 +32,7 @@ use Rattle.rob_parse.proofs.Sizes.CountLemmas.{counts}
 use Rattle.rob_parse.proofs.Degrees.DegreeLemmas.{EachName, EachSummand, EachOperand, Clean, clean_apart, Stands, inside_and_linear, no_decision}
 use Rattle.rob_parse.proofs.Degrees.DeviationLemmas.{deviations_positive}
 use Rattle.rob_parse.proofs.Degrees.FitLemmas.{statement_fits}
-use Rattle.rob_rules.proofs.ReadingLemmas.{none_found, true_of_not}
+use Rattle.rob_rules.proofs.Judging.ReadingLemmas.{none_found, true_of_not}
 use Rattle.rob_parse.proofs.Names.ChainLemmas.{model_chain}
 use Rattle.rob_parse.proofs.Names.SortLemmas.{Names, all_named, none_named, kept_behind}
 use Rattle.rob_parse.proofs.Degrees.UsedLemmas.{Free, IsFreeName, left, right, tail, free_tree, free_list, free_members}

@@ -1,7 +1,7 @@
 -- Each text reads as one model, at whichever limits, or breaks one rule at one line. A limit only bounds digits, so
 -- that at a greater one more texts are read; what a text reads as is the same.
 use Rattle.std.proofs.Common.{◌≡◌, ℕ, ◌⊎◌, inl, inr, ⊎_elim, List, [], ◌∷◌, ◌++◌, map, refl, sym, ap, ◌∙◌, subst}
-use Rattle.rob_index.proofs.Versions.{one_of}
+use Rattle.rob_index.proofs.Parsing.Versions.{one_of}
 use Rattle.rob_index.specs.Expansion.{expand}
 use Rattle.rob_index.specs.Reading as lines
 use Rattle.rob_index.specs.Reading.{IsOf, State, Version}
@@ -13,7 +13,7 @@ use Rattle.rob_lex.specs.declared.token.Token.{Token}
 use Rattle.rob_meaning.specs.RobustModel.{RobustModel}
 use Rattle.rob_parse.specs.Modelled.{ReadsModel}
 use Rattle.rob_parse.specs.Models.{model_of}
-use Rattle.rob_rules.proofs.OneText.{never, some_text}
+use Rattle.rob_rules.proofs.Joining.OneText.{never, some_text}
 use Rattle.rob_rules.specs.Faults.{in_order}
 use Rattle.rob_rules.specs.Names.{Named, named_behind}
 use Rattle.rob_rules.specs.Scopes.{Earlier}

@@ -7,7 +7,7 @@ use Rattle.rob_lex.specs.Offences.{AreTokens}
 use Rattle.rob_lex.specs.declared.token.Kind.{Kind}
 use Rattle.rob_lex.specs.declared.token.Kind.TheVariants as kind
 use Rattle.rob_lex.specs.declared.token.Token.{Token}
-use Rattle.rob_meaning.proofs.EachLemmas.{each_append}
+use Rattle.rob_meaning.proofs.Lists.EachLemmas.{each_append}
 use Rattle.rob_meaning.specs.Places.{Each}
 use Rattle.rob_parse.proofs.Names.NamedLemmas.{HasWord, apart, lines_have, word_get}
 use Rattle.rob_parse.proofs.Names.WordSetLemmas.{In, number_found, tokens_word, words_in}

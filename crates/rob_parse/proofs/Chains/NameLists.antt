@@ -4,7 +4,7 @@ use Rattle.std.specs.Prelude.{Option, Some, None, option_to_list}
 use Rattle.rob_index.specs.Refs.{EachFactorName, EachName, EachNameOf, EachPartName, EachSideName, IfThere}
 use Rattle.rob_index.specs.Statements as stated
 use Rattle.rob_index.specs.Statements.{Factors, Member, Name, Parts, Plain, Statement}
-use Rattle.rob_meaning.proofs.EachLemmas.{each_append, each_left, each_right, each_map}
+use Rattle.rob_meaning.proofs.Lists.EachLemmas.{each_append, each_left, each_right, each_map}
 use Rattle.rob_meaning.specs.Places.{Each}
 use Rattle.rob_rules.specs.Names.{factor_names, names_of, part_names, side_names, tree_names}
 

@@ -1,9 +1,9 @@
 -- What a text of either version reads as are statements one behind another, each as a reader makes it.
 use Rattle.std.proofs.Common.{◌≡◌, ℕ, ◌≤◌, false, List, [], ◌∷◌, length, map, sym, ap, ◌∙◌, subst, arith}
 use Rattle.std.specs.List.{flat_map, list_any}
-use Rattle.rob_index.proofs.KeptLemmas.{all_of_lines}
-use Rattle.rob_index.proofs.LineNames.{statement_refs}
-use Rattle.rob_index.proofs.NamingLemmas.{all_short, names_of_refs, none_among, neither}
+use Rattle.rob_index.proofs.LinesRead.KeptLemmas.{all_of_lines}
+use Rattle.rob_index.proofs.Names.LineNames.{statement_refs}
+use Rattle.rob_index.proofs.Names.NamingLemmas.{all_short, names_of_refs, none_among, neither}
 use Rattle.rob_index.specs.Expansion.{expand, word_at}
 use Rattle.rob_index.specs.Kept.{IsOfLine}
 use Rattle.rob_index.specs.Lines.{IsStatement}
@@ -16,7 +16,7 @@ use Rattle.rob_index.specs.Places.{places}
 use Rattle.rob_index.specs.Statements as stated
 use Rattle.rob_index.specs.Statements.{Indexed, Name, Ref, Statement, Tree}
 use Rattle.rob_index.specs.Symbols as is
-use Rattle.rob_meaning.proofs.EachLemmas.{each_left, each_map, each_right}
+use Rattle.rob_meaning.proofs.Lists.EachLemmas.{each_left, each_map, each_right}
 use Rattle.rob_meaning.specs.Named.{AreDistinct, IsPlain}
 use Rattle.rob_meaning.specs.Places.{Each}
 use Rattle.rob_parse.proofs.Chains.FreeLines.{HasFreeName, IsFreeNumber, text_free}
@@ -24,8 +24,8 @@ use Rattle.rob_parse.proofs.Chains.NameLists.{from_names, name_map, of_names}
 use Rattle.rob_parse.proofs.Names.ExpandedNames.{IsFreeWord, indexed_word}
 use Rattle.rob_parse.proofs.Names.WordSetLemmas.{In, byte_plain, first_plain, number_found, tokens_word, words_distinct, words_words}
 use Rattle.rob_lex.specs.declared.token.Token.{Token}
-use Rattle.rob_rules.proofs.LinkLemmas.{read_among, read_linked}
-use Rattle.rob_rules.proofs.ShapeLemmas.{expanded_real}
+use Rattle.rob_rules.proofs.Joining.LinkLemmas.{read_among, read_linked}
+use Rattle.rob_rules.proofs.Joining.ShapeLemmas.{expanded_real}
 use Rattle.rob_rules.specs.Chains as chains
 use Rattle.rob_rules.specs.Chains.{Chain, IsFormed, IsNumber, MayDeclare, declared_name}
 use Rattle.rob_rules.specs.Faults.{expressions, in_order}

@@ -15,7 +15,7 @@ use Rattle.rob_rules.specs.Faults.{has_two_decisions, has_two_uncertain, has_ran
 use Rattle.rob_parse.specs.Written.{named, expression, terms, factors}
 use Rattle.rob_syntax.specs.Trees.{Tree, number, name, sum, product, Summands, no_summands, summand, Operands, no_operands, operand}
 use Rattle.rob_parse.proofs.Names.SortLemmas.{Names}
-use Rattle.rob_index.proofs.NamingLemmas.{none_both, neither}
+use Rattle.rob_index.proofs.Names.NamingLemmas.{none_both, neither}
 
 -- each name of a tree has the property
 module _ (P : ℕ → Type 0) where

@@ -5,7 +5,7 @@ use Rattle.std.specs.List.{list_any}
 use Rattle.rob_algebra.specs.Fraction.{◌<ℚ◌}
 use Rattle.rob_algebra.specs.FractionPairs.{is_of_pair, pos_lt}
 use Rattle.rob_algebra.specs.PairOrder.{is_pos_in}
-use Rattle.rob_index.proofs.NamingLemmas.{neither}
+use Rattle.rob_index.proofs.Names.NamingLemmas.{neither}
 use Rattle.rob_meaning.specs.Places.{0ℚ, Each}
 use Rattle.rob_syntax.specs.declared.syntax.Member.{Member}
 use Rattle.rob_parse.specs.Building.{FitsMember}

@@ -21,8 +21,8 @@ use Rattle.rob_parse.specs.Written.{goal_in}
 use Rattle.rob_rules.specs.Scopes.{Earlier, behind}
 use Rattle.rob_rules.specs.Chains.{Chain}
 use Rattle.rob_syntax.specs.Trees.{Tree, number, name, sum, product, Summands, no_summands, summand, Operands, no_operands, operand, tree_of}
-use Rattle.rob_rules.proofs.ReadingLemmas.{none_found}
-use Rattle.rob_index.proofs.NamingLemmas.{none_both, neither}
+use Rattle.rob_rules.proofs.Judging.ReadingLemmas.{none_found}
+use Rattle.rob_index.proofs.Names.NamingLemmas.{none_both, neither}
 
 -- no number has digits over the limit, and none a divisor of 0
 record Fine (limit : ℕ) (ls : List Leaf) : Type 0 where

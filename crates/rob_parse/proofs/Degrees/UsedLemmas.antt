@@ -8,7 +8,7 @@ use Rattle.rob_rules.specs.Leaves.{leaves, part_leaves, factor_leaves, member_le
 use Rattle.rob_syntax.specs.declared.syntax.Member.{Member}
 use Rattle.rob_syntax.specs.Trees.{Tree, number, name, sum, product, Summands, no_summands, summand, Operands, no_operands, operand}
 use Rattle.rob_parse.proofs.Degrees.DegreeLemmas.{EachName, EachSummand, EachOperand}
-use Rattle.rob_index.proofs.NamingLemmas.{none_both, neither}
+use Rattle.rob_index.proofs.Names.NamingLemmas.{none_both, neither}
 
 module _ (test : Leaf → Bool) where
   -- no name and no number passes the test

@@ -15,7 +15,7 @@ use Rattle.rob_parse.specs.Written.{goal_in, sets, written_of, word_of, paramete
 use Rattle.rob_parse.specs.Models.{line_sets, objective_set, row_sets, model_of}
 use Rattle.rob_rules.specs.Chains.{Chain, IsNumber}
 use Rattle.rob_rules.specs.Scopes.{Earlier, behind, start, declared_by, declare}
-use Rattle.rob_rules.proofs.WidenedLemmas.{declare_length}
+use Rattle.rob_rules.proofs.Joining.WidenedLemmas.{declare_length}
 use Rattle.rob_parse.proofs.Sets.InSets.{names_taken, parameters_are}
 use Rattle.rob_parse.proofs.Names.SortLemmas.{is_new}
 use Rattle.rob_parse.proofs.Names.WordSetLemmas.{distinct_between}

@@ -14,7 +14,7 @@ use Rattle.rob_index.specs.Settings.{Setting, index_value}
 use Rattle.rob_index.specs.Rules.{is_out_at}
 use Rattle.rob_index.specs.Statements.{Index, Ref}
 use Rattle.rob_lex.specs.Bytes.{goes_on_word}
-use Rattle.rob_meaning.proofs.EachLemmas.{each_right}
+use Rattle.rob_meaning.proofs.Lists.EachLemmas.{each_right}
 use Rattle.rob_meaning.specs.Places.{Each}
 use Rattle.rob_syntax.specs.Names.{GoesOn, IsSpelled, IsWord}
 use Rattle.rob_syntax.specs.Symbols.{keyword_among, keywords, longest_name}

@@ -19,7 +19,7 @@ use Rattle.rob_parse.specs.Written.{word_of}
 use Rattle.rob_syntax.specs.Names.{IsWord, IsSpelled}
 use Rattle.rob_rules.specs.Chains.{IsFormed, IsNumber}
 use Rattle.rob_rules.specs.Scopes.{declared_by}
-use Rattle.rob_rules.proofs.SizeLemmas.{at_most}
+use Rattle.rob_rules.proofs.Counts.SizeLemmas.{at_most}
 use Rattle.rob_index.specs.Reading.{one}
 use Rattle.rob_syntax.specs.Symbols.{keywords, keyword_among, longest_name, number_of, word_symbol, symbol_at, symbols_of, bytes_of, word_at, word_in, add_token, token_lines, lines_of}
 use Rattle.rob_parse.proofs.Names.WordSetLemmas.{In, number_found, one_number}

@@ -22,11 +22,11 @@ use Rattle.rob_parse.specs.Written.{parameter_number, parameter_at, member, adap
 use Rattle.rob_rules.specs.Chains.{Chain}
 use Rattle.rob_rules.specs.Links.{Keeps}
 use Rattle.rob_rules.specs.Scopes.{Earlier, behind, start, declared_by, declare}
-use Rattle.rob_rules.proofs.ReadingLemmas.{none_found, true_of_not}
-use Rattle.rob_rules.proofs.GrowingLemmas.{nothing_at}
+use Rattle.rob_rules.proofs.Judging.ReadingLemmas.{none_found, true_of_not}
+use Rattle.rob_rules.proofs.Joining.GrowingLemmas.{nothing_at}
 use Rattle.rob_parse.proofs.Names.SortLemmas.{Names, set_cases, is_new, kept_behind, AllNamed, named_behind}
 use Rattle.rob_parse.proofs.Degrees.UsedLemmas.{Free, IsFreeName, left, tail, free_list, free_members}
-use Rattle.rob_index.proofs.NamingLemmas.{none_both, neither}
+use Rattle.rob_index.proofs.Names.NamingLemmas.{none_both, neither}
 
 -- ---- names that stand once
 abbrev Once : List Leaf → Type 0

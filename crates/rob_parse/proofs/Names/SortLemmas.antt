@@ -18,11 +18,11 @@ use Rattle.rob_rules.specs.Chains.{Chain}
 use Rattle.rob_rules.specs.Links.{Keeps}
 use Rattle.rob_rules.specs.Scopes.{Earlier, behind, start, has_some, declare, declared_by}
 use Rattle.rob_rules.specs.Sizes.{counted}
-use Rattle.rob_rules.proofs.GrowingLemmas.{nothing_at}
-use Rattle.rob_rules.proofs.LinkLemmas.{set_kept}
-use Rattle.rob_rules.proofs.ReadingLemmas.{none_found}
-use Rattle.rob_index.proofs.NamingLemmas.{neither}
-use Rattle.rob_meaning.proofs.JointScenarioLemmas.{list_in-left}
+use Rattle.rob_rules.proofs.Joining.GrowingLemmas.{nothing_at}
+use Rattle.rob_rules.proofs.Joining.LinkLemmas.{set_kept}
+use Rattle.rob_rules.proofs.Judging.ReadingLemmas.{none_found}
+use Rattle.rob_index.proofs.Names.NamingLemmas.{neither}
+use Rattle.rob_meaning.proofs.Scenarios.JointScenarioLemmas.{list_in-left}
 
 -- ---- writing one sort
 pub set_cases : (sorts : List (Option Sort)) (i k : ℕ) (v : Sort) → (sort_at (set sorts i (Some v)) k ≡ Some v)

@@ -5,7 +5,7 @@ use Rattle.std.specs.List.{flat_map}
 use Rattle.std.proofs.Math.Nat.{mul-div_cancel_left, mul-le-mul_right}
 use Rattle.std.proofs.Math.Seq.{take-append_seam}
 use Rattle.std.proofs.lemmas.List.{length-map}
-use Rattle.rob_meaning.proofs.AdmittedLemmas.{length-later}
+use Rattle.rob_meaning.proofs.Conditions.AdmittedLemmas.{length-later}
 use Rattle.rob_meaning.specs.Degrees as degrees
 use Rattle.rob_meaning.specs.Degrees.{IsLinear, AreLinear, FactorsLinear}
 use Rattle.rob_meaning.specs.Expressions.{Expression, Terms, Factors, number, parameter, variable, adaptive, adaptive_in, sum, product, no_terms, term, no_factors, factor}

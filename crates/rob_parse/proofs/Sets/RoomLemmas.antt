@@ -16,7 +16,7 @@ use Rattle.rob_rules.specs.Texts.{Reads}
 use Rattle.rob_rules.specs.Scopes.{earlier_of, start}
 use Rattle.rob_parse.proofs.Sizes.CountLemmas.{counts, kept_all}
 use Rattle.rob_parse.proofs.Sets.SetNumbers.{counted_all, counted_start, set_there}
-use Rattle.rob_rules.proofs.SizeLemmas.{kept_start, times_more, within}
+use Rattle.rob_rules.proofs.Counts.SizeLemmas.{kept_start, times_more, within}
 use Rattle.rob_parse.proofs.Names.ChainLemmas.{reads_chain}
 use Rattle.rob_parse.proofs.Names.SortLemmas.{Names, all_named, none_named}
 

@@ -13,7 +13,7 @@ use Rattle.rob_parse.specs.Models.{line_sets, objective_set, row_sets, set_at, s
 use Rattle.rob_rules.specs.Chains.{Chain}
 use Rattle.rob_rules.specs.Scopes.{Earlier, behind, start}
 use Rattle.rob_parse.proofs.Building.ModelLemmas.{each_flat}
-use Rattle.rob_rules.proofs.GrowingLemmas.{nothing_at}
+use Rattle.rob_rules.proofs.Joining.GrowingLemmas.{nothing_at}
 use Rattle.rob_parse.proofs.Names.SortLemmas.{set_cases}
 
 -- the number of each set is at most the number of sets

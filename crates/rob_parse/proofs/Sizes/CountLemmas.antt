@@ -13,7 +13,7 @@ use Rattle.rob_parse.specs.Written.{parameters, sets, variables, adaptives, set_
 use Rattle.rob_rules.specs.Chains.{Chain}
 use Rattle.rob_rules.specs.Scopes.{Earlier, behind}
 use Rattle.rob_rules.specs.Sizes.{counted, IsKept}
-use Rattle.rob_rules.proofs.ReadingLemmas.{kept_note}
+use Rattle.rob_rules.proofs.Judging.ReadingLemmas.{kept_note}
 
 -- the columns of some adaptive variables
 unfoldable pub rule_columns : List AdaptiveVariable → ℕ

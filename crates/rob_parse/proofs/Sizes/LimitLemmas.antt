@@ -8,7 +8,7 @@ use Rattle.rob_meaning.specs.Forms.{forms}
 use Rattle.rob_meaning.specs.RobustModel.{RobustModel}
 use Rattle.rob_meaning.specs.SetRows.{lift_count, set_rows}
 use Rattle.rob_meaning.specs.Sizes.{adaptive_bounds, variable_bounds}
-use Rattle.rob_meaning.proofs.SizeLemmas.{bounds-joint, length-forms, length-set_rows, parameter_bounds, rows_of}
+use Rattle.rob_meaning.proofs.Tables.SizeLemmas.{bounds-joint, length-forms, length-set_rows, parameter_bounds, rows_of}
 use Rattle.rob_model.specs.Limits.{IsWithinLimits, most_columns, most_members, most_parameters, most_rows, most_set_lines, most_sets, most_size}
 use Rattle.rob_rules.specs.declared.size.Sizes.{Sizes}
 use Rattle.rob_rules.specs.declared.sort.Sort.{Sort}
@@ -24,7 +24,7 @@ use Rattle.rob_parse.proofs.Sizes.CountLemmas.{columns_are, kept_all}
 use Rattle.rob_parse.proofs.Names.ChainLemmas.{model_chain}
 use Rattle.rob_parse.proofs.Sets.InSets.{length-each_taken, length_joint, lifts_taken}
 use Rattle.rob_parse.proofs.Sizes.ModelSizes.{lines_taken, rows_taken}
-use Rattle.rob_rules.proofs.SizeLemmas.{Within, kept_start, within}
+use Rattle.rob_rules.proofs.Counts.SizeLemmas.{Within, kept_start, within}
 
 -- ---- counts of what is written, and of the model that it is in sets
 module _ (w : RobustModel) (names : List (List ℕ)) (of_lines : List ℕ) (of_objective : ℕ) (of_rows : List ℕ) where

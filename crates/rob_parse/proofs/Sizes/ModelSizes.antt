@@ -2,7 +2,7 @@
 use Rattle.std.proofs.Common.{◌≡◌, ℕ, ◌+◌, ◌*◌, List, [], ◌∷◌, refl, ap}
 use Rattle.std.proofs.lemmas.List.{length-map}
 use Rattle.rob_meaning.specs.RobustModel as model
-use Rattle.rob_meaning.proofs.SizeLemmas.{inequalities, row_inequalities, rows_of}
+use Rattle.rob_meaning.proofs.Tables.SizeLemmas.{inequalities, row_inequalities, rows_of}
 use Rattle.rob_parse.specs.Models.{each_taken, line_taken, member_taken, row_taken}
 
 pub rows_taken : (p : ℕ) (rs : List model.Row) (Ss : List ℕ)

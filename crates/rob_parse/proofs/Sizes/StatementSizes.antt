@@ -7,7 +7,7 @@ use Rattle.std.specs.List.{flat_map}
 use Rattle.rob_meaning.specs.RobustModel.{RobustModel}
 use Rattle.rob_meaning.specs.SetRows.{lift_count}
 use Rattle.rob_meaning.specs.Sizes.{adaptive_bounds, declared_count, variable_bounds}
-use Rattle.rob_meaning.proofs.SizeLemmas.{inequalities, parameter_bounds, row_inequalities, rows_of}
+use Rattle.rob_meaning.proofs.Tables.SizeLemmas.{inequalities, parameter_bounds, row_inequalities, rows_of}
 use Rattle.rob_rules.specs.declared.size.Sizes.{Sizes}
 use Rattle.rob_rules.specs.declared.sort.Sort.{Sort}
 use Rattle.rob_syntax.specs.declared.syntax.Bounds.{Bounds}
@@ -22,7 +22,7 @@ use Rattle.rob_rules.specs.Scopes.{Earlier, behind}
 use Rattle.rob_model.specs.Limits.{most_sets, most_parameters, most_columns, most_rows, most_set_lines, most_members, most_size}
 use Rattle.rob_rules.specs.Sizes.{bound_count, rel_count, start_sizes, counted, joint_count, size, is_within}
 use Rattle.rob_parse.proofs.Sizes.CountLemmas.{rule_columns}
-use Rattle.rob_rules.proofs.SizeLemmas.{Within}
+use Rattle.rob_rules.proofs.Counts.SizeLemmas.{Within}
 
 -- the sizes behind the statements of a model over written parameters, where so many sets are named
 abbrev pub added : Sizes → ℕ → RobustModel → Sizes

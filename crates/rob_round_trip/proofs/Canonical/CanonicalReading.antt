@@ -2,7 +2,7 @@
 use Rattle.std.proofs.Common.{◌≡◌, ℕ, ◌^◌, ◌<◌, ◌≤◌, true, List, [], ◌∷◌, ◌++◌, length, map, fold, refl, sym, ap, ◌∙◌, subst, arith}
 use Rattle.std.specs.Prelude.{Option}
 use Rattle.std.specs.List.{flat_map}
-use Rattle.rob_meaning.proofs.EachLemmas.{each_both}
+use Rattle.rob_meaning.proofs.Lists.EachLemmas.{each_both}
 use Rattle.rob_meaning.specs.Degrees.{IsLinear}
 use Rattle.rob_meaning.specs.Named.{HasDistinctMembers, IsNamed, declared_names}
 use Rattle.rob_meaning.specs.Places.{Each}

@@ -1,7 +1,7 @@
 -- What is known in front of each canonical line of a model.
 use Rattle.std.proofs.Common.{◌≡◌, ℕ, suc, ◌+◌, ◌^◌, ◌<◌, true, false, List, [], ◌∷◌, ◌++◌, length, map, get_or, refl, sym, ap, ◌∙◌, subst, arith}
 use Rattle.std.specs.Prelude.{Option, Some}
-use Rattle.rob_meaning.proofs.EachLemmas.{each_append, each_map, each_both}
+use Rattle.rob_meaning.proofs.Lists.EachLemmas.{each_append, each_map, each_both}
 use Rattle.rob_meaning.specs.Named.{AreDistinct, IsNamed, HasDistinctMembers, declared_names, written_names}
 use Rattle.rob_meaning.specs.Places.{Each}
 use Rattle.rob_meaning.specs.RobustModel as model

@@ -2,8 +2,8 @@
 use Rattle.std.proofs.Common.{◌≡◌, ◌≢◌, ℕ, zero, suc, ◌+◌, ◌<◌, List, [], ◌∷◌, ◌++◌, length, length-set, map, set, fold, get_or, replicate, Bool, refl, sym, ap, ◌∙◌, subst, arith, append_assoc}
 use Rattle.std.specs.Prelude.{Option, Some, None, is_some}
 use Rattle.std.proofs.lemmas.List.{map-append, length-replicate, get_or-set_other, get_or-set_same}
-use Rattle.rob_meaning.proofs.DistinctLemmas.{Apart, distinct_append, distinct_left, distinct_right, distinct_apart, distinct_map, apart_left, apart_right, apart_append}
-use Rattle.rob_meaning.proofs.EachLemmas.{each_append, each_left, each_right, each_map, each_both}
+use Rattle.rob_meaning.proofs.Lists.DistinctLemmas.{Apart, distinct_append, distinct_left, distinct_right, distinct_apart, distinct_map, apart_left, apart_right, apart_append}
+use Rattle.rob_meaning.proofs.Lists.EachLemmas.{each_append, each_left, each_right, each_map, each_both}
 use Rattle.rob_meaning.specs.Named.{AreDistinct, declared_names, written_names, variable_names, adaptive_names, row_names}
 use Rattle.rob_meaning.specs.Places.{Each}
 use Rattle.rob_meaning.specs.RobustModel as model
@@ -20,8 +20,8 @@ use Rattle.rob_rules.specs.Scopes.{has_some}
 use Rattle.rob_syntax.specs.Symbols.{number_of}
 use Rattle.rob_round_trip.proofs.Faultless.FaultlessParts.{parameters_only}
 use Rattle.rob_parse.proofs.Names.DeclaredLemmas.{IsNew}
-use Rattle.rob_rules.proofs.GrowingLemmas.{nothing_at}
-use Rattle.rob_rules.proofs.LinkLemmas.{set_kept}
+use Rattle.rob_rules.proofs.Joining.GrowingLemmas.{nothing_at}
+use Rattle.rob_rules.proofs.Joining.LinkLemmas.{set_kept}
 
 -- ---- declarations: the number of a name, and what it stands for then
 abbrev pub note : List (Option Sort) → ℕ × Sort → List (Option Sort)

@@ -7,7 +7,7 @@ use Rattle.rob_syntax.specs.declared.syntax.Statement.{Statement}
 use Rattle.rob_syntax.specs.declared.syntax.Statement.TheVariants.{Uncertain, Over, Set, Budget, Var, Adaptive, Goal, Row}
 use Rattle.rob_rules.specs.declared.size.Sizes.{Sizes}
 use Rattle.rob_rules.specs.Sizes.{AreSizesOf, counted, is_within, joint_count, start_sizes}
-use Rattle.rob_rules.proofs.SizeLemmas.{within}
+use Rattle.rob_rules.proofs.Counts.SizeLemmas.{within}
 use Rattle.rob_parse.specs.Models.{in_sets}
 use Rattle.rob_parse.proofs.Sizes.LimitLemmas.{in_sets_sizes}
 use Rattle.rob_parse.proofs.Sizes.StatementSizes.{added, within_again}

@@ -3,7 +3,7 @@
 use Rattle.std.proofs.Common.{◌≡◌, ℕ, Bool, true, List, [], ◌∷◌, ◌++◌, map, refl, sym, ap, ◌∙◌, subst, append-nil, append_assoc}
 use Rattle.std.specs.Prelude.{fold, Option, None}
 use Rattle.std.specs.List.{flat_map}
-use Rattle.rob_meaning.proofs.EachLemmas.{each_left, each_right}
+use Rattle.rob_meaning.proofs.Lists.EachLemmas.{each_left, each_right}
 use Rattle.rob_meaning.specs.Degrees.{IsLinear}
 use Rattle.rob_meaning.specs.Places.{Each}
 use Rattle.rob_meaning.specs.RobustModel as model

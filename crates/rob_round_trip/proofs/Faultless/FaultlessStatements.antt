@@ -7,7 +7,7 @@ use Rattle.rob_algebra.specs.Fraction.{Fraction, ◌<ℚ◌}
 use Rattle.rob_algebra.specs.FractionPairs.{is_self}
 use Rattle.rob_algebra.specs.PairOrder.{is_pos_out}
 use Rattle.rob_lex.specs.declared.token.Kind.TheVariants as kind
-use Rattle.rob_meaning.proofs.EachLemmas.{each_append}
+use Rattle.rob_meaning.proofs.Lists.EachLemmas.{each_append}
 use Rattle.rob_meaning.specs.Expressions as meaning
 use Rattle.rob_meaning.specs.Named.{AreDistinct, HasDistinctMembers}
 use Rattle.rob_meaning.specs.Places.{0ℚ, Each}

@@ -2,7 +2,7 @@
 use Rattle.std.proofs.Common.{◌≡◌, ◌+◌, ◌≤◌, ℕ, List, [], ◌∷◌, length, map, refl, ap, ◌∙◌, arith, length-append}
 use Rattle.std.specs.Prelude.{Option, Some, None}
 use Rattle.std.specs.Option.{option_map}
-use Rattle.rob_index.proofs.RenamingLemmas.{line_depth-renamed, line_tokens-renamed}
+use Rattle.rob_index.proofs.Names.RenamingLemmas.{line_depth-renamed, line_tokens-renamed}
 use Rattle.rob_index.specs.Counting.{line_tokens, lines_tokens}
 use Rattle.rob_index.specs.Depths.{line_depth}
 use Rattle.rob_index.specs.Renaming.{renamed, renamed_factors, renamed_member, renamed_parts, renamed_plain}
@@ -18,7 +18,7 @@ use Rattle.rob_round_trip.proofs.Lengths.LowLines.{line_shallow}
 use Rattle.rob_round_trip.specs.Lines.{AreReadable, CountsSetsFromOne, canonical_line}
 use Rattle.rob_round_trip.specs.Pages.{IsShallow, ended}
 use Rattle.rob_round_trip.specs.Shown.{shown, shown_factors, shown_member, shown_over, shown_parts, shown_tree}
-use Rattle.rob_rules.proofs.WalkLemmas.{part_is}
+use Rattle.rob_rules.proofs.Trees.WalkLemmas.{part_is}
 use Rattle.rob_rules.specs.declared.sort.Sort.{Sort}
 use Rattle.rob_syntax.proofs.TreeLemmas.{name_is, number_is, product_is, sum_is}
 use Rattle.rob_syntax.specs.Numbered.{numbered, numbered_factors, numbered_member, numbered_over, numbered_parts, numbered_tree, own_bounds, own_numeral, own_rel, own_sense}

@@ -3,7 +3,7 @@
 use Rattle.std.proofs.Common.{◌≡◌, ℕ, true, false, List, [], ◌∷◌, map, refl, sym, ap, ◌∙◌}
 use Rattle.std.specs.Prelude.{Option, Some, None}
 use Rattle.std.specs.Option.{option_map}
-use Rattle.rob_index.proofs.OneStatement.{one_line}
+use Rattle.rob_index.proofs.Parsing.OneStatement.{one_line}
 use Rattle.rob_index.specs.Grammar as plain
 use Rattle.rob_index.specs.Lines as lines
 use Rattle.rob_index.specs.Statements as stated

@@ -7,7 +7,7 @@ use Rattle.rob_index.specs.Expansion.{IsPlain, ArePlainParts, ArePlainFactors, i
 use Rattle.rob_index.specs.Grammar as plain
 use Rattle.rob_index.specs.Statements.{Ref, Tree, TreeFactors, TreeParts}
 use Rattle.rob_index.specs.Symbols as is
-use Rattle.rob_meaning.proofs.EachLemmas.{each_left, each_right}
+use Rattle.rob_meaning.proofs.Lists.EachLemmas.{each_left, each_right}
 use Rattle.rob_meaning.specs.Places.{Each}
 use Rattle.rob_round_trip.specs.Shown.{IsFoundAgain}
 use Rattle.rob_syntax.specs.Grammar.{Expr, Factor, Factors, Term, Terms, expr, name, no_factors, no_terms, number, parens, sign_of, signed, spell_expr, spell_factor, spell_factors, spell_minus, spell_number, spell_term, spell_terms, term, times, tree_expr, tree_factor, tree_factors, tree_term, tree_terms}

@@ -2,10 +2,10 @@
 use Rattle.std.proofs.Common.{◌≡◌, ◌≤◌, ◌+◌, ℕ, Bool, false, List, [], ◌∷◌, ◌++◌, length, map, refl, sym, ap, ◌∙◌, subst, arith, append-nil}
 use Rattle.std.specs.Prelude.{◌-◌, ◌||◌, fold, replicate, Option, None, if◌then◌else◌}
 use Rattle.std.specs.List.{find}
-use Rattle.rob_index.proofs.LineNames.{statement_refs}
-use Rattle.rob_index.proofs.ListLemmas.{or_false}
-use Rattle.rob_index.proofs.PlainFaults.{is_statement, plain_faultless}
-use Rattle.rob_index.proofs.PlainLemmas.{line_itself}
+use Rattle.rob_index.proofs.Names.LineNames.{statement_refs}
+use Rattle.rob_index.proofs.LinesRead.ListLemmas.{or_false}
+use Rattle.rob_index.proofs.LinesRead.PlainFaults.{is_statement, plain_faultless}
+use Rattle.rob_index.proofs.Expanding.PlainLemmas.{line_itself}
 use Rattle.rob_index.specs.Counting.{line_tokens, lines_tokens}
 use Rattle.rob_index.specs.Expansion.{expand, word_at}
 use Rattle.rob_index.specs.PlainLines.{itself_line}
@@ -18,7 +18,7 @@ use Rattle.rob_index.specs.Statements.{Indexed, Tree}
 use Rattle.rob_index.specs.Symbols as is
 use Rattle.rob_meaning.specs.Named.{AreDistinct}
 use Rattle.rob_meaning.specs.Places.{Each}
-use Rattle.rob_rules.proofs.WidenedLemmas.{declare_length}
+use Rattle.rob_rules.proofs.Joining.WidenedLemmas.{declare_length}
 use Rattle.rob_parse.proofs.Chains.NameLists.{of_names}
 use Rattle.rob_parse.proofs.Names.NamedLemmas.{IsSound}
 use Rattle.rob_parse.proofs.Names.WordSetLemmas.{In, in_place, number_found, one_number}

@@ -4,9 +4,9 @@ use Rattle.std.proofs.Common.{◌≡◌, ◌≤◌, ◌+◌, ℕ, List, [], ◌�
 use Rattle.std.proofs.lemmas.List.{length-map}
 use Rattle.std.specs.Prelude.{Option, Some, None}
 use Rattle.std.specs.Option.{option_map}
-use Rattle.rob_index.proofs.FewLemmas.{plain_few}
-use Rattle.rob_index.proofs.LineTokens.{line_tokens_fit}
-use Rattle.rob_index.proofs.PlainLemmas.{at_itself}
+use Rattle.rob_index.proofs.Expanding.FewLemmas.{plain_few}
+use Rattle.rob_index.proofs.Tokens.LineTokens.{line_tokens_fit}
+use Rattle.rob_index.proofs.Expanding.PlainLemmas.{at_itself}
 use Rattle.rob_index.specs.Counting.{line_tokens}
 use Rattle.rob_index.specs.Expansion.{itself}
 use Rattle.rob_index.specs.Grammar as plain
@@ -17,7 +17,7 @@ use Rattle.rob_index.specs.Refs.{HasMember}
 use Rattle.rob_index.specs.Statements as stated
 use Rattle.rob_index.specs.Statements.{Indexed, Ranged, Ref, Share, Tree}
 use Rattle.rob_index.specs.Symbols as is
-use Rattle.rob_meaning.proofs.EachLemmas.{each_left, each_right}
+use Rattle.rob_meaning.proofs.Lists.EachLemmas.{each_left, each_right}
 use Rattle.rob_round_trip.proofs.Indexed.PlainExpressions.{AreFound, back_expr, bare_ref, plain_expr, plain_of_expr, seen_both, seen_expr, seen_minus, seen_next, seen_number}
 use Rattle.rob_round_trip.specs.Shown.{IsFoundAgain}
 use Rattle.rob_syntax.specs.Grammar.{spell_expr, spell_minus, spell_number}

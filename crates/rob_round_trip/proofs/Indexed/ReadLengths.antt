@@ -1,8 +1,8 @@
 -- The canonical lines of what a text of either version reads as are few and shallow.
 use Rattle.std.proofs.Common.{◌≤◌, ℕ, false, List, [], ◌∷◌, length, map, sym, subst, arith}
 use Rattle.std.specs.Prelude.{Option}
-use Rattle.rob_index.proofs.ExpandedDepths.{expansion_shallow}
-use Rattle.rob_index.proofs.KeptLemmas.{all_of_lines, total_counted, total_few}
+use Rattle.rob_index.proofs.Tokens.ExpandedDepths.{expansion_shallow}
+use Rattle.rob_index.proofs.LinesRead.KeptLemmas.{all_of_lines, total_counted, total_few}
 use Rattle.rob_index.specs.Counting.{lines_tokens}
 use Rattle.rob_index.specs.Depths.{deepest, line_depth}
 use Rattle.rob_index.specs.Kept.{IsOfLine}

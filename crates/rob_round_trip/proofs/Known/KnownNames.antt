@@ -31,16 +31,16 @@ use Rattle.rob_syntax.specs.Symbols.{number_of}
 use Rattle.rob_parse.proofs.Names.DeclaredLemmas.{adaptive_names_are, adaptive_numbers, flat_names, flat_sets, parameter_names_are, parameter_numbers, row_names_are, row_numbers, set_numbers, variable_names_are, variable_numbers}
 use Rattle.rob_parse.proofs.Sets.InSets.{names_taken, parameters_are}
 use Rattle.rob_parse.proofs.Names.NamedLemmas.{IsDeclared, declared_so, names_spelled}
-use Rattle.rob_rules.proofs.ReadingLemmas.{none_found}
+use Rattle.rob_rules.proofs.Judging.ReadingLemmas.{none_found}
 use Rattle.rob_parse.proofs.Chains.TextChains.{text_words}
 use Rattle.rob_parse.proofs.Names.ChainLemmas.{reads_chain}
 use Rattle.rob_parse.proofs.Names.SortLemmas.{Names, all_named, kept_behind, none_named, stays}
-use Rattle.rob_rules.proofs.GrowingLemmas.{nothing_at}
-use Rattle.rob_rules.proofs.WidenedLemmas.{declare_length}
+use Rattle.rob_rules.proofs.Joining.GrowingLemmas.{nothing_at}
+use Rattle.rob_rules.proofs.Joining.WidenedLemmas.{declare_length}
 use Rattle.rob_parse.proofs.Names.WordSetLemmas.{in_place, number_found, one_number}
 use Rattle.rob_round_trip.proofs.Written.DeclarableLines.{name_read}
 use Rattle.rob_round_trip.proofs.Known.NamedThings.{IsDeclaredIn, IsThing, things, declared_in, found_at, depends_same}
-use Rattle.rob_index.proofs.NamingLemmas.{neither}
+use Rattle.rob_index.proofs.Names.NamingLemmas.{neither}
 
 -- ---- what is declared stands for the numbers of its kind, in order
 module _ (words : List (List ℕ)) (sorts : List (Option Sort)) where

@@ -2,7 +2,7 @@
 use Rattle.std.proofs.Common.{◌≡◌, ℕ, ◌+◌, ◌<◌, ◌⊎◌, inl, inr, List, [], ◌∷◌, length, set, sym, ◌∙◌, subst, arith}
 use Rattle.std.specs.Prelude.{Option, Some}
 use Rattle.rob_parse.proofs.Names.SortLemmas.{set_cases}
-use Rattle.rob_rules.proofs.GrowingLemmas.{nothing_at}
+use Rattle.rob_rules.proofs.Joining.GrowingLemmas.{nothing_at}
 use Rattle.rob_round_trip.specs.Lines.{CountsSetsFromOne}
 use Rattle.rob_rules.specs.Chains.{Chain}
 use Rattle.rob_rules.specs.Degrees.{sort_at}

@@ -7,7 +7,7 @@ use Rattle.rob_algebra.proofs.Parts.{neg_parts}
 use Rattle.rob_algebra.specs.Fraction.{Fraction, den_pos, neg_ℚ, of_pair}
 use Rattle.rob_algebra.specs.FractionPairs.{is_of_pair, nat_abs-times, of_pair_eq}
 use Rattle.rob_algebra.specs.Gcd as euclid
-use Rattle.rob_index.proofs.ListLemmas.{true_both}
+use Rattle.rob_index.proofs.LinesRead.ListLemmas.{true_both}
 use Rattle.rob_index.specs.Counting.{divisor_fits, fits, minus_tokens, number_tokens, signed_tokens}
 use Rattle.rob_meaning.specs.Values.{signed as with_sign}
 use Rattle.rob_parse.specs.Building.{FitsNumber}

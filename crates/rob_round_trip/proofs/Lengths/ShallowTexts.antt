@@ -4,7 +4,7 @@ use Rattle.std.specs.Prelude.{codes, if◌then◌else◌, not, ◌&&◌, ◌||�
 use Rattle.std.specs.Str.{bytes_eq}
 use Rattle.std.proofs.lemmas.Bool.{cases_Bool, eqb-true}
 use Rattle.std.proofs.lemmas.Slice.Eq.{bytes_eq-Decides}
-use Rattle.rob_index.proofs.OpenLemmas.{deepest-bare}
+use Rattle.rob_index.proofs.Tokens.OpenLemmas.{deepest-bare}
 use Rattle.rob_index.specs.Depths.{bare, deepest}
 use Rattle.rob_index.specs.Reading.{Version}
 use Rattle.rob_index.specs.Symbols as is

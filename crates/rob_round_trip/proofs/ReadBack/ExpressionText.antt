@@ -4,7 +4,7 @@ use Rattle.std.specs.Prelude.{Option, Some, if◌then◌else◌}
 use Rattle.std.proofs.lemmas.Grind.{flat_map-append}
 use Rattle.rob_algebra.specs.Fraction.{Fraction}
 use Rattle.rob_algebra.specs.Width.{Fits}
-use Rattle.rob_meaning.proofs.EachLemmas.{each_append}
+use Rattle.rob_meaning.proofs.Lists.EachLemmas.{each_append}
 use Rattle.rob_meaning.specs.Expressions as meaning
 use Rattle.rob_meaning.specs.Places.{Each}
 use Rattle.rob_rules.specs.Faults.{is_usable}
@@ -30,7 +30,7 @@ use Rattle.rob_syntax.specs.Trees.{Part, Tree, tree_of, part_of, summands_of, op
 use Rattle.rob_round_trip.proofs.Faultless.FineLeaves.{IsFineLeaf, fine_numeral}
 use Rattle.rob_round_trip.proofs.ReadBack.NumberText.{numeral_of, number_back, fraction_back}
 use Rattle.rob_syntax.proofs.TreeLemmas.{number_is, name_is, sum_is, product_is}
-use Rattle.rob_rules.proofs.WalkLemmas.{part_is}
+use Rattle.rob_rules.proofs.Trees.WalkLemmas.{part_is}
 
 -- the symbols of words behind words
 pub symbols_append : (words : List (List ℕ)) (xs ys : List Written)

@@ -1,8 +1,8 @@
 -- What a text of either version without the word `over` reads as names no set.
 use Rattle.std.proofs.Common.{◌≡◌, ◌≢◌, ℕ, List, [], ◌∷◌, ◌++◌, map, refl, ap, subst}
 use Rattle.std.specs.Prelude.{Option, Some, None}
-use Rattle.rob_index.proofs.KeptLemmas.{all_of_lines}
-use Rattle.rob_index.proofs.NamingLemmas.{among_mapped}
+use Rattle.rob_index.proofs.LinesRead.KeptLemmas.{all_of_lines}
+use Rattle.rob_index.proofs.Names.NamingLemmas.{among_mapped}
 use Rattle.rob_index.specs.Settings.{Setting, settings}
 use Rattle.rob_index.specs.Expansion.{expand, optional_name, ranges_of, statement_at}
 use Rattle.rob_index.specs.Grammar.{Expr, spell_expr, spell_list, spell_number, spell_over, spell_ranges, spell_ref}
@@ -13,7 +13,7 @@ use Rattle.rob_index.specs.Reading.{Version, one, two, IsOf, State}
 use Rattle.rob_index.specs.Statements as stated
 use Rattle.rob_index.specs.Statements.{Indexed, Name, Ref, Sides, Tree}
 use Rattle.rob_index.specs.Symbols as is
-use Rattle.rob_meaning.proofs.EachLemmas.{each_left, each_right}
+use Rattle.rob_meaning.proofs.Lists.EachLemmas.{each_left, each_right}
 use Rattle.rob_meaning.specs.Places.{Each}
 use Rattle.rob_parse.specs.Modelled.{HasNoOver, NamesNoSet}
 use Rattle.rob_round_trip.proofs.Indexed.ReadLengths.{seen_among}

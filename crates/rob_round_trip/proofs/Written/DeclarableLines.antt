@@ -7,7 +7,7 @@ use Rattle.rob_meaning.specs.Named.{declared_names}
 use Rattle.rob_meaning.specs.Places.{Each}
 use Rattle.rob_meaning.specs.RobustModel as model
 use Rattle.rob_meaning.specs.RobustModel.{RobustModel, written_count}
-use Rattle.rob_meaning.proofs.EachLemmas.{each_both}
+use Rattle.rob_meaning.proofs.Lists.EachLemmas.{each_both}
 use Rattle.rob_syntax.specs.declared.symbol.Mark.TheVariants as mark
 use Rattle.rob_syntax.specs.declared.symbol.Keyword.TheVariants as word
 use Rattle.rob_syntax.specs.declared.symbol.Keyword.{Keyword}

@@ -3,7 +3,7 @@ use Rattle.std.proofs.Common.{◌≡◌, ℕ, zero, suc, ◌^◌, ◌<◌, Bool,
 use Rattle.std.specs.Prelude.{◌==◌, nat_abs, int_lt, pos, if◌then◌else◌, Option, Some, None}
 use Rattle.rob_algebra.specs.Fraction.{Fraction}
 use Rattle.rob_algebra.specs.Width.{Fits}
-use Rattle.rob_meaning.proofs.EachLemmas.{each_append}
+use Rattle.rob_meaning.proofs.Lists.EachLemmas.{each_append}
 use Rattle.rob_meaning.specs.Expressions as meaning
 use Rattle.rob_meaning.specs.Named.{written_names, variable_names, adaptive_names, row_names, declared_names}
 use Rattle.rob_meaning.specs.Places.{Each}

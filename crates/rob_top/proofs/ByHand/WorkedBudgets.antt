@@ -4,8 +4,8 @@ use Rattle.std.proofs.lemmas.Bool.{leb-true}
 use Rattle.std.specs.Fmt.{digits}
 use Rattle.std.specs.Prelude.{[], ◌∷◌, codes}
 use Rattle.rob_algebra.specs.Fraction.{ratio}
-use Rattle.rob_meaning.proofs.WorkedNotation.{int}
-use Rattle.rob_meaning.proofs.WorkedTests.{found, test_model}
+use Rattle.rob_meaning.proofs.ByHand.WorkedNotation.{int}
+use Rattle.rob_meaning.proofs.ByHand.WorkedTests.{found, test_model}
 use Rattle.rob_meaning.specs.Named.{IsNamed, declared_names}
 use Rattle.rob_meaning.specs.Places.{Each}
 use Rattle.rob_model.specs.Limits.{IsWithinLimits}

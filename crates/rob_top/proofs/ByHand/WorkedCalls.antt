@@ -8,9 +8,9 @@ use Rattle.rob_algebra.specs.Fraction.{Fraction, ratio}
 use Rattle.rob_algebra.specs.Width.{Fits}
 use Rattle.rob_dualize.proofs.NarrowModels.{one_demand_admitted, one_demand_costs_12, one_demand_not_wide}
 use Rattle.rob_dualize.specs.SmallestModel.{one_demand}
-use Rattle.rob_meaning.proofs.EmptyLemmas.{shows_empty}
-use Rattle.rob_meaning.proofs.WorkedNotation.{int}
-use Rattle.rob_meaning.proofs.WorkedTests.{Found, found, test_differ, test_empty, test_model}
+use Rattle.rob_meaning.proofs.Conditions.EmptyLemmas.{shows_empty}
+use Rattle.rob_meaning.proofs.ByHand.WorkedNotation.{int}
+use Rattle.rob_meaning.proofs.ByHand.WorkedTests.{Found, found, test_differ, test_empty, test_model}
 use Rattle.rob_meaning.specs.Certificates.{optimal}
 use Rattle.rob_meaning.specs.Expressions.{parameter, variable}
 use Rattle.rob_meaning.specs.Named.{IsFree, IsNamed, declared_names}

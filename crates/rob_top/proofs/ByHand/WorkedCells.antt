@@ -7,9 +7,9 @@ use Rattle.rob_algebra.specs.Fraction.{Fraction, ratio}
 use Rattle.rob_cells.proofs.DistinctLemmas.{distinct_decides}
 use Rattle.rob_cells.specs.Rules.{KeepsRules}
 use Rattle.rob_dualize.specs.SmallestModel.{one_demand}
-use Rattle.rob_meaning.proofs.EmptyLemmas.{shows_empty}
-use Rattle.rob_meaning.proofs.WorkedNotation.{best, cover, int, item}
-use Rattle.rob_meaning.proofs.WorkedTests.{found, test_admits, test_certificate, test_empty, test_model}
+use Rattle.rob_meaning.proofs.Conditions.EmptyLemmas.{shows_empty}
+use Rattle.rob_meaning.proofs.ByHand.WorkedNotation.{best, cover, int, item}
+use Rattle.rob_meaning.proofs.ByHand.WorkedTests.{found, test_admits, test_certificate, test_empty, test_model}
 use Rattle.rob_meaning.specs.Named.{declared_names}
 use Rattle.rob_meaning.specs.Places.{0ℚ, 1ℚ, Each}
 use Rattle.rob_meaning.specs.RobustModel.{RobustModel}

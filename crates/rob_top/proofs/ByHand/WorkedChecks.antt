@@ -14,8 +14,8 @@ use Rattle.rob_check.specs.Narrow.{IsFirstFailing, IsNarrow, NoneWide}
 use Rattle.rob_check.specs.Verdicts.{Condition, Judges}
 use Rattle.rob_check.specs.declared.verdict.Verdict.{Verdict}
 use Rattle.rob_check.specs.declared.verdict.Verdict.TheVariants as verdicts
-use Rattle.rob_meaning.proofs.WorkedNotation.{int}
-use Rattle.rob_meaning.proofs.WorkedTests.{found}
+use Rattle.rob_meaning.proofs.ByHand.WorkedNotation.{int}
+use Rattle.rob_meaning.proofs.ByHand.WorkedTests.{found}
 use Rattle.rob_dualize.proofs.NarrowModels.{one_demand_model}
 use Rattle.rob_dualize.specs.SmallestModel.{one_demand}
 use Rattle.rob_meaning.specs.Certificates.{Certificate, optimal}

@@ -4,9 +4,9 @@ use Rattle.std.specs.Fmt.{digits}
 use Rattle.std.specs.Prelude.{codes}
 use Rattle.rob_algebra.specs.Fraction.{Fraction, ratio}
 use Rattle.rob_gen.specs.Generated.{generated}
-use Rattle.rob_meaning.proofs.StatusLemmas.{one_optimum}
-use Rattle.rob_meaning.proofs.WorkedNotation.{int}
-use Rattle.rob_meaning.proofs.WorkedTests.{found, test_certificate}
+use Rattle.rob_meaning.proofs.Proving.StatusLemmas.{one_optimum}
+use Rattle.rob_meaning.proofs.ByHand.WorkedNotation.{int}
+use Rattle.rob_meaning.proofs.ByHand.WorkedTests.{found, test_certificate}
 use Rattle.rob_meaning.specs.Certificates.{Certificate, Status, optimal}
 use Rattle.rob_meaning.specs.Places.{0ℚ, 1ℚ}
 use Rattle.rob_meaning.specs.Proves.{HasStatus}

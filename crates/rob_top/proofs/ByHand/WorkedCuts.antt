@@ -4,7 +4,7 @@ use Rattle.std.proofs.Common.{refl, inl, inr}
 use Rattle.std.specs.Prelude.{[], ◌∷◌, codes}
 use Rattle.rob_dualize.proofs.NarrowModels.{one_demand_admitted, one_demand_costs_12}
 use Rattle.rob_dualize.specs.SmallestModel.{one_demand}
-use Rattle.rob_meaning.proofs.WorkedNotation.{int}
+use Rattle.rob_meaning.proofs.ByHand.WorkedNotation.{int}
 use Rattle.rob_meaning.specs.RobustModel.{RobustModel}
 use Rattle.rob_parse.specs.Modelled.{ReadsModel}
 use Rattle.rob_top.proofs.Coming.SolveAnswers.{IsSolvedOrWide, optimal_or_wide}

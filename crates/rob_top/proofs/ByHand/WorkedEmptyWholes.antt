@@ -4,9 +4,9 @@ use Rattle.std.proofs.lemmas.Bool.{leb-true}
 use Rattle.std.specs.Fmt.{digits}
 use Rattle.std.specs.Prelude.{codes}
 use Rattle.rob_algebra.specs.Fraction.{ratio}
-use Rattle.rob_meaning.proofs.EmptyLemmas.{shows_empty}
-use Rattle.rob_meaning.proofs.WorkedNotation.{int}
-use Rattle.rob_meaning.proofs.WorkedTests.{found, test_empty, test_model}
+use Rattle.rob_meaning.proofs.Conditions.EmptyLemmas.{shows_empty}
+use Rattle.rob_meaning.proofs.ByHand.WorkedNotation.{int}
+use Rattle.rob_meaning.proofs.ByHand.WorkedTests.{found, test_empty, test_model}
 use Rattle.rob_meaning.specs.Named.{IsNamed}
 use Rattle.rob_meaning.specs.Places.{1ℚ}
 use Rattle.rob_meaning.specs.UncertaintySet.{IsEmptySet}

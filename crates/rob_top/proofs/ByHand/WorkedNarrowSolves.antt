@@ -10,8 +10,8 @@ use Rattle.rob_dualize.proofs.NarrowModels as smallest
 use Rattle.rob_dualize.specs.SmallestModel.{one_demand}
 use Rattle.rob_dualize.specs.Solving.{IsNarrowModel}
 use Rattle.rob_linear.specs.Programs.{Program}
-use Rattle.rob_meaning.proofs.WorkedDecisions.{Found, found, test_at_most, test_numbers}
-use Rattle.rob_meaning.proofs.WorkedNotation.{int}
+use Rattle.rob_meaning.proofs.ByHand.WorkedDecisions.{Found, found, test_at_most, test_numbers}
+use Rattle.rob_meaning.proofs.ByHand.WorkedNotation.{int}
 use Rattle.rob_meaning.specs.Certificates.{Status}
 use Rattle.rob_meaning.specs.Proves.{HasStatus}
 use Rattle.rob_model.specs.declared.place.Spot.{Spot}

@@ -9,7 +9,7 @@ use Rattle.rob_cert.specs.Apart.{FitsLines}
 use Rattle.rob_cert.specs.Shape.{HasShape}
 use Rattle.rob_cert.specs.Spelling.{cert_text}
 use Rattle.rob_dualize.specs.SmallestModel.{one_demand}
-use Rattle.rob_meaning.proofs.WorkedNotation.{int}
+use Rattle.rob_meaning.proofs.ByHand.WorkedNotation.{int}
 use Rattle.rob_meaning.specs.Certificates.{Certificate, infeasible}
 use Rattle.rob_meaning.specs.Places.{1ℚ}
 use Rattle.rob_model.specs.declared.place.Spot.TheVariants.{Replay as ReplaySpot}

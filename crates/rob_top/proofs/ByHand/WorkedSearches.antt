@@ -14,8 +14,8 @@ use Rattle.rob_bounds.specs.Bounds.{IsNarrow}
 use Rattle.rob_dualize.proofs.NarrowModels.{one_demand_admitted, one_demand_model, one_demand_narrow, one_demand_not_wide}
 use Rattle.rob_dualize.specs.SetSolving.{IsWideInSet}
 use Rattle.rob_dualize.specs.SmallestModel.{one_demand}
-use Rattle.rob_meaning.proofs.CoverLemmas.{form_at-parts}
-use Rattle.rob_meaning.proofs.WorkedNotation.{int}
+use Rattle.rob_meaning.proofs.Proving.CoverLemmas.{form_at-parts}
+use Rattle.rob_meaning.proofs.ByHand.WorkedNotation.{int}
 use Rattle.rob_meaning.specs.Forms.{constant_part, form_at, form_columns, matrices, parameter_part}
 use Rattle.rob_meaning.specs.Multipliers.{set_limits}
 use Rattle.rob_meaning.specs.Places.{0ℚ, 1ℚ}
@@ -24,7 +24,7 @@ use Rattle.rob_model.specs.declared.place.Program.TheVariants as program
 use Rattle.rob_model.specs.declared.place.Spot.{Spot}
 use Rattle.rob_model.specs.declared.place.Spot.TheVariants as spot
 use Rattle.rob_model.specs.declared.place.Where.TheVariants as where_at
-use Rattle.rob_runs.proofs.FoundLemmas.{found_value}
+use Rattle.rob_runs.proofs.Searching.FoundLemmas.{found_value}
 use Rattle.rob_runs.specs.Readings.{cleared_by}
 use Rattle.rob_runs.specs.Searches.{search_at}
 use Rattle.rob_runs.specs.Spots.{IsWideCleared, IsWideCost, IsWideSlack, slack_of}

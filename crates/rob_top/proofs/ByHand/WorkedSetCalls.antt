@@ -5,8 +5,8 @@ use Rattle.std.specs.Fmt.{digits}
 use Rattle.std.specs.Prelude.{◌≡◌, ℕ, zero, suc, true, List, [], ◌∷◌, Option, Some, None, codes}
 use Rattle.rob_algebra.specs.Fraction.{ratio}
 use Rattle.rob_algebra.specs.Width.{IsWide}
-use Rattle.rob_meaning.proofs.WorkedNotation.{◌⊕◌, ◌⊖◌, int, cover, item, best}
-use Rattle.rob_meaning.proofs.WorkedTests.{Found, found, test_admits, test_certificate, test_model}
+use Rattle.rob_meaning.proofs.ByHand.WorkedNotation.{◌⊕◌, ◌⊖◌, int, cover, item, best}
+use Rattle.rob_meaning.proofs.ByHand.WorkedTests.{Found, found, test_admits, test_certificate, test_model}
 use Rattle.rob_meaning.specs.Certificates.{optimal}
 use Rattle.rob_meaning.specs.Coefficients.{table}
 use Rattle.rob_meaning.specs.Expressions.{Expression, number, parameter, variable}

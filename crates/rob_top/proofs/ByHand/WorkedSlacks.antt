@@ -11,13 +11,13 @@ use Rattle.rob_algebra.specs.Polynomials.{lit, ◌:*◌, ◌:+◌, v0}
 use Rattle.rob_algebra.specs.Width.{IsWide, kept}
 use Rattle.rob_dualize.proofs.NarrowModels.{one_demand_admitted, one_demand_model}
 use Rattle.rob_dualize.specs.SmallestModel.{one_demand}
-use Rattle.rob_meaning.proofs.CoverLemmas.{form_at-parts}
-use Rattle.rob_meaning.proofs.WorkedNotation.{int}
+use Rattle.rob_meaning.proofs.Proving.CoverLemmas.{form_at-parts}
+use Rattle.rob_meaning.proofs.ByHand.WorkedNotation.{int}
 use Rattle.rob_meaning.specs.Forms.{constant_part, form_at, form_columns, matrices, parameter_part}
 use Rattle.rob_meaning.specs.Multipliers.{set_limits}
 use Rattle.rob_meaning.specs.Places.{0ℚ, 1ℚ}
 use Rattle.rob_meaning.specs.Vectors.{dot}
-use Rattle.rob_runs.proofs.NextRounds.{search_tells}
+use Rattle.rob_runs.proofs.Rounds.NextRounds.{search_tells}
 use Rattle.rob_runs.specs.Readings.{IsKept, cleared_by}
 use Rattle.rob_runs.specs.Runs.{KeepsForm}
 use Rattle.rob_runs.specs.Searches.{FindsScenario}

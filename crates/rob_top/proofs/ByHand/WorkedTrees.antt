@@ -7,8 +7,8 @@ use Rattle.rob_algebra.proofs.Parts.{one_not_zero}
 use Rattle.rob_algebra.specs.Fraction.{Fraction, ratio}
 use Rattle.rob_cert.specs.Apart.{FitsLines}
 use Rattle.rob_cert.specs.Shape.{HasShape}
-use Rattle.rob_meaning.proofs.WorkedNotation.{int}
-use Rattle.rob_meaning.proofs.WorkedTests.{found}
+use Rattle.rob_meaning.proofs.ByHand.WorkedNotation.{int}
+use Rattle.rob_meaning.proofs.ByHand.WorkedTests.{found}
 use Rattle.rob_meaning.specs.Certificates.{Certificate}
 use Rattle.rob_meaning.specs.Places.{1ℚ}
 use Rattle.rob_outside.specs.Files.{File, file_of, found_at, whole}

@@ -7,8 +7,8 @@ use Rattle.std.specs.Prelude.{codes}
 use Rattle.rob_algebra.specs.Fraction.{ratio}
 use Rattle.rob_cert.specs.Spelling.{name_at}
 use Rattle.rob_dualize.specs.SmallestModel.{one_demand}
-use Rattle.rob_meaning.proofs.WorkedNotation.{int}
-use Rattle.rob_meaning.proofs.WorkedTests.{found, test_admits, test_model}
+use Rattle.rob_meaning.proofs.ByHand.WorkedNotation.{int}
+use Rattle.rob_meaning.proofs.ByHand.WorkedTests.{found, test_admits, test_model}
 use Rattle.rob_meaning.specs.Named.{IsNamed, declared_names}
 use Rattle.rob_meaning.specs.Names.{column_names}
 use Rattle.rob_meaning.specs.Places.{Each}
@@ -44,7 +44,7 @@ use Rattle.rob_words.specs.declared.width.Width.TheVariants.{SixtyTwo}
 use Rattle.rob_write.specs.WrittenModel.{written_model}
 use Rattle.rob_write.specs.ExpressionWords.{naming_of}
 use Rattle.rob_write.specs.Canonical.{model_text}
-use Rattle.rob_meaning.proofs.JoinedLemmas.{head_same}
+use Rattle.rob_meaning.proofs.Naming.JoinedLemmas.{head_same}
 
 -- ---- whole one.rob NAME, where the shelf tells the model's file
 abbrev pub line : Word → Line

@@ -9,7 +9,7 @@ use Rattle.rob_cert.specs.Shape.{HasShape}
 use Rattle.rob_cert.specs.Spelling.{cert_text, name_at}
 use Rattle.rob_dualize.proofs.NarrowModels.{one_demand_admitted}
 use Rattle.rob_dualize.specs.SmallestModel.{one_demand}
-use Rattle.rob_meaning.proofs.WorkedNotation.{int}
+use Rattle.rob_meaning.proofs.ByHand.WorkedNotation.{int}
 use Rattle.rob_meaning.specs.Certificates.{Certificate}
 use Rattle.rob_meaning.specs.Names.{form_names}
 use Rattle.rob_model.specs.declared.place.Spot.{Spot}

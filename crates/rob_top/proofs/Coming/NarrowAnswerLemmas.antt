@@ -2,7 +2,7 @@
 use Rattle.std.proofs.Common.{◌≡◌, ◌≢◌, pos, ◌&&◌, ◌↔◌, ◌⊎◌, ℕ, ◌++◌, true, List, Option, Some, None, Result, Ok, Err, IfOk, codes, inl, inr, refl, sym, ◌∙◌, ap, ap₂, subst}
 use Rattle.std.specs.Prelude.{is_some}
 use Rattle.rob_algebra.specs.Fraction.{Fraction, of_int}
-use Rattle.rob_counterpart.proofs.CompletenessLemmas.{some_status}
+use Rattle.rob_counterpart.proofs.Proving.CompletenessLemmas.{some_status}
 use Rattle.rob_dualize.proofs.SolvingLemmas.{narrow_spot}
 use Rattle.rob_dualize.specs.RowBounds.{AreBothWithin, TellsBounds}
 use Rattle.rob_dualize.specs.Solving.{IsNarrowModel}

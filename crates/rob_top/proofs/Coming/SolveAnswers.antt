@@ -3,7 +3,7 @@ use Rattle.std.proofs.Common.{◌≡◌, ◌⊎◌, List, inl, inr, refl}
 use Rattle.std.specs.Prelude.{ℕ}
 use Rattle.rob_algebra.specs.Fraction.{Fraction}
 use Rattle.rob_dualize.specs.Models.{IsWideIn}
-use Rattle.rob_meaning.proofs.StatusLemmas.{optimal_not_infeasible, optimal_not_unbounded}
+use Rattle.rob_meaning.proofs.Proving.StatusLemmas.{optimal_not_infeasible, optimal_not_unbounded}
 use Rattle.rob_meaning.specs.Certificates.{optimal}
 use Rattle.rob_meaning.specs.Proves.{HasStatus}
 use Rattle.rob_meaning.specs.RobustModel.{RobustModel}

@@ -6,7 +6,7 @@ use Rattle.rob_meaning.specs.RobustModel.{RobustModel}
 use Rattle.rob_model.specs.declared.place.Spot.{Spot}
 use Rattle.rob_reach.specs.Ranges.{KeepsBothBounds}
 use Rattle.rob_reach.specs.Trees.{ProvesTree, Tree, leaves}
-use Rattle.rob_tree.proofs.TreeLaws as laws
+use Rattle.rob_tree.proofs.OneText.TreeLaws as laws
 use Rattle.rob_tree.specs.Reading.{Breaks, TreeFits}
 use Rattle.rob_tree.specs.TreeText.{IsTextOfTree}
 use Rattle.rob_tree.specs.Shape.{HasTreeShape}

@@ -2,10 +2,10 @@
 use Rattle.std.proofs.Common.{◌≡◌, ℕ, ◌<◌, List, length, Some, arith, inl, inr, refl, sym, ◌∙◌, ap, subst, ◌⊎◌}
 use Rattle.rob_algebra.specs.Fraction.{Fraction}
 use Rattle.rob_cert.specs.Spelling.{name_at}
-use Rattle.rob_cert.proofs.CoverLemmas.{one_number}
+use Rattle.rob_cert.proofs.Readers.CoverLemmas.{one_number}
 use Rattle.rob_dualize.specs.SetSolving.{IsWideInSet}
 use Rattle.rob_dualize.specs.Solving.{HasScenario}
-use Rattle.rob_meaning.proofs.NameLemmas.{length-form_names}
+use Rattle.rob_meaning.proofs.Naming.NameLemmas.{length-form_names}
 use Rattle.rob_meaning.specs.Certificates.{Certificate}
 use Rattle.rob_meaning.specs.Forms.{form_columns, matrices}
 use Rattle.rob_meaning.specs.Names.{form_names}
@@ -20,8 +20,8 @@ use Rattle.rob_model.specs.declared.place.Spot.{Spot}
 use Rattle.rob_model.specs.declared.place.Spot.TheVariants as spots
 use Rattle.rob_top.proofs.Courses.CourseLemmas.{WorstCourse, admits_none, names_none, plans_none, shows_worst, wide_search}
 use Rattle.rob_top.proofs.Courses.ReadOnceLemmas.{well, named, one_certificate, some_plan, one_lack}
-use Rattle.rob_runs.proofs.FoundLemmas.{found_worst}
-use Rattle.rob_runs.proofs.RunCertificates.{length-vector}
+use Rattle.rob_runs.proofs.Searching.FoundLemmas.{found_worst}
+use Rattle.rob_runs.proofs.Proving.RunCertificates.{length-vector}
 use Rattle.rob_runs.specs.Spots.{IsWideSlack}
 use Rattle.rob_top.proofs.Meaning.SearchStops.{plan_length}
 use Rattle.rob_top.proofs.Meaning.SearchingLemmas.{form_matrix}

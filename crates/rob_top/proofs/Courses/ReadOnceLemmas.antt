@@ -3,9 +3,9 @@
 use Rattle.std.proofs.Common.{◌≡◌, ℕ, ◌-◌, ◌^◌, ◌≤◌, List, sym, ◌∙◌, ap, subst}
 use Rattle.rob_cert.specs.Apart.{IsNamedInWords}
 use Rattle.rob_cert.specs.Whole.{IsTextOf}
-use Rattle.rob_cert.proofs.OneBreach.{one_cause}
-use Rattle.rob_cert.proofs.OneCertificate.{read_once}
-use Rattle.rob_cert.proofs.SpellingLaws.{breaks_none}
+use Rattle.rob_cert.proofs.OneText.OneBreach.{one_cause}
+use Rattle.rob_cert.proofs.OneText.OneCertificate.{read_once}
+use Rattle.rob_cert.proofs.OneText.SpellingLaws.{breaks_none}
 use Rattle.rob_meaning.specs.Certificates.{Certificate, infeasible}
 use Rattle.rob_meaning.specs.Named.{IsNamed}
 use Rattle.rob_meaning.specs.RobustModel.{RobustModel}

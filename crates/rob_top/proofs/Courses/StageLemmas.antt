@@ -5,13 +5,13 @@ use Rattle.rob_algebra.specs.Fraction.{Fraction}
 use Rattle.rob_meaning.specs.Certificates.{Status, optimal, infeasible, unbounded}
 use Rattle.rob_meaning.specs.Proves.{HasStatus}
 use Rattle.rob_meaning.specs.RobustModel.{RobustModel}
-use Rattle.rob_meaning.proofs.StatusLemmas.{optimal_not_infeasible, optimal_not_unbounded, infeasible_not_unbounded}
+use Rattle.rob_meaning.proofs.Proving.StatusLemmas.{optimal_not_infeasible, optimal_not_unbounded, infeasible_not_unbounded}
 use Rattle.rob_parse.specs.Modelled.{ReadsModel}
 use Rattle.rob_outside.specs.Fetches.{Fetch}
 use Rattle.rob_outside.specs.Files.{File, Found, whole, missing, too_long, found_at}
 use Rattle.rob_rules.specs.Texts.{Breaks}
 use Rattle.rob_parse.proofs.Building.OneModel.{not_both, one_model}
-use Rattle.rob_rules.proofs.OneText.{one_break}
+use Rattle.rob_rules.proofs.Joining.OneText.{one_break}
 use Rattle.rob_model.specs.declared.place.Spot.{Spot}
 use Rattle.rob_top.proofs.Courses.CourseLemmas.{Course, accepted_course, branched_course, cert_course, empty_branched_course, empty_course, limited_course, no_sweep_course, no_tree_course, empty_sought_course, no_row_course, no_whole_course, priced_course, rejected_course, lacking_course, narrowed_course, replayed_course, rows_course, scenarios_course, searched_course, solved_course, wide_budget_course, tree_accepted_course, tree_rejected_course, unplanned_course, wide_course, wide_leaf_course, wide_node_course, wide_way_course, does}
 use Rattle.rob_top.proofs.Fetching.FilesLemmas.{empty_split}

@@ -17,7 +17,7 @@ use Rattle.rob_check.specs.declared.covering.Covered.{Covered}
 use Rattle.rob_check.specs.declared.covering.Covered.TheVariants.{Plan, Step}
 use Rattle.rob_check.specs.declared.verdict.Verdict.{Verdict}
 use Rattle.rob_check.specs.declared.verdict.Verdict.TheVariants as verdicts
-use Rattle.rob_meaning.proofs.EachLemmas.{each_map, each_append}
+use Rattle.rob_meaning.proofs.Lists.EachLemmas.{each_map, each_append}
 use Rattle.rob_meaning.specs.Certificates as meaning
 use Rattle.rob_meaning.specs.Certificates.{Certificate, Item, Status, optimal, infeasible, unbounded}
 use Rattle.rob_meaning.specs.Clearing.{fractions}

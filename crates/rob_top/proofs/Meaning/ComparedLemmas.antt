@@ -5,8 +5,8 @@ use Rattle.rob_cert.specs.Apart.{FitsLines}
 use Rattle.rob_cert.specs.declared.trace.Round.{Round}
 use Rattle.rob_cuts.specs.Rounds.{RoundFits}
 use Rattle.rob_gen.specs.Generated.{generated}
-use Rattle.rob_meaning.proofs.ProvesLemmas.{certificate_true}
-use Rattle.rob_meaning.proofs.StatusLemmas.{one_optimum}
+use Rattle.rob_meaning.proofs.Proving.ProvesLemmas.{certificate_true}
+use Rattle.rob_meaning.proofs.Proving.StatusLemmas.{one_optimum}
 use Rattle.rob_meaning.specs.Certificates.{Certificate, Status, optimal}
 use Rattle.rob_meaning.specs.Places.{Each}
 use Rattle.rob_meaning.specs.Proves.{HasStatus}

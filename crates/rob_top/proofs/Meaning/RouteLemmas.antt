@@ -27,7 +27,7 @@ use Rattle.rob_model.specs.declared.place.Spot.{Spot}
 use Rattle.rob_model.specs.declared.place.Spot.TheVariants as spot
 use Rattle.rob_report.specs.Places.{IsSpotOf}
 use Rattle.rob_report.specs.Rounds.{IsRoundOf}
-use Rattle.rob_runs.proofs.ProgressLemmas.{round_cut, run_cuts}
+use Rattle.rob_runs.proofs.Rounds.ProgressLemmas.{round_cut, run_cuts}
 use Rattle.rob_runs.specs.Cuts.{IsCut}
 use Rattle.rob_runs.specs.Runs.{IsRun, Round as RunRound, trace_cuts}
 use Rattle.rob_runs.specs.Spots.{IsWideAfter, RunSpot, clearing, cost, cut_clearing, cut_sum, master_row, search_row, set_row}

@@ -10,8 +10,8 @@ use Rattle.rob_cert.specs.Spelling.{name_at}
 use Rattle.rob_cert.specs.Whole.{IsTextOf}
 use Rattle.rob_cert.specs.declared.ending.Worst as ending
 use Rattle.rob_cert.specs.declared.ending.Worst.TheVariants.{At, Along}
-use Rattle.rob_meaning.proofs.AtLemmas.{bound_at}
-use Rattle.rob_meaning.proofs.LinearLemmas.{zero_lt_one}
+use Rattle.rob_meaning.proofs.Tables.AtLemmas.{bound_at}
+use Rattle.rob_meaning.proofs.Lists.LinearLemmas.{zero_lt_one}
 use Rattle.rob_meaning.specs.Certificates.{Certificate, infeasible}
 use Rattle.rob_meaning.specs.Forms.{form_at, form_columns, forms, matrices, matrix_of}
 use Rattle.rob_meaning.specs.Guarantee.{HasBound}
@@ -29,7 +29,7 @@ use Rattle.rob_model.specs.declared.place.Where.TheVariants as where_at
 use Rattle.rob_number.specs.declared.memory.Memory.{Memory as Want}
 use Rattle.rob_report.specs.Spots.{too_wide_line}
 use Rattle.rob_report.specs.Worst.{along_text, greatest_text}
-use Rattle.rob_runs.proofs.ToldLemmas.{told_along}
+use Rattle.rob_runs.proofs.Searching.ToldLemmas.{told_along}
 use Rattle.rob_runs.specs.Readings.{cleared_by}
 use Rattle.rob_runs.specs.Searches.{FindsRay}
 use Rattle.rob_runs.specs.Spots.{IsWideSlack, slack_of}

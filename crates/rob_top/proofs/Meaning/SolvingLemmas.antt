@@ -3,7 +3,7 @@ use Rattle.std.proofs.Common.{◌≡◌, ℕ, ◌≤◌, nat_abs, List, Result, 
 use Rattle.std.specs.Prelude.{MatchResult}
 use Rattle.rob_algebra.specs.Fraction.{Fraction}
 use Rattle.rob_algebra.specs.Width.{Fits}
-use Rattle.rob_cert.proofs.FitLemmas.{answer_fits}
+use Rattle.rob_cert.proofs.Writing.FitLemmas.{answer_fits}
 use Rattle.rob_cert.specs.Apart.{FitsLines}
 use Rattle.rob_cert.specs.Spelling.{cert_text}
 use Rattle.rob_cert.specs.View.{certificate_of}
@@ -21,8 +21,8 @@ use Rattle.rob_meaning.specs.Places.{Each}
 use Rattle.rob_meaning.specs.Proves.{HasStatus, ProvesAs}
 use Rattle.rob_meaning.specs.RobustModel.{RobustModel}
 use Rattle.rob_meaning.specs.WellFormed.{IsModel}
-use Rattle.rob_meaning.proofs.ProvesLemmas.{certificate_true}
-use Rattle.rob_meaning.proofs.StatusLemmas.{optimum_is_worst_case}
+use Rattle.rob_meaning.proofs.Proving.ProvesLemmas.{certificate_true}
+use Rattle.rob_meaning.proofs.Proving.StatusLemmas.{optimum_is_worst_case}
 use Rattle.rob_number.specs.Counts.{Rose}
 use Rattle.rob_number.specs.declared.memory.Memory.{Memory as Want}
 use Rattle.rob_report.specs.Report.{report_of}

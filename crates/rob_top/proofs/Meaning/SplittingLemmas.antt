@@ -11,7 +11,7 @@ use Rattle.rob_cert.specs.declared.ending.Stop.{Stop}
 use Rattle.rob_cert.specs.declared.ending.Stop.TheVariants as stop
 use Rattle.rob_dualize.specs.Models.{HasModelCause, IsWideIn, RoseIfStopped}
 use Rattle.rob_dualize.specs.Solving.{IsSolution}
-use Rattle.rob_meaning.proofs.ProvesLemmas.{certificate_true}
+use Rattle.rob_meaning.proofs.Proving.ProvesLemmas.{certificate_true}
 use Rattle.rob_meaning.specs.Certificates.{Certificate, Status, optimal, infeasible, unbounded}
 use Rattle.rob_meaning.specs.Places.{Each}
 use Rattle.rob_meaning.specs.Proves.{HasStatus, Proves}

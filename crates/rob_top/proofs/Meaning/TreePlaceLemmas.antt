@@ -6,7 +6,7 @@ use Rattle.rob_branch.specs.Verdicts.{HasVerdict, IsRejectedAt, IsTooWideAt, IsV
 use Rattle.rob_cert.specs.Shape.{HasShape}
 use Rattle.rob_check.specs.Conditions.{verdict_of}
 use Rattle.rob_check.specs.declared.verdict.Verdict.TheVariants as check
-use Rattle.rob_meaning.proofs.EachLemmas.{each_append, each_map, each_right}
+use Rattle.rob_meaning.proofs.Lists.EachLemmas.{each_append, each_map, each_right}
 use Rattle.rob_meaning.specs.Certificates.{Certificate, Status, optimal, infeasible, unbounded}
 use Rattle.rob_meaning.specs.Names.{column_names}
 use Rattle.rob_meaning.specs.Places.{Each}
@@ -23,8 +23,8 @@ use Rattle.rob_reach.specs.Ranges.{KeepsBothBounds}
 use Rattle.rob_reach.specs.Trees.{BranchesOn, IsIn, Leaf, Node, Tree, leaf, leaves, left_open, split}
 use Rattle.rob_reach.specs.Verdicts.{LeafFault as ReachFault, Condition, HoldsOf, IsFirstFault, best, proof, status, value, whole, best_conditions, last_conditions, leaf_at, leaf_conditions}
 use Rattle.rob_report.specs.Places.{IsPlaceOf, IsSignOf, IsSpotOf, IsSumOf}
-use Rattle.rob_tree.proofs.MovedShapes.{HasCountsOf, flipped, same_behind, same_self, same_through}
-use Rattle.rob_tree.proofs.SpelledLemmas.{column_inside}
+use Rattle.rob_tree.proofs.BoxShapes.MovedShapes.{HasCountsOf, flipped, same_behind, same_self, same_through}
+use Rattle.rob_tree.proofs.BoxShapes.SpelledLemmas.{column_inside}
 use Rattle.rob_tree.specs.Shape.{HasTreeShape, IsShaped}
 use Rattle.rob_tree.specs.View.{branch_of}
 use Rattle.rob_tree.specs.declared.tree.Branch as declared

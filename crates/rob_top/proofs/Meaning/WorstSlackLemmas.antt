@@ -8,9 +8,9 @@ use Rattle.rob_algebra.specs.FractionLaws.{ℚ_ring, mul_inv}
 use Rattle.rob_algebra.specs.RingSolver as R
 use Rattle.rob_algebra.specs.Polynomials.{lit, minus, ◌:*◌, ◌:+◌, v0, v1, v2}
 use Rattle.rob_algebra.specs.Width.{Fits, IsWide}
-use Rattle.rob_meaning.proofs.AbsoluteLemmas.{pos_some}
-use Rattle.rob_meaning.proofs.AtLemmas.{bound_at}
-use Rattle.rob_meaning.proofs.LinearLemmas.{zero_le_one, zero_lt_one}
+use Rattle.rob_meaning.proofs.Lists.AbsoluteLemmas.{pos_some}
+use Rattle.rob_meaning.proofs.Tables.AtLemmas.{bound_at}
+use Rattle.rob_meaning.proofs.Lists.LinearLemmas.{zero_le_one, zero_lt_one}
 use Rattle.rob_meaning.specs.Forms.{constant_part, form_at, form_columns, matrices, plan_vector}
 use Rattle.rob_meaning.specs.Guarantee.{HasBound}
 use Rattle.rob_meaning.specs.Multipliers.{set_limits}
@@ -19,9 +19,9 @@ use Rattle.rob_meaning.specs.RobustModel.{RobustModel}
 use Rattle.rob_meaning.specs.UncertaintySet.{Admits}
 use Rattle.rob_meaning.specs.Vectors.{dot}
 use Rattle.rob_meaning.specs.WellFormed.{IsModel}
-use Rattle.rob_runs.proofs.FoundLemmas.{found_greatest}
-use Rattle.rob_runs.proofs.ToldLemmas.{told_greatest}
-use Rattle.rob_runs.proofs.WholeLemmas.{factor_pos}
+use Rattle.rob_runs.proofs.Searching.FoundLemmas.{found_greatest}
+use Rattle.rob_runs.proofs.Searching.ToldLemmas.{told_greatest}
+use Rattle.rob_runs.proofs.Clearing.WholeLemmas.{factor_pos}
 use Rattle.rob_runs.specs.Readings.{cleared_by}
 use Rattle.rob_runs.specs.Searches.{FindsScenario}
 use Rattle.rob_runs.specs.Spots.{IsWideSlack, slack_of}

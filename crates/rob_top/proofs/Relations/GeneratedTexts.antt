@@ -8,7 +8,7 @@ use Rattle.rob_gen.proofs.GeneratedLemmas.{by_twelve, test_members, well_named, 
 use Rattle.rob_gen.specs.Generated.{generated, model_over, centre}
 use Rattle.rob_lex.specs.Bytes.{begins_word, goes_on_word}
 use Rattle.rob_lex.specs.Offences.{most_tokens}
-use Rattle.rob_meaning.proofs.WorkedTests.{both, found, so, test_at_most, test_below, test_each, test_model, test_numbers}
+use Rattle.rob_meaning.proofs.ByHand.WorkedTests.{both, found, so, test_at_most, test_below, test_each, test_model, test_numbers}
 use Rattle.rob_meaning.specs.Expressions.{Expression, number, parameter, variable, adaptive, adaptive_in, sum, product, Terms, no_terms, term}
 use Rattle.rob_meaning.specs.Named.{HasDistinctMembers, declared_names}
 use Rattle.rob_meaning.specs.Names.{Name}

@@ -12,8 +12,8 @@ use Rattle.rob_algebra.specs.Width.{IsWide, IsWideWhole}
 use Rattle.rob_elab.specs.Forms.{judged_forms, judged_from}
 use Rattle.rob_gen.proofs.GeneratedLemmas.{by_twelve}
 use Rattle.rob_gen.specs.Generated.{generated}
-use Rattle.rob_meaning.proofs.TabulateLemmas.{each_tabulate}
-use Rattle.rob_meaning.proofs.WorkedTests.{Found, both, found, so, test_at_most, test_count, test_each, test_numbers, test_same}
+use Rattle.rob_meaning.proofs.Lists.TabulateLemmas.{each_tabulate}
+use Rattle.rob_meaning.proofs.ByHand.WorkedTests.{Found, both, found, so, test_at_most, test_count, test_each, test_numbers, test_same}
 use Rattle.rob_meaning.specs.Clearing.{denominator, entries, lcm, whole_at}
 use Rattle.rob_meaning.specs.Coefficients.{rule_table, single, sum_table, table}
 use Rattle.rob_meaning.specs.Expressions.{Expression, number, parameter, variable, adaptive, adaptive_in, sum, product, Terms, no_terms, term}
@@ -24,7 +24,7 @@ use Rattle.rob_meaning.specs.Values.{signed}
 use Rattle.rob_sets.specs.FirstWide.{IsWideCleared, IsWideThere, Judged, NothingWide, Some_of, clearing, coefficients}
 use Rattle.rob_sets.specs.SetForm.{judged_set}
 use Rattle.rob_sets.specs.Subexpressions.{HasWideCoefficient, subexpressions}
-use Rattle.rob_meaning.proofs.EachLemmas.{each_append}
+use Rattle.rob_meaning.proofs.Lists.EachLemmas.{each_append}
 use Rattle.rob_top.proofs.Relations.NarrowForms.{single_bits, bit}
 use Rattle.rob_elab.specs.Written.{IsWritten}
 

@@ -5,7 +5,7 @@ use Rattle.std.proofs.lemmas.Bool.{leb-true}
 use Rattle.std.specs.Prelude.{ℕ, zero, suc, ◌<◌, ◌≤◌, ◌-◌, ◌^◌, leb, nat_abs, Bool, true, false, List, [], ◌∷◌, Option, Some, None, refl}
 use Rattle.rob_algebra.specs.Fraction.{Fraction, ratio, ◌+ℚ◌, ◌*ℚ◌}
 use Rattle.rob_algebra.specs.Width.{IsWide, IsWideWhole}
-use Rattle.rob_meaning.proofs.WorkedTests.{Found, found}
+use Rattle.rob_meaning.proofs.ByHand.WorkedTests.{Found, found}
 use Rattle.rob_meaning.specs.Clearing.{denominator, whole_at}
 use Rattle.rob_meaning.specs.Coefficients.{single, table, unit}
 use Rattle.rob_meaning.specs.Expressions.{Expression, sum, no_terms, term}

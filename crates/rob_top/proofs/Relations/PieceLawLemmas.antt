@@ -1,7 +1,7 @@
 -- A call of `cells` and one of `solve` or `prove` on one model: what the one answer says of the other.
 use Rattle.std.proofs.Common.{◌≡◌, ℕ, ℤ, List, [], refl, subst, sym}
 use Rattle.rob_algebra.specs.Fraction.{Fraction}
-use Rattle.rob_meaning.proofs.OneSetLemmas.{joint_alone_law}
+use Rattle.rob_meaning.proofs.Scenarios.OneSetLemmas.{joint_alone_law}
 use Rattle.rob_meaning.specs.Certificates.{Status, optimal, infeasible, unbounded}
 use Rattle.rob_meaning.specs.Guarantee.{IsNoWorse}
 use Rattle.rob_meaning.specs.Places.{0ℚ}

@@ -2,7 +2,7 @@
 -- of two calls of `solve` and `prove` on one model, or on the same bytes.
 use Rattle.std.proofs.Common.{◌≡◌, ◌∙◌, ℕ, ℤ, List, ap, subst, sym}
 use Rattle.rob_algebra.specs.Fraction.{Fraction}
-use Rattle.rob_meaning.proofs.StatusLemmas.{one_optimum}
+use Rattle.rob_meaning.proofs.Proving.StatusLemmas.{one_optimum}
 use Rattle.rob_meaning.specs.Certificates.{Status, optimal, infeasible, unbounded}
 use Rattle.rob_meaning.specs.Proves.{HasStatus}
 use Rattle.rob_meaning.specs.RobustModel.{RobustModel}

@@ -2,7 +2,7 @@
 use Rattle.std.proofs.Common.{◌≡◌, ◌≢◌, ℕ, true, List, [], ◌∷◌, subst}
 use Rattle.rob_cert.specs.Apart.{IsNamedInWords, IsWord}
 use Rattle.rob_lex.specs.Bytes.{begins_word, goes_on_word}
-use Rattle.rob_meaning.proofs.EachLemmas.{each_map}
+use Rattle.rob_meaning.proofs.Lists.EachLemmas.{each_map}
 use Rattle.rob_meaning.specs.Named.{declared_names}
 use Rattle.rob_meaning.specs.Names.{Name}
 use Rattle.rob_meaning.specs.Places.{Each}

@@ -5,7 +5,7 @@ use Rattle.std.proofs.lemmas.List.{length-map, map-append}
 use Rattle.std.proofs.lemmas.Option.{get_or_from_slice_get, slice_get_within}
 use Rattle.std.specs.Prelude.{slice_get}
 use Rattle.rob_algebra.specs.Fraction.{of_pair}
-use Rattle.rob_cert.proofs.CoverLemmas.{one_number}
+use Rattle.rob_cert.proofs.Readers.CoverLemmas.{one_number}
 use Rattle.rob_cert.specs.Spelling.{name_at}
 use Rattle.rob_meaning.specs.Named.{IsNamed, parameter_names}
 use Rattle.rob_meaning.specs.RobustModel.{Parameter, RobustModel}

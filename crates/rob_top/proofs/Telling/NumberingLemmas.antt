@@ -3,12 +3,12 @@
 use Rattle.std.proofs.Common.{◌≡◌, ◌≢◌, ℕ, suc, ◌<◌, ◌≤◌, List, [], ◌∷◌, ◌++◌, map, length, Option, Some, None, IfSome, refl, sym, ◌∙◌, ap, subst, inl, inr, arith, append_assoc}
 use Rattle.std.proofs.lemmas.List.{append-nil, append_cancel_left, map-append}
 use Rattle.std.specs.Prelude.{option_map}
-use Rattle.rob_cert.proofs.CoverLemmas.{one_number}
+use Rattle.rob_cert.proofs.Readers.CoverLemmas.{one_number}
 use Rattle.rob_cert.specs.Spelling.{name_at}
-use Rattle.rob_meaning.proofs.DistinctLemmas.{Apart, distinct_apart, distinct_append}
-use Rattle.rob_meaning.proofs.EachLemmas.{each_append, each_map, each_right}
-use Rattle.rob_meaning.proofs.NameLemmas.{length-column_names}
-use Rattle.rob_meaning.proofs.TauLemmas.{column_grows}
+use Rattle.rob_meaning.proofs.Lists.DistinctLemmas.{Apart, distinct_apart, distinct_append}
+use Rattle.rob_meaning.proofs.Lists.EachLemmas.{each_append, each_map, each_right}
+use Rattle.rob_meaning.proofs.Naming.NameLemmas.{length-column_names}
+use Rattle.rob_meaning.proofs.Tables.TauLemmas.{column_grows}
 use Rattle.rob_meaning.specs.Named.{AreDistinct, IsNamed}
 use Rattle.rob_meaning.specs.Names.{Name, column_names}
 use Rattle.rob_meaning.specs.Places.{Each}
@@ -19,7 +19,7 @@ use Rattle.rob_reach.specs.Ranges.{KeepsNames}
 use Rattle.rob_reach.specs.Trees.{IsIn}
 use Rattle.rob_top.specs.Inputs.{AreVariables}
 use Rattle.rob_words.specs.Names.{parts_behind, parts_of}
-use Rattle.rob_meaning.proofs.JoinedLemmas.{head_same}
+use Rattle.rob_meaning.proofs.Naming.JoinedLemmas.{head_same}
 
 rest_is : {A : Type 0} (x y : A) (xs ys : List A) → x ∷ xs ≡ y ∷ ys → xs ≡ ys
 rest_is x y xs ys e = cc

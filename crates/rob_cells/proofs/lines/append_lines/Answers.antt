@@ -2,7 +2,7 @@ use Rattle.rob_cells.proofs.ListLemmas.{inside_of, item_of}
 use Rattle.rob_meaning.specs.WellFormed.{IsSetLine}
 use Rattle.rob_model.specs.View.{robust, set_line_of}
 use Rattle.rob_cells.proofs.lines.append_lines.Goals as goal
-use Rattle.rob_meaning.proofs.EachLemmas.{each_get}
+use Rattle.rob_meaning.proofs.Lists.EachLemmas.{each_get}
 
 pub line_over-requires-clause-inside : goal.line_over-requires-clause-inside
 line_over-requires-clause-inside g c =

@@ -5,7 +5,7 @@ use Rattle.rob_cells.specs.View.{cut_of}
 use Rattle.rob_model.specs.View.{parameter_of, robust, set_line_of}
 use Rattle.rob_pieces.specs.Cuts.{Cut}
 use Rattle.rob_cells.proofs.lines.append_sides.Goals as goal
-use Rattle.rob_meaning.proofs.EachLemmas.{each_get}
+use Rattle.rob_meaning.proofs.Lists.EachLemmas.{each_get}
 
 pub side_line-requires-clause-inside : goal.side_line-requires-clause-inside
 side_line-requires-clause-inside g c =

@@ -3,7 +3,7 @@ use Rattle.std.proofs.lemmas.List.{length-map}
 use Rattle.rob_meaning.specs.WellFormed.{IsMember}
 use Rattle.rob_model.specs.View.{member_of, parameter_of, robust}
 use Rattle.rob_cells.proofs.lines.members_over.Goals as goal
-use Rattle.rob_meaning.proofs.EachLemmas.{each_get}
+use Rattle.rob_meaning.proofs.Lists.EachLemmas.{each_get}
 
 pub param_in-requires-clause-inside : goal.param_in-requires-clause-inside
 param_in-requires-clause-inside g c =

@@ -4,7 +4,7 @@ use Rattle.rob_meaning.specs.WellFormed.{IsExpression}
 use Rattle.rob_model.specs.View.{robust, row_of}
 use Rattle.rob_pieces.specs.SplitModel.{row_over}
 use Rattle.rob_cells.proofs.rows.append_rows.Goals as goal
-use Rattle.rob_meaning.proofs.EachLemmas.{each_get}
+use Rattle.rob_meaning.proofs.Lists.EachLemmas.{each_get}
 
 pub row_over-requires-clause-left : goal.row_over-requires-clause-left
 row_over-requires-clause-left g c =

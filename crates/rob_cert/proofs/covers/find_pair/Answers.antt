@@ -1,7 +1,7 @@
 use Rattle.std.proofs.Common.{◌∙◌, sym, ap, length, subst, ◌<◌}
 use Rattle.rob_cert.specs.NamesView.{naming}
 use Rattle.rob_cert.specs.Spelling.{name_at}
-use Rattle.rob_cert.proofs.CoverLemmas.{pair_missing}
+use Rattle.rob_cert.proofs.Readers.CoverLemmas.{pair_missing}
 use Rattle.rob_cert.proofs.covers.find_pair.Goals as goal
 
 pub returns-in-None-find_from : goal.returns-in-None-find_from

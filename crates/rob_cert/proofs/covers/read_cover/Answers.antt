@@ -1,5 +1,5 @@
-use Rattle.rob_cert.proofs.EntryLemmas.{not_zero}
-use Rattle.rob_cert.proofs.CoverLemmas.{four_are}
+use Rattle.rob_cert.proofs.Readers.EntryLemmas.{not_zero}
+use Rattle.rob_cert.proofs.Readers.CoverLemmas.{four_are}
 use Rattle.rob_cert.proofs.covers.read_cover.Goals as goal
 
 pub returns-in-Some-read_number-clause-cover : goal.returns-in-Some-read_number-clause-cover

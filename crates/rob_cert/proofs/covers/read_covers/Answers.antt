@@ -4,8 +4,8 @@ use Rattle.rob_number.proofs.CountLemmas.{later}
 use Rattle.rob_cert.specs.NamesView.{naming}
 use Rattle.rob_cert.specs.Sections.{HasNoLineOf}
 use Rattle.rob_cert.specs.View.{cover_of}
-use Rattle.rob_cert.proofs.CoverLemmas.{CoversSoFar, covers_more, covers_fault}
-use Rattle.rob_cert.proofs.SectionLemmas.{shorter}
+use Rattle.rob_cert.proofs.Readers.CoverLemmas.{CoversSoFar, covers_more, covers_fault}
+use Rattle.rob_cert.proofs.Readers.SectionLemmas.{shorter}
 use Rattle.rob_cert.proofs.covers.read_covers.Goals as goal
 
 pub returns-in-Err-clause-fault : goal.returns-in-Err-clause-fault

@@ -2,7 +2,7 @@ use Rattle.std.proofs.Common.{◌+◌, ◌≤◌, map, length}
 use Rattle.rob_number.specs.Counts.{NeverFell}
 use Rattle.rob_cert.specs.NamesView.{naming}
 use Rattle.rob_cert.specs.View.{cover_of}
-use Rattle.rob_cert.proofs.CoverLemmas.{CoversSoFar}
+use Rattle.rob_cert.proofs.Readers.CoverLemmas.{CoversSoFar}
 use Rattle.rob_cert.proofs.covers.read_covers.Given as goal
 
 abbrev pub invariant-loop-split : goal.invariant-loop-split

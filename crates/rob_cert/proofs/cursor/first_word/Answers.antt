@@ -1,5 +1,5 @@
 use Rattle.std.proofs.Common.{[], refl}
-use Rattle.rob_cert.proofs.WordLemmas.{words_in-lacks, words_split}
+use Rattle.rob_cert.proofs.Words.WordLemmas.{words_in-lacks, words_split}
 use Rattle.rob_cert.specs.Reading.{words_in}
 use Rattle.rob_cert.proofs.cursor.first_word.Goals as goal
 

@@ -1,5 +1,5 @@
 use Rattle.std.proofs.Common.{arith}
-use Rattle.rob_cert.proofs.WordLemmas.{count_lacks, count_more, words_in-lacks, words_split}
+use Rattle.rob_cert.proofs.Words.WordLemmas.{count_lacks, count_more, words_in-lacks, words_split}
 use Rattle.rob_cert.proofs.cursor.two_words.Goals as goal
 
 pub returns-in-None : goal.returns-in-None

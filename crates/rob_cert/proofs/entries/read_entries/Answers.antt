@@ -1,8 +1,8 @@
 use Rattle.std.proofs.Common.{◌+◌, ◌∷◌, arith, map, ap, sym, subst, ◌∙◌}
 use Rattle.rob_number.proofs.CountLemmas.{later}
 use Rattle.rob_cert.specs.NamesView.{naming}
-use Rattle.rob_cert.proofs.CauseLemmas.{entries_fault}
-use Rattle.rob_cert.proofs.SectionLemmas.{shorter, EntriesSoFar, entries_start, entries_more, map-set}
+use Rattle.rob_cert.proofs.Readers.CauseLemmas.{entries_fault}
+use Rattle.rob_cert.proofs.Readers.SectionLemmas.{shorter, EntriesSoFar, entries_start, entries_more, map-set}
 use Rattle.rob_cert.proofs.entries.read_entries.Goals as goal
 
 pub loop-split-init : goal.loop-split-init

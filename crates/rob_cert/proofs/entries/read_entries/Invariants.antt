@@ -1,7 +1,7 @@
 use Rattle.std.proofs.Common.{◌+◌, ◌≤◌, map, length}
 use Rattle.rob_number.specs.Counts.{NeverFell}
 use Rattle.rob_cert.specs.NamesView.{naming}
-use Rattle.rob_cert.proofs.SectionLemmas.{EntriesSoFar}
+use Rattle.rob_cert.proofs.Readers.SectionLemmas.{EntriesSoFar}
 use Rattle.rob_cert.proofs.entries.read_entries.Given as goal
 
 abbrev pub invariant-loop-split : goal.invariant-loop-split

@@ -1,6 +1,6 @@
 use Rattle.std.proofs.Common.{map, sym, subst}
 use Rattle.rob_cert.specs.Entries.{IsZeroVector}
-use Rattle.rob_cert.proofs.SectionLemmas.{zero_start, zero_more}
+use Rattle.rob_cert.proofs.Readers.SectionLemmas.{zero_start, zero_more}
 use Rattle.rob_cert.proofs.entries.zeros.Goals as goal
 
 pub loop-k-init : goal.loop-k-init

@@ -1,5 +1,5 @@
 use Rattle.std.specs.Cmp.Lexicographic.{other_text}
-use Rattle.rob_cert.proofs.EntryLemmas.{no_line, other_first}
+use Rattle.rob_cert.proofs.Readers.EntryLemmas.{no_line, other_first}
 use Rattle.rob_cert.proofs.entry.next_of.Goals as goal
 
 pub returns-in-None : goal.returns-in-None

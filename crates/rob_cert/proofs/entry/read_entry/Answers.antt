@@ -1,4 +1,4 @@
-use Rattle.rob_cert.proofs.EntryLemmas.{not_zero, three_are}
+use Rattle.rob_cert.proofs.Readers.EntryLemmas.{not_zero, three_are}
 use Rattle.rob_cert.proofs.entry.read_entry.Goals as goal
 
 pub returns-in-Some-read_number-clause-entry : goal.returns-in-Some-read_number-clause-entry

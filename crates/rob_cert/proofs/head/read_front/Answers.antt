@@ -1,4 +1,4 @@
-use Rattle.rob_cert.proofs.HeadLemmas.{status_fails, bounds_fail, front_is}
+use Rattle.rob_cert.proofs.Readers.HeadLemmas.{status_fails, bounds_fail, front_is}
 use Rattle.rob_cert.specs.declared.error.Offence.TheVariants.{NoLine}
 use Rattle.rob_cert.specs.View.{status_of}
 use Rattle.rob_cert.proofs.head.read_front.Goals as goal

@@ -1,4 +1,4 @@
-use Rattle.rob_cert.proofs.HeadLemmas.{bound_count, bound_read}
+use Rattle.rob_cert.proofs.Readers.HeadLemmas.{bound_count, bound_read}
 use Rattle.rob_cert.proofs.head.read_single.Goals as goal
 
 pub returns-in-None-two_words-clause-fault : goal.returns-in-None-two_words-clause-fault

@@ -1,4 +1,4 @@
-use Rattle.rob_cert.proofs.HeadLemmas.{other_status}
+use Rattle.rob_cert.proofs.Readers.HeadLemmas.{other_status}
 use Rattle.rob_cert.proofs.head.read_status.Goals as goal
 
 pub returns-in-None-status_of_line : goal.returns-in-None-status_of_line

@@ -1,7 +1,7 @@
 use Rattle.std.proofs.Common.{◌+◌}
 use Rattle.rob_cert.specs.NamesView.{naming}
 use Rattle.rob_cert.specs.Reading.{words_in}
-use Rattle.rob_cert.proofs.ItemLemmas.{item_read_fault}
+use Rattle.rob_cert.proofs.Readers.ItemLemmas.{item_read_fault}
 use Rattle.rob_cert.proofs.items.read_item.Goals as goal
 
 pub returns-in-Err-read_entries-clause-fault : goal.returns-in-Err-read_entries-clause-fault

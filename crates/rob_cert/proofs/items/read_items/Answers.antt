@@ -3,8 +3,8 @@ use Rattle.std.proofs.lemmas.List.{map-append}
 use Rattle.rob_number.proofs.CountLemmas.{later}
 use Rattle.rob_cert.specs.NamesView.{naming}
 use Rattle.rob_cert.specs.View.{item_of}
-use Rattle.rob_cert.proofs.ItemLemmas.{ItemsSoFar, items_more, items_fault}
-use Rattle.rob_cert.proofs.SectionLemmas.{shorter}
+use Rattle.rob_cert.proofs.Readers.ItemLemmas.{ItemsSoFar, items_more, items_fault}
+use Rattle.rob_cert.proofs.Readers.SectionLemmas.{shorter}
 use Rattle.rob_cert.proofs.items.read_items.Goals as goal
 
 pub returns-in-Err-clause-fault : goal.returns-in-Err-clause-fault

@@ -2,7 +2,7 @@ use Rattle.std.proofs.Common.{◌+◌, ◌≤◌, map, length}
 use Rattle.rob_number.specs.Counts.{NeverFell}
 use Rattle.rob_cert.specs.NamesView.{naming}
 use Rattle.rob_cert.specs.View.{item_of}
-use Rattle.rob_cert.proofs.ItemLemmas.{ItemsSoFar}
+use Rattle.rob_cert.proofs.Readers.ItemLemmas.{ItemsSoFar}
 use Rattle.rob_cert.proofs.items.read_items.Given as goal
 
 abbrev pub invariant-loop-split : goal.invariant-loop-split

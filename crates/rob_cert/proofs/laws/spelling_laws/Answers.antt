@@ -1,8 +1,8 @@
 use Rattle.std.proofs.Common.{sym, ◌∙◌}
-use Rattle.rob_cert.proofs.SpellingLaws as spelling
-use Rattle.rob_cert.proofs.OneCertificate as one
-use Rattle.rob_cert.proofs.OneBreach as breach
-use Rattle.rob_cert.proofs.SomeCertificate as some
+use Rattle.rob_cert.proofs.OneText.SpellingLaws as spelling
+use Rattle.rob_cert.proofs.OneText.OneCertificate as one
+use Rattle.rob_cert.proofs.OneText.OneBreach as breach
+use Rattle.rob_cert.proofs.OneText.SomeCertificate as some
 use Rattle.rob_cert.proofs.laws.spelling_laws.Goals as goal
 
 pub returns : goal.returns

@@ -1,7 +1,7 @@
 use Rattle.std.proofs.Common.{◌∙◌}
 use Rattle.rob_meaning.specs.Names.{column_names}
 use Rattle.rob_model.specs.View.{robust}
-use Rattle.rob_cert.proofs.NameListLemmas.{named_more}
+use Rattle.rob_cert.proofs.Words.NameListLemmas.{named_more}
 use Rattle.rob_cert.proofs.names.column_list.Goals as goal
 
 pub loop-index-preserved : goal.loop-index-preserved

@@ -1,5 +1,5 @@
 use Rattle.std.proofs.Common.{◌++◌, ap, ◌∙◌}
-use Rattle.rob_cert.proofs.NameListLemmas.{parameter_more}
+use Rattle.rob_cert.proofs.Words.NameListLemmas.{parameter_more}
 use Rattle.rob_cert.proofs.names.parameter_list.Goals as goal
 
 pub loop-param-preserved : goal.loop-param-preserved

@@ -2,7 +2,7 @@ use Rattle.std.proofs.Common.{◌≡◌, ap, sym, ◌∙◌, Some, w64, true, fa
 use mir.Val.{to_z, of_z}
 use Rattle.std.specs.Prelude.{pos}
 use Rattle.rob_number.proofs.CastLemmas.{seen}
-use Rattle.rob_cert.proofs.NumberLemmas.{limit_small, read_refused, read_answered}
+use Rattle.rob_cert.proofs.Words.NumberLemmas.{limit_small, read_refused, read_answered}
 use Rattle.rob_cert.specs.declared.number.Parts.{Parts}
 use Rattle.rob_cert.specs.Spelling.{number_text}
 use Rattle.rob_cert.proofs.number.read_number.Goals as goal

@@ -3,7 +3,7 @@ use Rattle.std.specs.Prelude.{ℤ, pos}
 use Rattle.rob_algebra.specs.Fraction.{den_pos}
 use mir.Val.{to_z, of_z}
 use Rattle.rob_number.proofs.CastLemmas.{seen}
-use Rattle.rob_cert.proofs.NumberLemmas.{without_slash, with_slash}
+use Rattle.rob_cert.proofs.Words.NumberLemmas.{without_slash, with_slash}
 use Rattle.rob_cert.specs.declared.number.Parts.{Parts}
 use Rattle.rob_cert.proofs.number.read_parts.Goals as goal
 

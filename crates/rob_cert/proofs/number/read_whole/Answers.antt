@@ -1,7 +1,7 @@
 use Rattle.std.proofs.Common.{◌≡◌, ap, ◌∙◌, Some, Ok, w64}
 use mir.Val.{to_z, of_z}
 use Rattle.rob_number.proofs.CastLemmas.{seen}
-use Rattle.rob_cert.proofs.NumberLemmas.{whole_is_text, whole_parsed}
+use Rattle.rob_cert.proofs.Words.NumberLemmas.{whole_is_text, whole_parsed}
 use Rattle.rob_cert.proofs.number.read_whole.Goals as goal
 
 pub returns-in-Err : goal.returns-in-Err

@@ -1,7 +1,7 @@
 use Rattle.std.proofs.Common.{◌<◌, ◌^◌, arith, ap, ◌∙◌}
 use Rattle.std.specs.Prelude.{nat_abs}
 use Rattle.rob_number.proofs.CastLemmas.{seen}
-use Rattle.rob_cert.proofs.NumberLemmas.{spells_none, spells_some}
+use Rattle.rob_cert.proofs.Words.NumberLemmas.{spells_none, spells_some}
 use Rattle.rob_cert.proofs.number.spells.Goals as goal
 
 pub returns-in-None : goal.returns-in-None

@@ -2,8 +2,8 @@ use Rattle.std.proofs.Common.{◌≡◌, true, false, refl}
 use Rattle.rob_cert.specs.declared.error.Offence.TheVariants.{NoLine}
 use Rattle.rob_cert.specs.NamesView.{naming}
 use Rattle.rob_cert.specs.View.{status_of}
-use Rattle.rob_cert.proofs.EndLemmas.{end_missing, end_followed, end_reads, no_end, end_line_is, whole_end}
-use Rattle.rob_cert.proofs.EntryLemmas.{no_line}
+use Rattle.rob_cert.proofs.Readers.EndLemmas.{end_missing, end_followed, end_reads, no_end, end_line_is, whole_end}
+use Rattle.rob_cert.proofs.Readers.EntryLemmas.{no_line}
 use Rattle.std.specs.Prelude.{codes}
 use Rattle.rob_cert.proofs.part.end_part.Goals as goal
 

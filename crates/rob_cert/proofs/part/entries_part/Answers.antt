@@ -6,8 +6,8 @@ use Rattle.rob_cert.specs.NamesView.{naming}
 use Rattle.rob_cert.specs.Parts.{Extends}
 use Rattle.rob_cert.specs.Kinds.{entries, rank}
 use Rattle.rob_cert.specs.View.{status_of}
-use Rattle.rob_cert.proofs.PartLemmas as part
-use Rattle.rob_cert.proofs.RankLemmas.{low_entries}
+use Rattle.rob_cert.proofs.Readers.PartLemmas as part
+use Rattle.rob_cert.proofs.Readers.RankLemmas.{low_entries}
 use Rattle.rob_cert.proofs.part.entries_part.Goals as goal
 
 pub returns-then-is_used-clause-read : goal.returns-then-is_used-clause-read

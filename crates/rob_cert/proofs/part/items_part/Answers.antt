@@ -4,9 +4,9 @@ use Rattle.rob_cert.specs.Lines.{item_lines}
 use Rattle.rob_cert.specs.NamesView.{naming}
 use Rattle.rob_cert.specs.Parts.{Extends}
 use Rattle.rob_cert.specs.View.{item_of, status_of}
-use Rattle.rob_cert.proofs.EndLemmas.{items_part, unused_items}
-use Rattle.rob_cert.proofs.PartLemmas as part
-use Rattle.rob_cert.proofs.RankLemmas.{items_as_entries}
+use Rattle.rob_cert.proofs.Readers.EndLemmas.{items_part, unused_items}
+use Rattle.rob_cert.proofs.Readers.PartLemmas as part
+use Rattle.rob_cert.proofs.Readers.RankLemmas.{items_as_entries}
 use Rattle.rob_cert.proofs.part.items_part.Goals as goal
 
 pub returns-then-is_used-clause-read : goal.returns-then-is_used-clause-read

@@ -1,5 +1,5 @@
 use Rattle.std.proofs.Common.{◌<◌, ◌^◌, length, sym, subst}
-use Rattle.rob_meaning.proofs.NamedFormLemmas.{distinct_forms}
+use Rattle.rob_meaning.proofs.Naming.NamedFormLemmas.{distinct_forms}
 use Rattle.rob_meaning.specs.Named.{AreDistinct}
 use Rattle.rob_model.specs.View.{robust}
 use Rattle.std.specs.Prelude.{Err}
@@ -8,9 +8,9 @@ use Rattle.rob_cert.specs.Whole.{Reads}
 use Rattle.rob_cert.specs.NamesView.{naming}
 use Rattle.rob_cert.specs.Spelling.{Naming}
 use Rattle.rob_cert.specs.View.{certificate_of}
-use Rattle.rob_cert.proofs.FitLemmas.{answer_fits}
-use Rattle.rob_cert.proofs.ReadLemmas.{reads_exactly}
-use Rattle.rob_cert.proofs.ShapeLemmas.{few_names, well_read_both}
+use Rattle.rob_cert.proofs.Writing.FitLemmas.{answer_fits}
+use Rattle.rob_cert.proofs.Writing.ReadLemmas.{reads_exactly}
+use Rattle.rob_cert.proofs.Writing.ShapeLemmas.{few_names, well_read_both}
 use Rattle.rob_cert.proofs.reader.read_cert.Goals as goal
 
 pub read_text-requires-clause-distinct : goal.read_text-requires-clause-distinct

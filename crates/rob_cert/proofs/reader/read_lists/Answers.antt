@@ -4,7 +4,7 @@ use Rattle.rob_cert.specs.declared.kind.Multipliers.TheVariants.{Covers}
 use Rattle.rob_cert.specs.Lines.{cover_lines}
 use Rattle.rob_cert.specs.NamesView.{naming}
 use Rattle.rob_cert.specs.View.{status_of, cover_of, item_of}
-use Rattle.rob_cert.proofs.WholeLemmas.{then_fails, ends_with}
+use Rattle.rob_cert.proofs.Readers.WholeLemmas.{then_fails, ends_with}
 use Rattle.rob_cert.proofs.reader.read_lists.Goals as goal
 
 pub returns-in_err-covers-clause-fault : goal.returns-in_err-covers-clause-fault

@@ -5,7 +5,7 @@ use Rattle.rob_cert.specs.Spelling.{lines_text}
 use Rattle.rob_meaning.specs.Certificates.{Certificate}
 use Rattle.rob_cert.specs.NamesView.{naming}
 use Rattle.rob_cert.specs.View.{cover_of, item_of, status_of}
-use Rattle.rob_cert.proofs.WholeLemmas.{whole_text}
+use Rattle.rob_cert.proofs.Readers.WholeLemmas.{whole_text}
 use Rattle.rob_cert.proofs.reader.read_text.Goals as goal
 
 pub returns-in_err-front-clause-fault : goal.returns-in_err-front-clause-fault

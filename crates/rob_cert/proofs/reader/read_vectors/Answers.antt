@@ -4,7 +4,7 @@ use Rattle.rob_cert.specs.declared.kind.Vector.TheVariants.{Inside, Plan, Move}
 use Rattle.rob_cert.specs.Lines.{entry_lines}
 use Rattle.rob_cert.specs.NamesView.{naming}
 use Rattle.rob_cert.specs.View.{status_of}
-use Rattle.rob_cert.proofs.WholeLemmas.{then_fails, then_extends}
+use Rattle.rob_cert.proofs.Readers.WholeLemmas.{then_fails, then_extends}
 use Rattle.rob_cert.proofs.reader.read_vectors.Goals as goal
 
 pub returns-in_err-inside-clause-fault : goal.returns-in_err-inside-clause-fault

@@ -1,5 +1,5 @@
 use Rattle.std.proofs.Common.{◌∷◌, [], map, ◌++◌, ap, sym, ◌∙◌}
-use Rattle.rob_cert.proofs.WriterLemmas.{nine, on_ok, pieces_text}
+use Rattle.rob_cert.proofs.Writing.WriterLemmas.{nine, on_ok, pieces_text}
 use Rattle.rob_cert.specs.declared.kind.Multipliers.TheVariants.{Covers, Holds}
 use Rattle.rob_cert.specs.declared.kind.Vector.TheVariants.{Inside, Plan, Move}
 use Rattle.rob_cert.specs.Lines.{bound_lines, cover_lines, entry_lines, item_lines, status_line, end_line}

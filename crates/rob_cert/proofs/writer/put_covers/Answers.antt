@@ -1,7 +1,7 @@
 use Rattle.rob_cert.specs.NamesView.{naming}
 use Rattle.rob_cert.specs.Spelling.{IsCoverNamed}
 use Rattle.rob_cert.specs.View.{cover_of}
-use Rattle.rob_meaning.proofs.EachLemmas.{each_get}
+use Rattle.rob_meaning.proofs.Lists.EachLemmas.{each_get}
 use Rattle.rob_cert.proofs.writer.put_covers.Goals as goal
 
 pub put_cover-requires : goal.put_cover-requires

@@ -1,5 +1,5 @@
 use Rattle.std.proofs.Common.{◌≡◌, ◌++◌, drop}
-use Rattle.rob_cert.proofs.WriterLemmas.{covers_text}
+use Rattle.rob_cert.proofs.Writing.WriterLemmas.{covers_text}
 use Rattle.rob_cert.specs.NamesView.{naming}
 use Rattle.rob_cert.specs.View.{cover_of}
 use Rattle.rob_cert.proofs.writer.put_covers.Given as goal

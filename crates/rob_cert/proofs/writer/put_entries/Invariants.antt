@@ -1,5 +1,5 @@
 use Rattle.std.proofs.Common.{◌≡◌, ◌+◌, ◌++◌, drop}
-use Rattle.rob_cert.proofs.WriterLemmas.{entries_text}
+use Rattle.rob_cert.proofs.Writing.WriterLemmas.{entries_text}
 use Rattle.rob_cert.specs.NamesView.{naming}
 use Rattle.rob_cert.proofs.writer.put_entries.Given as goal
 

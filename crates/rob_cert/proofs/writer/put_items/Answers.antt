@@ -1,8 +1,8 @@
-use Rattle.rob_cert.proofs.WriterLemmas.{text_more, items_text, items_text-cons}
+use Rattle.rob_cert.proofs.Writing.WriterLemmas.{text_more, items_text, items_text-cons}
 use Rattle.rob_cert.specs.NamesView.{naming}
 use Rattle.rob_cert.specs.Spelling.{IsItemNamed}
 use Rattle.rob_cert.specs.View.{item_of}
-use Rattle.rob_meaning.proofs.EachLemmas.{each_get}
+use Rattle.rob_meaning.proofs.Lists.EachLemmas.{each_get}
 use Rattle.rob_cert.proofs.writer.put_items.Goals as goal
 
 pub put_item-requires-clause-named : goal.put_item-requires-clause-named

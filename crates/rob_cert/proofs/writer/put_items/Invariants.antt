@@ -1,5 +1,5 @@
 use Rattle.std.proofs.Common.{◌≡◌, ◌++◌, drop}
-use Rattle.rob_cert.proofs.WriterLemmas.{items_text}
+use Rattle.rob_cert.proofs.Writing.WriterLemmas.{items_text}
 use Rattle.rob_cert.specs.NamesView.{naming}
 use Rattle.rob_cert.specs.View.{item_of}
 use Rattle.rob_cert.proofs.writer.put_items.Given as goal

@@ -1,5 +1,5 @@
 use Rattle.std.proofs.Common.{◌++◌, ap, sym, ◌∙◌}
-use Rattle.rob_cert.proofs.WriterLemmas.{behind, on_ok, entries_text-push}
+use Rattle.rob_cert.proofs.Writing.WriterLemmas.{behind, on_ok, entries_text-push}
 use Rattle.rob_cert.specs.declared.kind.Vector.TheVariants.{Move}
 use Rattle.rob_cert.specs.NamesView.{naming}
 use Rattle.rob_cert.proofs.writer.put_move.Goals as goal

@@ -1,6 +1,6 @@
 use Rattle.std.proofs.Common.{sym, subst}
 use Rattle.rob_model.specs.View.{robust}
-use Rattle.rob_cert.proofs.NameListLemmas.{shape_named}
+use Rattle.rob_cert.proofs.Words.NameListLemmas.{shape_named}
 use Rattle.rob_cert.specs.Spelling.{HasNames}
 use Rattle.rob_cert.specs.View.{certificate_of}
 use Rattle.rob_cert.proofs.writer.write_cert.Goals as goal

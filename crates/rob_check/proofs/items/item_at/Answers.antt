@@ -3,7 +3,7 @@ use Rattle.std.proofs.Common.{◌≡◌, ℤ, List, suc, length, get_or, ap, sub
 use Rattle.std.proofs.lemmas.List.{length-map}
 use Rattle.rob_check.proofs.ItemLemmas.{item_stops, item_goes}
 use Rattle.rob_check.proofs.items.item_at.Goals as goal
-use Rattle.rob_meaning.proofs.MatrixLemmas.{matrix_is}
+use Rattle.rob_meaning.proofs.Tables.MatrixLemmas.{matrix_is}
 
 pub cut_at-requires-clause-rows : goal.cut_at-requires-clause-rows
 cut_at-requires-clause-rows g c =

@@ -1,6 +1,6 @@
 use Rattle.std.proofs.Common.{◌++◌, ap, ◌∙◌, to_z-of_z}
 use Rattle.std.specs.Fmt.{signed_decimal}
-use Rattle.rob_cert.proofs.WriterLemmas.{on_ok}
+use Rattle.rob_cert.proofs.Writing.WriterLemmas.{on_ok}
 use Rattle.rob_commands.specs.Answers.{branch_relation}
 use Rattle.rob_commands.proofs.PathTextLemmas.{bound_text}
 use Rattle.rob_commands.proofs.paths.put_bound.Goals as goal

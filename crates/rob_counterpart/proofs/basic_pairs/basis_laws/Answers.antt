@@ -1,6 +1,6 @@
 use Rattle.rob_counterpart.specs.Splitting.{plus, minus}
-use Rattle.rob_counterpart.proofs.PairLaw.{program_keeps_pairs, ending_keeps_pairs}
-use Rattle.rob_counterpart.proofs.SplitLemmas.{opposite_apart, set_pair, master_pair}
+use Rattle.rob_counterpart.proofs.Pairs.PairLaw.{program_keeps_pairs, ending_keeps_pairs}
+use Rattle.rob_counterpart.proofs.Pairs.SplitLemmas.{opposite_apart, set_pair, master_pair}
 use Rattle.rob_counterpart.proofs.basic_pairs.basis_laws.Goals as goal
 
 pub returns-clause-counterpart : goal.returns-clause-counterpart

@@ -1,4 +1,4 @@
-use Rattle.rob_counterpart.proofs.PairNumbers.{one_left, point_one, dual_one, weight_one, unbounded_point_one, move_one}
+use Rattle.rob_counterpart.proofs.Pairs.PairNumbers.{one_left, point_one, dual_one, weight_one, unbounded_point_one, move_one}
 use Rattle.rob_counterpart.proofs.basic_pairs.difference_laws.Goals as goal
 
 pub returns : goal.returns

@@ -1,5 +1,5 @@
 use Rattle.rob_counterpart.specs.Splitting.{plus, minus}
-use Rattle.rob_counterpart.proofs.SplitLemmas.{point_opposite, move_opposite, set_pair, master_pair}
+use Rattle.rob_counterpart.proofs.Pairs.SplitLemmas.{point_opposite, move_opposite, set_pair, master_pair}
 use Rattle.rob_counterpart.proofs.basic_pairs.further_difference_laws.Goals as goal
 
 pub returns : goal.returns

@@ -1,4 +1,4 @@
-use Rattle.rob_counterpart.proofs.CertificateLemmas.{read_optimal_proves, read_infeasible_proves, read_unbounded_proves}
+use Rattle.rob_counterpart.proofs.Proving.CertificateLemmas.{read_optimal_proves, read_infeasible_proves, read_unbounded_proves}
 use Rattle.rob_counterpart.proofs.certificates.ending_laws.Goals as goal
 
 pub returns-clause-optimal : goal.returns-clause-optimal

@@ -1,5 +1,5 @@
 use Rattle.rob_counterpart.specs.ReadCertificates.{optimal_read, infeasible_read, unbounded_read}
-use Rattle.rob_counterpart.proofs.CertificateLemmas.{read_optimal_proves, read_infeasible_proves, read_unbounded_proves, optimal_is_read, infeasible_is_read, unbounded_is_read}
+use Rattle.rob_counterpart.proofs.Proving.CertificateLemmas.{read_optimal_proves, read_infeasible_proves, read_unbounded_proves, optimal_is_read, infeasible_is_read, unbounded_is_read}
 use Rattle.rob_counterpart.proofs.certificates.proving_laws.Goals as goal
 
 pub returns-clause-optimal : goal.returns-clause-optimal

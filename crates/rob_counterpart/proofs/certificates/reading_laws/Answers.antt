@@ -1,4 +1,4 @@
-use Rattle.rob_counterpart.proofs.CertificateLemmas.{optimal_is_read, infeasible_is_read, unbounded_is_read}
+use Rattle.rob_counterpart.proofs.Proving.CertificateLemmas.{optimal_is_read, infeasible_is_read, unbounded_is_read}
 use Rattle.rob_counterpart.proofs.certificates.reading_laws.Goals as goal
 
 pub returns-clause-optimal : goal.returns-clause-optimal

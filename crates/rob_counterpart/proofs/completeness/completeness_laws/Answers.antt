@@ -1,4 +1,4 @@
-use Rattle.rob_counterpart.proofs.CompletenessLemmas.{scenario_or_weights, some_certificate, some_status}
+use Rattle.rob_counterpart.proofs.Proving.CompletenessLemmas.{scenario_or_weights, some_certificate, some_status}
 use Rattle.rob_counterpart.proofs.completeness.completeness_laws.Goals as goal
 
 pub returns-clause-scenario : goal.returns-clause-scenario

@@ -1,4 +1,4 @@
-use Rattle.rob_counterpart.proofs.CompletenessLemmas.{optimal_exists, unbounded_exists}
+use Rattle.rob_counterpart.proofs.Proving.CompletenessLemmas.{optimal_exists, unbounded_exists}
 use Rattle.rob_counterpart.proofs.completeness.number_laws.Goals as goal
 
 pub returns-clause-optimal : goal.returns-clause-optimal

@@ -1,4 +1,4 @@
-use Rattle.rob_counterpart.proofs.MasterEndings.{cuts_keep, cuts_keep_along}
+use Rattle.rob_counterpart.proofs.Searching.MasterEndings.{cuts_keep, cuts_keep_along}
 use Rattle.rob_counterpart.proofs.cutting_planes.keeping_laws.Goals as goal
 
 pub returns-clause-plan : goal.returns-clause-plan

@@ -1,4 +1,4 @@
-use Rattle.rob_counterpart.proofs.MasterEndings.{cuts_optimal, cuts_infeasible, cuts_improve}
+use Rattle.rob_counterpart.proofs.Searching.MasterEndings.{cuts_optimal, cuts_infeasible, cuts_improve}
 use Rattle.rob_counterpart.proofs.cutting_planes.master_laws.Goals as goal
 
 pub returns-clause-optimal : goal.returns-clause-optimal

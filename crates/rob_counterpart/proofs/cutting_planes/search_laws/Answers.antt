@@ -1,4 +1,4 @@
-use Rattle.rob_counterpart.proofs.WorstCaseLemmas.{search_worst_case, search_value, search_grows, worst_covers, covers_scaled}
+use Rattle.rob_counterpart.proofs.Searching.WorstCaseLemmas.{search_worst_case, search_value, search_grows, worst_covers, covers_scaled}
 use Rattle.rob_counterpart.proofs.cutting_planes.search_laws.Goals as goal
 
 pub returns-clause-worst : goal.returns-clause-worst

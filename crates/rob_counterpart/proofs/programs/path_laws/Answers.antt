@@ -1,4 +1,4 @@
-use Rattle.rob_counterpart.proofs.SamePaths.{own_same, own_auxiliary_same, last_same, wide_row_same, last_from, wide_row_from}
+use Rattle.rob_counterpart.proofs.Positions.SamePaths.{own_same, own_auxiliary_same, last_same, wide_row_same, last_from, wide_row_from}
 use Rattle.rob_counterpart.proofs.programs.path_laws.Goals as goal
 
 pub returns-clause-own : goal.returns-clause-own

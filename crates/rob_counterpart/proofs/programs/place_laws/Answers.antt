@@ -1,6 +1,6 @@
-use Rattle.rob_counterpart.proofs.ReformPlaces.{reform_is}
-use Rattle.rob_counterpart.proofs.SetLemmas.{over_set_is, cost_is, search_is}
-use Rattle.rob_counterpart.proofs.MasterLemmas.{master_is}
+use Rattle.rob_counterpart.proofs.Positions.ReformPlaces.{reform_is}
+use Rattle.rob_counterpart.proofs.Sets.SetLemmas.{over_set_is, cost_is, search_is}
+use Rattle.rob_counterpart.proofs.Searching.MasterLemmas.{master_is}
 use Rattle.rob_counterpart.proofs.programs.place_laws.Goals as goal
 
 pub returns-clause-counterpart : goal.returns-clause-counterpart

@@ -1,4 +1,4 @@
-use Rattle.rob_counterpart.proofs.SamePaths.{optimal_same, infeasible_same, unbounded_same}
+use Rattle.rob_counterpart.proofs.Positions.SamePaths.{optimal_same, infeasible_same, unbounded_same}
 use Rattle.rob_counterpart.proofs.programs.same_ending_laws.Goals as goal
 
 pub returns-clause-optimal : goal.returns-clause-optimal

@@ -1,5 +1,5 @@
-use Rattle.rob_counterpart.proofs.SameSystems.{reform_same, over_set_same, master_same, systems_same, auxiliaries_same}
-use Rattle.rob_counterpart.proofs.SamePaths.{same_back}
+use Rattle.rob_counterpart.proofs.Positions.SameSystems.{reform_same, over_set_same, master_same, systems_same, auxiliaries_same}
+use Rattle.rob_counterpart.proofs.Positions.SamePaths.{same_back}
 use Rattle.rob_counterpart.proofs.programs.sameness_laws.Goals as goal
 
 pub returns : goal.returns

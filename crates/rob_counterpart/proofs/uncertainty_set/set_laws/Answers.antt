@@ -1,8 +1,8 @@
-use Rattle.rob_meaning.proofs.EmptyInLemmas.{shows_empty_in}
-use Rattle.rob_meaning.proofs.EmptyLemmas.{shows_empty}
+use Rattle.rob_meaning.proofs.Conditions.EmptyInLemmas.{shows_empty_in}
+use Rattle.rob_meaning.proofs.Conditions.EmptyLemmas.{shows_empty}
 use Rattle.rob_counterpart.specs.ReadCertificates.{weights_read}
-use Rattle.rob_counterpart.proofs.OwnSetLemmas.{weights_in}
-use Rattle.rob_counterpart.proofs.ScenarioLemmas.{set_weights, basis_admitted}
+use Rattle.rob_counterpart.proofs.Sets.OwnSetLemmas.{weights_in}
+use Rattle.rob_counterpart.proofs.Sets.ScenarioLemmas.{set_weights, basis_admitted}
 use Rattle.rob_counterpart.proofs.uncertainty_set.set_laws.Goals as goal
 
 pub returns : goal.returns

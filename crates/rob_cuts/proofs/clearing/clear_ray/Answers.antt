@@ -1,5 +1,5 @@
 use Rattle.std.proofs.Common.{map, arith}
-use Rattle.rob_sets.proofs.ClearingSteps.{whole_wide}
+use Rattle.rob_sets.proofs.WholeRows.ClearingSteps.{whole_wide}
 use Rattle.rob_cuts.proofs.RayLemmas.{denominator_wide, each_den, square_small, wide_at_denominator}
 use Rattle.rob_cuts.proofs.clearing.clear_ray.Goals as goal
 

@@ -1,8 +1,8 @@
 use Rattle.std.proofs.Common.{◌^◌, [], ap, ◌∙◌, arith}
 use Rattle.rob_algebra.specs.Fraction.{den_pos}
-use Rattle.rob_meaning.proofs.ClearingLemmas.{lcm_pos}
+use Rattle.rob_meaning.proofs.Tables.ClearingLemmas.{lcm_pos}
 use Rattle.rob_meaning.specs.Clearing.{lcm}
-use Rattle.rob_sets.proofs.ClearingSteps.{cast_back, common_more, common_wide}
+use Rattle.rob_sets.proofs.WholeRows.ClearingSteps.{cast_back, common_more, common_wide}
 use Rattle.rob_cuts.proofs.clearing.common_denominator.Goals as goal
 
 pub returns-in-None : goal.returns-in-None

@@ -1,5 +1,5 @@
 use Rattle.std.proofs.Common.{◌∙◌, arith}
-use Rattle.rob_sets.proofs.ClearingSteps.{cast_back}
+use Rattle.rob_sets.proofs.WholeRows.ClearingSteps.{cast_back}
 use Rattle.rob_dualize.proofs.RowBoundLemmas.{told_of}
 use Rattle.rob_dualize.proofs.bounds.row_bound.Goals as goal
 

@@ -3,7 +3,7 @@ use Rattle.rob_meaning.specs.Places.{tabulate}
 use Rattle.rob_cert.specs.View.{cover_of}
 use Rattle.rob_counterpart.specs.RobustProgram.{RobustProgram}
 use Rattle.rob_counterpart.specs.Reform.{multiplier}
-use Rattle.rob_counterpart.proofs.Blocks.{block_in}
+use Rattle.rob_counterpart.proofs.Pairs.Blocks.{block_in}
 use Rattle.rob_dualize.specs.Numbers.{told}
 use Rattle.rob_counterpart.specs.ReadNumbers.{cover_at, covers_kept}
 use Rattle.rob_dualize.specs.Wholes.{wholes}

@@ -3,7 +3,7 @@ use Rattle.rob_meaning.specs.Places.{1ℚ}
 use Rattle.rob_cert.specs.View.{item_of}
 use Rattle.rob_counterpart.specs.RobustProgram.{RobustProgram}
 use Rattle.rob_counterpart.specs.Reform.{block, constant_row}
-use Rattle.rob_counterpart.proofs.Blocks.{block_in}
+use Rattle.rob_counterpart.proofs.Pairs.Blocks.{block_in}
 use Rattle.rob_dualize.specs.Numbers.{told}
 use Rattle.rob_counterpart.specs.ReadNumbers.{items_to, vector_at, all_zero}
 use Rattle.rob_dualize.specs.Wholes.{wholes}

@@ -2,7 +2,7 @@ use Rattle.std.proofs.Common.{◌≡◌, ◌+◌, ◌*◌, ◌<◌, suc, ap, ari
 use Rattle.rob_algebra.specs.Fraction.{◌-ℚ◌}
 use Rattle.rob_counterpart.specs.RobustProgram.{RobustProgram}
 use Rattle.rob_counterpart.specs.Reform.{block, positive_row, negative_row}
-use Rattle.rob_counterpart.proofs.Blocks.{block_in}
+use Rattle.rob_counterpart.proofs.Pairs.Blocks.{block_in}
 use Rattle.rob_dualize.specs.Numbers.{told}
 use Rattle.rob_dualize.specs.Wholes.{wholes}
 use Rattle.rob_dualize.proofs.MakingLemmas.{parameters_low}

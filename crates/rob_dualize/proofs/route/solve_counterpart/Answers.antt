@@ -1,7 +1,7 @@
 use Rattle.std.proofs.Common.{◌≡◌, length, arith}
 use Rattle.rob_linear.specs.Programs.{Program}
 use Rattle.rob_rows.specs.LinearPrograms.{program_of}
-use Rattle.rob_counterpart.proofs.TabulateLemmas.{length-tabulate}
+use Rattle.rob_counterpart.proofs.Pairs.TabulateLemmas.{length-tabulate}
 use Rattle.rob_solver.specs.Solving.{IsSolved}
 use Rattle.rob_dualize.specs.Ending.{IsSolvedAs}
 use Rattle.rob_dualize.specs.Told.{listed}

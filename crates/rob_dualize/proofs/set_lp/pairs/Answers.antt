@@ -1,6 +1,6 @@
 use Rattle.std.proofs.Common.{◌<◌, ◌^◌, arith, get_or, to_z, of_z, w64}
 use lib.IntN.{pos, ◌-ℤ◌, nat_abs}
-use Rattle.rob_meaning.proofs.EachLemmas.{each_at}
+use Rattle.rob_meaning.proofs.Lists.EachLemmas.{each_at}
 use Rattle.rob_number.proofs.CastLemmas.{seen, negated_seen}
 use Rattle.rob_dualize.proofs.SetProgramLemmas.{pairs_more}
 use Rattle.rob_dualize.proofs.set_lp.pairs.Goals as goal

@@ -4,8 +4,8 @@ use Rattle.rob_meaning.specs.Expressions.{number}
 use Rattle.rob_meaning.specs.Forms.{difference}
 use Rattle.rob_meaning.specs.SetConditions.{if_declared}
 use Rattle.rob_model.specs.View.{robust, expression_of}
-use Rattle.rob_sets.proofs.PartedLemmas.{parted}
-use Rattle.rob_sets.proofs.ProgressLemmas.{begins}
+use Rattle.rob_sets.proofs.Cells.PartedLemmas.{parted}
+use Rattle.rob_sets.proofs.Judging.ProgressLemmas.{begins}
 use Rattle.rob_elab.proofs.AppendLemmas.{FormProgress, forms_end_with, forms_go_on, forms_stop}
 use Rattle.rob_elab.proofs.bounds.append_bounds.Goals as goal
 

@@ -1,9 +1,9 @@
 use Rattle.std.proofs.Common.{arith, ap, subst, ◌++◌, zero, length}
 use Rattle.rob_meaning.specs.Forms.{adaptive_forms, forms, row_forms, variable_forms}
 use Rattle.rob_model.specs.View.{robust}
-use Rattle.rob_sets.proofs.AppendingLemmas.{appended_length}
-use Rattle.rob_sets.proofs.PartedLemmas.{parted}
-use Rattle.rob_sets.proofs.LeafLemmas.{few_variables}
+use Rattle.rob_sets.proofs.Judging.AppendingLemmas.{appended_length}
+use Rattle.rob_sets.proofs.Cells.PartedLemmas.{parted}
+use Rattle.rob_sets.proofs.Expressions.LeafLemmas.{few_variables}
 use Rattle.rob_elab.specs.Appending.{Appends}
 use Rattle.rob_elab.proofs.AppendLemmas.{Matrices, forms_end_with, forms_stop}
 use Rattle.rob_elab.proofs.FormParts.{at_start, behind_objective, behind_rows, behind_variables, bounds, objective}

@@ -1,7 +1,7 @@
 use Rattle.std.proofs.Common.{ap, sym, ◌∙◌}
 use Rattle.std.proofs.lemmas.List.{length-map}
 use Rattle.std.specs.Prelude.{length, refl}
-use Rattle.rob_meaning.proofs.NameLemmas.{length-column_names}
+use Rattle.rob_meaning.proofs.Naming.NameLemmas.{length-column_names}
 use Rattle.rob_model.specs.View.{parameter_of, robust}
 use Rattle.rob_elab.proofs.elaboration.elaborate.Goals as goal
 

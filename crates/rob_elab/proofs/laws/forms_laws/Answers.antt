@@ -1,7 +1,7 @@
 use Rattle.std.proofs.Common.{sym, subst}
 use Rattle.std.specs.Prelude.{ℕ, List, ℤ, ◌↔◌}
 use Rattle.rob_algebra.specs.Fraction.{◌≤ℚ◌}
-use Rattle.rob_meaning.proofs.AtLemmas.{form_law, keeps_law, joint_bound_law, bound_law}
+use Rattle.rob_meaning.proofs.Tables.AtLemmas.{form_law, keeps_law, joint_bound_law, bound_law}
 use Rattle.rob_meaning.specs.Forms.{FormHolds, matrix_at, plan_vector, sum_at}
 use Rattle.rob_meaning.specs.Guarantee.{HasBound}
 use Rattle.rob_meaning.specs.JointMeaning.{HasJointBound, Keeps}

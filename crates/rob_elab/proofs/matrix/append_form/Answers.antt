@@ -5,7 +5,7 @@ use Rattle.rob_algebra.specs.Fraction.{Fraction}
 use Rattle.rob_number.specs.Counts.{Rose}
 use Rattle.rob_meaning.specs.Clearing.{cleared, entries}
 use Rattle.rob_meaning.specs.Forms.{entries_of, form_columns, form_rows}
-use Rattle.rob_meaning.proofs.NameLemmas.{length-column_names}
+use Rattle.rob_meaning.proofs.Naming.NameLemmas.{length-column_names}
 use Rattle.rob_model.specs.View.{parameter_of, robust}
 use Rattle.rob_model.specs.declared.place.Spot.TheVariants.{Clearing}
 use Rattle.rob_model.specs.declared.place.Where.TheVariants.{Form}
@@ -13,7 +13,7 @@ use Rattle.rob_sets.specs.FirstWide as judge
 use Rattle.rob_sets.specs.FirstWide.{IsWideCleared}
 use Rattle.rob_sets.specs.Stops.{StopsFor}
 use Rattle.rob_sets.specs.Tables.{numbers_of}
-use Rattle.rob_sets.proofs.JudgedLemmas.{stops_here}
+use Rattle.rob_sets.proofs.Judging.JudgedLemmas.{stops_here}
 use Rattle.rob_elab.specs.Forms.{MatrixFits, rows_of}
 use Rattle.rob_elab.proofs.matrix.append_form.Goals as goal
 

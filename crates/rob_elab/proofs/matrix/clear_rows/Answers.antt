@@ -4,8 +4,8 @@ use Rattle.rob_number.specs.Counts.{Rose}
 use Rattle.rob_meaning.specs.Clearing.{entries, whole_at}
 use Rattle.rob_sets.specs.FirstWide.{Some_of}
 use Rattle.rob_sets.specs.Tables.{numbers_of}
-use Rattle.rob_sets.proofs.ClearingSteps.{clear_wide}
-use Rattle.rob_sets.proofs.StopLemmas.{stops_also}
+use Rattle.rob_sets.proofs.WholeRows.ClearingSteps.{clear_wide}
+use Rattle.rob_sets.proofs.Judging.StopLemmas.{stops_also}
 use Rattle.rob_elab.specs.Forms.{rows_of}
 use Rattle.rob_elab.proofs.RowLemmas.{rows_fit}
 use Rattle.rob_elab.proofs.matrix.clear_rows.Goals as goal

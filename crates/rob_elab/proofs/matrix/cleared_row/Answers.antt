@@ -5,7 +5,7 @@ use Rattle.rob_algebra.specs.Width.{IsWideWhole}
 use Rattle.rob_number.proofs.CastLemmas.{seen_within}
 use Rattle.rob_meaning.specs.Clearing.{whole_at}
 use Rattle.rob_meaning.specs.Places.{Each, tabulate}
-use Rattle.rob_meaning.proofs.EachLemmas.{each_push}
+use Rattle.rob_meaning.proofs.Lists.EachLemmas.{each_push}
 use Rattle.rob_sets.specs.Tables.{numbers_of}
 use Rattle.rob_elab.proofs.RowLemmas.{mapped_more, some_number}
 use Rattle.rob_elab.proofs.matrix.cleared_row.Goals as goal

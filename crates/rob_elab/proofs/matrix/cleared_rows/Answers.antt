@@ -6,11 +6,11 @@ use Rattle.rob_algebra.specs.Width.{IsWideWhole}
 use Rattle.rob_number.specs.Counts.{Rose}
 use Rattle.rob_meaning.specs.Clearing.{whole_at}
 use Rattle.rob_meaning.specs.Places.{Each, tabulate}
-use Rattle.rob_meaning.proofs.EachLemmas.{each_push}
+use Rattle.rob_meaning.proofs.Lists.EachLemmas.{each_push}
 use Rattle.rob_sets.specs.FirstWide.{Some_of}
 use Rattle.rob_sets.specs.Tables.{numbers_of}
 use Rattle.rob_number.proofs.CountLemmas.{later}
-use Rattle.rob_sets.proofs.StopLemmas.{stops_more}
+use Rattle.rob_sets.proofs.Judging.StopLemmas.{stops_more}
 use Rattle.rob_elab.specs.Forms.{MatrixFits, rows_of}
 use Rattle.rob_elab.proofs.RowLemmas.{mapped_more, some_row}
 use Rattle.rob_elab.proofs.matrix.cleared_rows.Goals as goal

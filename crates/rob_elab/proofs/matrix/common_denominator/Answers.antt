@@ -1,6 +1,6 @@
 use Rattle.std.proofs.Common.{arith, ap, sym, ◌∙◌, refl}
 use Rattle.std.specs.Prelude.{◌≡◌}
-use Rattle.rob_meaning.proofs.ClearingLemmas.{denominator_pos}
+use Rattle.rob_meaning.proofs.Tables.ClearingLemmas.{denominator_pos}
 use Rattle.rob_meaning.specs.Clearing.{denominator, entries}
 use Rattle.rob_sets.specs.Tables.{numbers_of}
 use Rattle.rob_number.proofs.CountLemmas.{later}

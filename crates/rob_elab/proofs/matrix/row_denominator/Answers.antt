@@ -1,11 +1,11 @@
 use Rattle.std.proofs.Common.{arith, ap, ◌∙◌}
 use Rattle.std.specs.Prelude.{◌≡◌, ◌++◌}
 use Rattle.rob_algebra.specs.Fraction.{den_pos}
-use Rattle.rob_meaning.proofs.ClearingLemmas.{lcm_pos}
+use Rattle.rob_meaning.proofs.Tables.ClearingLemmas.{lcm_pos}
 use Rattle.rob_meaning.specs.Clearing.{denominator}
 use Rattle.rob_meaning.specs.Places.{tabulate}
 use Rattle.rob_sets.specs.Tables.{numbers_of}
-use Rattle.rob_sets.proofs.ClearingSteps.{common_first}
+use Rattle.rob_sets.proofs.WholeRows.ClearingSteps.{common_first}
 use Rattle.rob_number.proofs.CountLemmas.{later}
 use Rattle.rob_elab.proofs.RowLemmas.{number_more, number_wide}
 use Rattle.rob_elab.proofs.matrix.row_denominator.Goals as goal

@@ -7,7 +7,7 @@ use Rattle.rob_model.specs.View.{robust}
 use Rattle.rob_model.specs.declared.place.Spot.TheVariants.{Coefficient}
 use Rattle.rob_model.specs.declared.place.Where.TheVariants.{Form}
 use Rattle.rob_sets.specs.FirstWide as judge
-use Rattle.rob_sets.proofs.JudgedLemmas.{stops_here}
+use Rattle.rob_sets.proofs.Judging.JudgedLemmas.{stops_here}
 use Rattle.rob_elab.proofs.AppendLemmas.{form_appends}
 use Rattle.rob_elab.proofs.objective.append_objective.Goals as goal
 

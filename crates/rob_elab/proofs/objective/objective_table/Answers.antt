@@ -1,12 +1,12 @@
 use Rattle.std.proofs.Common.{arith, ap, ◌∙◌}
 use Rattle.rob_meaning.specs.Forms.{difference, objective_form, tau_column}
-use Rattle.rob_meaning.proofs.NameLemmas.{length-column_names}
+use Rattle.rob_meaning.proofs.Naming.NameLemmas.{length-column_names}
 use Rattle.rob_model.specs.View.{robust, sense_of}
 use Rattle.rob_sets.specs.Subexpressions.{HasWideCoefficient}
 use Rattle.rob_sets.specs.Tabulating.{IsWideWithin}
-use Rattle.rob_sets.proofs.DifferenceLemmas.{difference_tabulates}
-use Rattle.rob_sets.proofs.StopLemmas.{stop_weaker}
-use Rattle.rob_sets.proofs.TabulatingLemmas.{memory_stops, tabulates_as, tabulates_err}
+use Rattle.rob_sets.proofs.Expressions.DifferenceLemmas.{difference_tabulates}
+use Rattle.rob_sets.proofs.Judging.StopLemmas.{stop_weaker}
+use Rattle.rob_sets.proofs.Expressions.TabulatingLemmas.{memory_stops, tabulates_as, tabulates_err}
 use Rattle.rob_elab.proofs.ObjectiveLemmas.{in_objective, tau_is}
 use Rattle.rob_elab.proofs.objective.objective_table.Goals as goal
 

@@ -3,12 +3,12 @@ use Rattle.rob_meaning.specs.RobustModel.{Row}
 use Rattle.rob_meaning.specs.WellFormed.{IsExpression}
 use Rattle.rob_model.specs.View.{robust, row_of}
 use Rattle.rob_number.proofs.CountLemmas.{later}
-use Rattle.rob_sets.proofs.ItemLemmas.{drop_item, drop_over, item_inside, item_is}
-use Rattle.rob_sets.proofs.ProgressLemmas.{begins, so_many}
+use Rattle.rob_sets.proofs.Cells.ItemLemmas.{drop_item, drop_over, item_inside, item_is}
+use Rattle.rob_sets.proofs.Judging.ProgressLemmas.{begins, so_many}
 use Rattle.rob_elab.proofs.AppendLemmas.{forms_end, forms_go_on, forms_stop}
 use Rattle.rob_elab.proofs.LeftLemmas.{rows_at, rows_end, rows_many}
 use Rattle.rob_elab.proofs.rows.append_rows.Goals as goal
-use Rattle.rob_meaning.proofs.EachLemmas.{each_get}
+use Rattle.rob_meaning.proofs.Lists.EachLemmas.{each_get}
 
 pub loop-row-init : goal.loop-row-init
 loop-row-init g c =

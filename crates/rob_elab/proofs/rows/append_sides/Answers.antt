@@ -3,8 +3,8 @@ use Rattle.std.specs.Prelude.{length, ◌∷◌, []}
 use Rattle.rob_meaning.specs.Forms.{difference, sides}
 use Rattle.rob_meaning.specs.RobustModel.{Relation}
 use Rattle.rob_model.specs.View.{robust, expression_of, relation_of}
-use Rattle.rob_sets.proofs.PartedLemmas.{parted}
-use Rattle.rob_sets.proofs.ProgressLemmas.{begins}
+use Rattle.rob_sets.proofs.Cells.PartedLemmas.{parted}
+use Rattle.rob_sets.proofs.Judging.ProgressLemmas.{begins}
 use Rattle.rob_elab.specs.Appending.{Appends}
 use Rattle.rob_elab.proofs.AppendLemmas.{FormProgress, forms_end_with, forms_go_on, forms_stop}
 use Rattle.rob_elab.proofs.rows.append_sides.Goals as goal

@@ -1,10 +1,10 @@
 use Rattle.std.proofs.lemmas.Result.{err_from_is_err_and}
 use Rattle.rob_index.specs.Forms.{values_of}
-use Rattle.rob_expand.proofs.InmostLemmas.{counted_inside}
-use Rattle.rob_expand.proofs.OverLemmas.{each_end, each_more, each_stop, over_empty, over_one, over_several, over_told}
-use Rattle.rob_expand.proofs.StepLemmas.{factors_end, factors_more, factors_stop, item_behind, item_stop_front, item_stop_inner, parts_end, parts_more, parts_stop}
+use Rattle.rob_expand.proofs.Counting.InmostLemmas.{counted_inside}
+use Rattle.rob_expand.proofs.Counting.OverLemmas.{each_end, each_more, each_stop, over_empty, over_one, over_several, over_told}
+use Rattle.rob_expand.proofs.Counting.StepLemmas.{factors_end, factors_more, factors_stop, item_behind, item_stop_front, item_stop_inner, parts_end, parts_more, parts_stop}
 use Rattle.rob_settings.proofs.AnswerLemmas.{moved}
-use Rattle.rob_expand.proofs.WalkLemmas.{next_none, next_some}
+use Rattle.rob_expand.proofs.Walks.WalkLemmas.{next_none, next_some}
 use Rattle.rob_expand.proofs.count.+count.Goals as goal
 
 pub count-returns-in-Over : goal.count-returns-in-Over

@@ -1,7 +1,7 @@
 use Rattle.std.proofs.Common.{length}
 use Rattle.rob_index.specs.Forms.{values_of}
-use Rattle.rob_expand.proofs.OverLemmas.{HasEachLeft}
-use Rattle.rob_expand.proofs.StepLemmas.{HasFactorsLeft, HasPartsLeft}
+use Rattle.rob_expand.proofs.Counting.OverLemmas.{HasEachLeft}
+use Rattle.rob_expand.proofs.Counting.StepLemmas.{HasFactorsLeft, HasPartsLeft}
 use Rattle.rob_expand.proofs.count.+count.Given as goal
 
 abbrev pub invariant-count_parts-loop-part : goal.invariant-count_parts-loop-part

@@ -1,5 +1,5 @@
 use Rattle.std.proofs.Common.{sym, ◌∙◌}
-use Rattle.rob_expand.proofs.ExpandLemmas.{bare_more, bare_stop, bare_all, empty_told}
+use Rattle.rob_expand.proofs.Expanding.ExpandLemmas.{bare_more, bare_stop, bare_all, empty_told}
 use Rattle.rob_expand.proofs.expansion.are_bare.Goals as goal
 
 pub loop-item-preserved : goal.loop-item-preserved

@@ -10,8 +10,8 @@ use Rattle.rob_syntax.specs.Known.{texts}
 use Rattle.rob_syntax.specs.Seen.{seen_statement}
 use Rattle.rob_expand.specs.Growing.{add_name, line_names, printed}
 use Rattle.rob_expand.specs.Instances.{instance}
-use Rattle.rob_expand.proofs.ExpandLemmas.{line_of_is, words_are, list_is, is_refused, are_statements, lacks_refused}
-use Rattle.rob_expand.proofs.ThinLemmas.{spots_flat, spots_map}
+use Rattle.rob_expand.proofs.Expanding.ExpandLemmas.{line_of_is, words_are, list_is, is_refused, are_statements, lacks_refused}
+use Rattle.rob_expand.proofs.Counting.ThinLemmas.{spots_flat, spots_map}
 use Rattle.rob_settings.proofs.SpotLemmas.{thin_spots, values_in}
 use Rattle.rob_expand.proofs.expansion.expand.Goals as goal
 

@@ -2,7 +2,7 @@ use Rattle.std.proofs.Common.{List, [], ap, ◌∙◌}
 use Rattle.rob_settings.specs.declared.item.Item.{Item}
 use Rattle.rob_expand.specs.Growing.{is_bare}
 use Rattle.rob_settings.proofs.AnswerLemmas.{moved_if}
-use Rattle.rob_expand.proofs.ExpandLemmas.{lacks_budget, lacks_other}
+use Rattle.rob_expand.proofs.Expanding.ExpandLemmas.{lacks_budget, lacks_other}
 use Rattle.rob_expand.proofs.expansion.lacks_members.Goals as goal
 
 pub returns-in-Budget : goal.returns-in-Budget

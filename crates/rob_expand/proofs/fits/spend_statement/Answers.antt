@@ -7,8 +7,8 @@ use Rattle.rob_index.specs.Forms.{Ends, extensions}
 use Rattle.rob_syntax.specs.Seen.{seen_statement}
 use Rattle.rob_settings.specs.Room.{left_of}
 use Rattle.rob_settings.proofs.AppendLemmas.{thin_moved}
-use Rattle.rob_expand.proofs.FitsLemmas.{moved_all, refused_all, settings_left}
-use Rattle.rob_expand.proofs.LinesLemmas.{expansion_left, expansion_crowded}
+use Rattle.rob_expand.proofs.Counting.FitsLemmas.{moved_all, refused_all, settings_left}
+use Rattle.rob_expand.proofs.Counting.LinesLemmas.{expansion_left, expansion_crowded}
 use Rattle.rob_expand.proofs.fits.spend_statement.Goals as goal
 
 pub returns-in_err-settings : goal.returns-in_err-settings

@@ -8,10 +8,10 @@ use Rattle.rob_syntax.specs.Known.{texts}
 use Rattle.rob_expand.specs.Growing.{add_name, each_names, printed_at}
 use Rattle.rob_expand.specs.Names.{tree_names}
 use Rattle.rob_expand.specs.Placed.{Placed, placed_of}
-use Rattle.rob_expand.proofs.StepLemmas.{over_seen}
-use Rattle.rob_expand.proofs.WalkLemmas.{next_some, next_none, words_more, words_all, long_more, long_all, words_are, long_are}
-use Rattle.rob_expand.proofs.InmostLemmas.{printed_inside}
-use Rattle.rob_expand.proofs.NameLemmas.{part_names_at, factor_names_at, value_names_at, parts_named, factors_named, over_named, words_inside, long_inside}
+use Rattle.rob_expand.proofs.Counting.StepLemmas.{over_seen}
+use Rattle.rob_expand.proofs.Walks.WalkLemmas.{next_some, next_none, words_more, words_all, long_more, long_all, words_are, long_are}
+use Rattle.rob_expand.proofs.Counting.InmostLemmas.{printed_inside}
+use Rattle.rob_expand.proofs.Expanding.NameLemmas.{part_names_at, factor_names_at, value_names_at, parts_named, factors_named, over_named, words_inside, long_inside}
 use Rattle.rob_settings.proofs.AnswerLemmas.{moved_on, moved_if}
 use Rattle.rob_expand.proofs.grow.+grow.Goals as goal
 

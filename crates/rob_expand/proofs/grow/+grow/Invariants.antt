@@ -6,7 +6,7 @@ use Rattle.rob_index.specs.Rules.{is_long_name}
 use Rattle.rob_syntax.specs.Known.{texts}
 use Rattle.rob_expand.specs.Growing.{add_name}
 use Rattle.rob_expand.specs.Placed.{placed_of}
-use Rattle.rob_expand.proofs.NameLemmas.{part_names_at, factor_names_at, value_names_at}
+use Rattle.rob_expand.proofs.Expanding.NameLemmas.{part_names_at, factor_names_at, value_names_at}
 use Rattle.rob_expand.proofs.grow.+grow.Given as goal
 
 abbrev pub invariant-grow_parts-loop-part : goal.invariant-grow_parts-loop-part

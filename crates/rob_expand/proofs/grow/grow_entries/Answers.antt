@@ -5,7 +5,7 @@ use Rattle.rob_algebra.proofs.ListLemmas.{drop_at, drop_past}
 use Rattle.rob_index.specs.Rules.{is_long_name}
 use Rattle.rob_syntax.specs.Known.{texts}
 use Rattle.rob_expand.specs.Growing.{add_name, named_at}
-use Rattle.rob_expand.proofs.WalkLemmas.{words_more, words_all, long_more, long_all, map_flat}
+use Rattle.rob_expand.proofs.Walks.WalkLemmas.{words_more, words_all, long_more, long_all, map_flat}
 use Rattle.rob_expand.proofs.grow.grow_entries.Goals as goal
 
 pub loop-setting-preserved : goal.loop-setting-preserved

@@ -7,7 +7,7 @@ use Rattle.rob_syntax.specs.Known.{texts}
 use Rattle.rob_index.specs.Forms.{extensions}
 use Rattle.rob_settings.specs.declared.item.Item.{Item}
 use Rattle.rob_expand.specs.Growing.{add_name, item_names, named_at}
-use Rattle.rob_expand.proofs.WalkLemmas.{words_more, words_all, long_more, long_all}
+use Rattle.rob_expand.proofs.Walks.WalkLemmas.{words_more, words_all, long_more, long_all}
 use Rattle.rob_expand.proofs.grow.grow_items.Goals as goal
 
 pub loop-item-preserved : goal.loop-item-preserved

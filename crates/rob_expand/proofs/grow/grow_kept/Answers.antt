@@ -3,9 +3,9 @@ use Rattle.rob_syntax.specs.Known.{texts}
 use Rattle.rob_settings.specs.declared.item.Item.{Item}
 use Rattle.rob_expand.specs.Growing.{item_names}
 use Rattle.rob_settings.specs.Spots.{picks}
-use Rattle.rob_expand.proofs.ThinLemmas.{long_some, words_some}
+use Rattle.rob_expand.proofs.Counting.ThinLemmas.{long_some, words_some}
 use Rattle.rob_settings.proofs.SpotLemmas.{place_apart, places_none}
-use Rattle.rob_expand.proofs.WalkLemmas.{words_all, long_all}
+use Rattle.rob_expand.proofs.Walks.WalkLemmas.{words_all, long_all}
 use Rattle.rob_expand.proofs.grow.grow_kept.Goals as goal
 
 pub loop-k-preserved : goal.loop-k-preserved

@@ -6,9 +6,9 @@ use Rattle.rob_syntax.specs.Known.{texts}
 use Rattle.rob_settings.specs.declared.item.Item.{Item}
 use Rattle.rob_expand.specs.Growing.{add_name, item_names, over_at}
 use Rattle.rob_settings.specs.Spots.{picks}
-use Rattle.rob_expand.proofs.WalkLemmas.{words_along, long_along, four_words, four_long}
-use Rattle.rob_expand.proofs.ThinLemmas.{thin_names}
-use Rattle.rob_expand.proofs.NameLemmas.{factor_names_at}
+use Rattle.rob_expand.proofs.Walks.WalkLemmas.{words_along, long_along, four_words, four_long}
+use Rattle.rob_expand.proofs.Counting.ThinLemmas.{thin_names}
+use Rattle.rob_expand.proofs.Expanding.NameLemmas.{factor_names_at}
 use Rattle.rob_expand.proofs.grow.grow_line.Goals as goal
 
 pub returns : goal.returns

@@ -9,7 +9,7 @@ use Rattle.rob_ranges.proofs.SpanLemmas.{every_at}
 use Rattle.rob_settings.specs.declared.spot.Spot.{Spot}
 use Rattle.rob_settings.specs.Spots.{IsThin}
 use Rattle.rob_expand.specs.Growing.{add_name, line_names}
-use Rattle.rob_expand.proofs.WalkLemmas.{words_more, words_all, long_more, long_all}
+use Rattle.rob_expand.proofs.Walks.WalkLemmas.{words_more, words_all, long_more, long_all}
 use Rattle.rob_settings.proofs.SpotLemmas.{thin_along}
 use Rattle.rob_expand.proofs.grow.grow_lines.Goals as goal
 

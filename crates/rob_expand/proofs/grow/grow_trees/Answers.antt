@@ -1,7 +1,7 @@
 use Rattle.rob_algebra.proofs.ListLemmas.{drop_at, drop_past}
 use Rattle.rob_syntax.specs.Known.{texts}
-use Rattle.rob_expand.proofs.NameLemmas.{factor_names_at}
-use Rattle.rob_expand.proofs.WalkLemmas.{words_more, words_all, long_more, long_all}
+use Rattle.rob_expand.proofs.Expanding.NameLemmas.{factor_names_at}
+use Rattle.rob_expand.proofs.Walks.WalkLemmas.{words_more, words_all, long_more, long_all}
 use Rattle.rob_expand.proofs.grow.grow_trees.Goals as goal
 
 pub loop-tree-preserved : goal.loop-tree-preserved

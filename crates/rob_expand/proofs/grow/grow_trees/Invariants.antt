@@ -4,7 +4,7 @@ use Rattle.std.specs.List.{flat_map, list_any}
 use Rattle.rob_index.specs.Rules.{is_long_name}
 use Rattle.rob_syntax.specs.Known.{texts}
 use Rattle.rob_expand.specs.Growing.{add_name}
-use Rattle.rob_expand.proofs.NameLemmas.{factor_names_at}
+use Rattle.rob_expand.proofs.Expanding.NameLemmas.{factor_names_at}
 use Rattle.rob_expand.proofs.grow.grow_trees.Given as goal
 
 abbrev pub invariant-loop-tree : goal.invariant-loop-tree

@@ -2,7 +2,7 @@ use Rattle.std.proofs.Common.{List, refl, subst}
 use Rattle.std.specs.Prelude.{ℤ}
 use Rattle.rob_index.specs.Forms.{value_of}
 use Rattle.rob_expand.specs.Inmost.{IsInmost}
-use Rattle.rob_expand.proofs.InmostLemmas.{inmost_more}
+use Rattle.rob_expand.proofs.Counting.InmostLemmas.{inmost_more}
 use Rattle.rob_settings.proofs.AnswerLemmas.{moved_if}
 use Rattle.rob_expand.proofs.inmost.+inmost.Goals as goal
 

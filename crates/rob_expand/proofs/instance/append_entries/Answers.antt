@@ -4,7 +4,7 @@ use Rattle.rob_algebra.proofs.ListLemmas.{drop_at, drop_past}
 use Rattle.rob_syntax.specs.declared.syntax.Member.{Member}
 use Rattle.rob_syntax.specs.Known.{texts}
 use Rattle.rob_expand.specs.Making.{entry_at}
-use Rattle.rob_expand.proofs.WalkLemmas.{made_more, made_all, map_flat}
+use Rattle.rob_expand.proofs.Walks.WalkLemmas.{made_more, made_all, map_flat}
 use Rattle.rob_expand.proofs.instance.append_entries.Goals as goal
 
 pub loop-setting-preserved : goal.loop-setting-preserved

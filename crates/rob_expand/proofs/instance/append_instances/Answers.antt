@@ -11,7 +11,7 @@ use Rattle.rob_expand.specs.Growing.{printed}
 use Rattle.rob_expand.specs.Instances.{instance}
 use Rattle.rob_settings.specs.Spots.{IsThin}
 use Rattle.rob_settings.proofs.SpotLemmas.{thin_along}
-use Rattle.rob_expand.proofs.WalkLemmas.{made_more, made_all, map_flat}
+use Rattle.rob_expand.proofs.Walks.WalkLemmas.{made_more, made_all, map_flat}
 use Rattle.rob_expand.proofs.instance.append_instances.Goals as goal
 
 pub make_statement-requires : goal.make_statement-requires

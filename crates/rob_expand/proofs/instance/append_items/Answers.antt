@@ -5,8 +5,8 @@ use Rattle.rob_index.specs.Forms.{extensions}
 use Rattle.rob_syntax.specs.Known.{texts}
 use Rattle.rob_syntax.specs.Symbols.{number_of}
 use Rattle.rob_expand.specs.Growing.{named_at}
-use Rattle.rob_expand.proofs.MakeLemmas.{item_made, numbers_made}
-use Rattle.rob_expand.proofs.WalkLemmas.{made_more, made_all}
+use Rattle.rob_expand.proofs.Expanding.MakeLemmas.{item_made, numbers_made}
+use Rattle.rob_expand.proofs.Walks.WalkLemmas.{made_more, made_all}
 use Rattle.rob_expand.proofs.instance.append_items.Goals as goal
 
 pub loop-item-preserved : goal.loop-item-preserved

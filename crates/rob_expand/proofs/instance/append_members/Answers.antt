@@ -11,8 +11,8 @@ use Rattle.rob_syntax.specs.Seen.{seen_ranges, seen_ref}
 use Rattle.rob_settings.specs.declared.item.Named.{Named}
 use Rattle.rob_expand.specs.Making.{entry_at}
 use Rattle.rob_expand.specs.Placing.{placed_name}
-use Rattle.rob_expand.proofs.MakeLemmas.{share_made, members_made}
-use Rattle.rob_expand.proofs.WalkLemmas.{made_more, made_all}
+use Rattle.rob_expand.proofs.Expanding.MakeLemmas.{share_made, members_made}
+use Rattle.rob_expand.proofs.Walks.WalkLemmas.{made_more, made_all}
 use Rattle.rob_expand.proofs.instance.append_members.Goals as goal
 
 pub loop-share-preserved : goal.loop-share-preserved

@@ -1,7 +1,7 @@
 use Rattle.std.proofs.Common.{◌≡◌, ◌++◌, drop}
 use Rattle.std.specs.List.{flat_map}
 use Rattle.rob_syntax.specs.Known.{texts}
-use Rattle.rob_expand.proofs.MakeLemmas.{share_made}
+use Rattle.rob_expand.proofs.Expanding.MakeLemmas.{share_made}
 use Rattle.rob_expand.proofs.instance.append_members.Given as goal
 
 abbrev pub invariant-loop-share : goal.invariant-loop-share

@@ -4,7 +4,7 @@ use Rattle.rob_algebra.proofs.ListLemmas.{map_map, drop_at, drop_past}
 use Rattle.rob_syntax.specs.Known.{texts}
 use Rattle.rob_syntax.specs.Symbols.{number_of}
 use Rattle.rob_expand.specs.Growing.{named_at}
-use Rattle.rob_expand.proofs.WalkLemmas.{made_more, made_all, map_flat}
+use Rattle.rob_expand.proofs.Walks.WalkLemmas.{made_more, made_all, map_flat}
 use Rattle.rob_expand.proofs.instance.append_numbers.Goals as goal
 
 pub loop-setting-preserved : goal.loop-setting-preserved

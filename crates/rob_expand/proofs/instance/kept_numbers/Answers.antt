@@ -1,10 +1,10 @@
 use Rattle.std.proofs.Common.{◌+◌, drop, get_or, refl, ℕ, List, ◌++◌, ap, sym, ◌∙◌}
 use Rattle.rob_syntax.specs.Known.{texts}
 use Rattle.rob_settings.specs.Spots.{picks}
-use Rattle.rob_expand.proofs.MakeLemmas.{item_made, numbers_made}
-use Rattle.rob_expand.proofs.ThinLemmas.{made_some}
+use Rattle.rob_expand.proofs.Expanding.MakeLemmas.{item_made, numbers_made}
+use Rattle.rob_expand.proofs.Counting.ThinLemmas.{made_some}
 use Rattle.rob_settings.proofs.SpotLemmas.{place_apart, places_none}
-use Rattle.rob_expand.proofs.WalkLemmas.{made_all}
+use Rattle.rob_expand.proofs.Walks.WalkLemmas.{made_all}
 use Rattle.rob_expand.proofs.instance.kept_numbers.Goals as goal
 
 pub loop-k-preserved : goal.loop-k-preserved

@@ -2,7 +2,7 @@ use Rattle.std.proofs.Common.{◌≡◌, ◌++◌, drop}
 use Rattle.std.specs.List.{flat_map}
 use Rattle.rob_syntax.specs.Known.{texts}
 use Rattle.rob_settings.specs.Spots.{picks}
-use Rattle.rob_expand.proofs.MakeLemmas.{item_made}
+use Rattle.rob_expand.proofs.Expanding.MakeLemmas.{item_made}
 use Rattle.rob_expand.proofs.instance.kept_numbers.Given as goal
 
 abbrev pub invariant-loop-k : goal.invariant-loop-k

@@ -5,7 +5,7 @@ use Rattle.rob_syntax.specs.Symbols.{number_of}
 use Rattle.rob_settings.specs.declared.item.Item.{Item}
 use Rattle.rob_expand.specs.Making.{numbers_in}
 use Rattle.rob_settings.specs.Spots.{picks}
-use Rattle.rob_expand.proofs.ThinLemmas.{thin_names}
+use Rattle.rob_expand.proofs.Counting.ThinLemmas.{thin_names}
 use Rattle.rob_expand.proofs.instance.make_policy.Goals as goal
 
 pub returns : goal.returns

@@ -4,7 +4,7 @@ use Rattle.rob_syntax.specs.Numbered.{numbered_tree}
 use Rattle.rob_expand.specs.declared.placed.Placed.{Placed as Code}
 use Rattle.rob_expand.specs.Placed.{placed_of}
 use Rattle.rob_expand.specs.Making.{first_at, second_at}
-use Rattle.rob_expand.proofs.MakeLemmas.{rel_same}
+use Rattle.rob_expand.proofs.Expanding.MakeLemmas.{rel_same}
 use Rattle.rob_expand.proofs.instance.make_relation.Goals as goal
 
 pub returns : goal.returns

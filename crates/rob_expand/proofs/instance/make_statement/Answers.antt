@@ -1,7 +1,7 @@
 use Rattle.std.proofs.Common.{◌∙◌}
 use Rattle.rob_syntax.specs.Known.{texts}
 use Rattle.rob_settings.proofs.AnswerLemmas.{moved_if}
-use Rattle.rob_expand.proofs.MakeLemmas.{uncertain_made, over_made, set_condition_made, budget_made, var_made, policy_made, goal_made, row_made}
+use Rattle.rob_expand.proofs.Expanding.MakeLemmas.{uncertain_made, over_made, set_condition_made, budget_made, var_made, policy_made, goal_made, row_made}
 use Rattle.rob_expand.proofs.instance.make_statement.Goals as goal
 
 pub returns-in-Uncertain : goal.returns-in-Uncertain

@@ -1,7 +1,7 @@
 use Rattle.std.proofs.Common.{◌∙◌}
 use Rattle.rob_syntax.specs.Known.{texts}
 use Rattle.rob_settings.proofs.AnswerLemmas.{moved_if}
-use Rattle.rob_expand.proofs.MakeLemmas.{second_some}
+use Rattle.rob_expand.proofs.Expanding.MakeLemmas.{second_some}
 use Rattle.rob_expand.proofs.instance.second_tree.Goals as goal
 
 pub returns-in-len1-up : goal.returns-in-len1-up

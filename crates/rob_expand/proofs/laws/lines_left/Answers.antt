@@ -1,4 +1,4 @@
-use Rattle.rob_expand.proofs.LinesLemmas.{expansion_left}
+use Rattle.rob_expand.proofs.Counting.LinesLemmas.{expansion_left}
 use Rattle.rob_expand.proofs.laws.lines_left.Goals as goal
 
 pub returns : goal.returns

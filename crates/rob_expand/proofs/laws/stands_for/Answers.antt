@@ -1,4 +1,4 @@
-use Rattle.rob_expand.proofs.PlacingLemmas.{placed_is}
+use Rattle.rob_expand.proofs.Values.PlacingLemmas.{placed_is}
 use Rattle.rob_expand.proofs.laws.stands_for.Goals as goal
 
 pub returns : goal.returns

@@ -1,7 +1,7 @@
 use Rattle.std.proofs.Common.{ap, ◌∙◌}
 use Rattle.rob_expand.specs.Lines.{rest_of}
-use Rattle.rob_expand.proofs.CountLemmas.{tree_left_is}
-use Rattle.rob_expand.proofs.LinesLemmas.{rest_is}
+use Rattle.rob_expand.proofs.Counting.CountLemmas.{tree_left_is}
+use Rattle.rob_expand.proofs.Counting.LinesLemmas.{rest_is}
 use Rattle.rob_expand.proofs.laws.tokens_left.Goals as goal
 
 pub returns : goal.returns

@@ -6,7 +6,7 @@ use Rattle.rob_expand.specs.Lines.{line_left}
 use Rattle.rob_settings.specs.Settings.{all_left}
 use Rattle.rob_settings.specs.Spots.{IsThinAt}
 use Rattle.rob_settings.proofs.AppendLemmas.{thin_moved}
-use Rattle.rob_expand.proofs.LineLemmas.{left_behind, left_none, left_only, left_short}
+use Rattle.rob_expand.proofs.Walks.LineLemmas.{left_behind, left_none, left_only, left_short}
 use Rattle.rob_settings.proofs.AnswerLemmas.{refused, moved}
 use Rattle.rob_expand.proofs.line.+spend_lines.Goals as goal
 

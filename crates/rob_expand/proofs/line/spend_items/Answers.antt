@@ -5,7 +5,7 @@ use Rattle.rob_index.specs.Forms.{extensions}
 use Rattle.rob_settings.specs.Room.{left_of}
 use Rattle.rob_expand.specs.Lines.{items_left}
 use Rattle.rob_settings.proofs.AnswerLemmas.{refused}
-use Rattle.rob_expand.proofs.LineLemmas.{items_crowded, items_end}
+use Rattle.rob_expand.proofs.Walks.LineLemmas.{items_crowded, items_end}
 use Rattle.rob_expand.proofs.line.spend_items.Goals as goal
 
 pub returns-in_err-settings : goal.returns-in_err-settings

@@ -4,7 +4,7 @@ use Rattle.rob_algebra.proofs.ListLemmas.{drop_past}
 use Rattle.rob_expand.specs.Lines.{items_left}
 use Rattle.rob_settings.specs.Spots.{picks}
 use Rattle.rob_settings.proofs.AnswerLemmas.{refused}
-use Rattle.rob_expand.proofs.ThinLemmas.{place_more, place_stop, place_end}
+use Rattle.rob_expand.proofs.Counting.ThinLemmas.{place_more, place_stop, place_end}
 use Rattle.rob_expand.proofs.line.spend_kept.Goals as goal
 
 pub loop-k-preserved : goal.loop-k-preserved

@@ -6,8 +6,8 @@ use Rattle.rob_settings.specs.declared.item.Item.{Item}
 use Rattle.rob_expand.specs.Lines.{items_left, line_left, trees_left}
 use Rattle.rob_settings.specs.Spots.{picks}
 use Rattle.rob_settings.proofs.AnswerLemmas.{refused, moved}
-use Rattle.rob_expand.proofs.LineLemmas.{line_baseless, line_treeless, line_behind}
-use Rattle.rob_expand.proofs.ThinLemmas.{thin_left}
+use Rattle.rob_expand.proofs.Walks.LineLemmas.{line_baseless, line_treeless, line_behind}
+use Rattle.rob_expand.proofs.Counting.ThinLemmas.{thin_left}
 use Rattle.rob_expand.proofs.line.spend_line.Goals as goal
 
 pub returns-in_err-left : goal.returns-in_err-left

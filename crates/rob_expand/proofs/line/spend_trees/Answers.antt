@@ -3,7 +3,7 @@ use Rattle.std.proofs.lemmas.Result.{err_from_is_err_and}
 use Rattle.rob_expand.specs.Placed.{placed_of}
 use Rattle.rob_expand.specs.Count.{tree_left}
 use Rattle.rob_settings.proofs.AnswerLemmas.{refused}
-use Rattle.rob_expand.proofs.LineLemmas.{trees_from, trees_more, trees_stop, trees_end}
+use Rattle.rob_expand.proofs.Walks.LineLemmas.{trees_from, trees_more, trees_stop, trees_end}
 use Rattle.rob_expand.proofs.line.spend_trees.Goals as goal
 
 pub loop-tree-preserved : goal.loop-tree-preserved

@@ -1,5 +1,5 @@
 use Rattle.std.proofs.Common.{◌<◌, sym, arith}
-use Rattle.rob_expand.proofs.LineLemmas.{entries_first, entries_later}
+use Rattle.rob_expand.proofs.Walks.LineLemmas.{entries_first, entries_later}
 use Rattle.rob_expand.proofs.line.tokens_of_entries.Goals as goal
 
 pub returns-then-first : goal.returns-then-first

@@ -3,8 +3,8 @@ use Rattle.rob_syntax.specs.declared.syntax.Ranged.{Ranged}
 use Rattle.rob_syntax.specs.declared.syntax.Share.{Share}
 use Rattle.rob_syntax.specs.Seen.{seen_ranged, seen_share}
 use Rattle.rob_expand.specs.Statements.{member_item}
-use Rattle.rob_expand.proofs.PartsLemmas.{parts_are}
-use Rattle.rob_expand.proofs.TreesLemmas.{no_trees}
+use Rattle.rob_expand.proofs.Counting.PartsLemmas.{parts_are}
+use Rattle.rob_expand.proofs.Values.TreesLemmas.{no_trees}
 use Rattle.rob_expand.proofs.lines.budget.Goals as goal
 
 pub returns : goal.returns

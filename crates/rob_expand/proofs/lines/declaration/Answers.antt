@@ -5,8 +5,8 @@ use Rattle.rob_syntax.specs.declared.syntax.Range.{Range}
 use Rattle.rob_syntax.specs.Seen.{seen_ranges, seen_ref}
 use Rattle.rob_settings.specs.declared.item.Named.{Named}
 use Rattle.rob_expand.specs.Placing.{placed_name}
-use Rattle.rob_expand.proofs.PartsLemmas.{parts_are}
-use Rattle.rob_expand.proofs.TreesLemmas.{no_trees}
+use Rattle.rob_expand.proofs.Counting.PartsLemmas.{parts_are}
+use Rattle.rob_expand.proofs.Values.TreesLemmas.{no_trees}
 use Rattle.rob_expand.proofs.lines.declaration.Goals as goal
 
 pub returns : goal.returns

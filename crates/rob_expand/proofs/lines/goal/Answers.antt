@@ -4,8 +4,8 @@ use Rattle.rob_index.specs.Fast.{names_in, nest_of}
 use Rattle.rob_syntax.specs.declared.syntax.Range.{Range}
 use Rattle.rob_syntax.specs.Seen.{seen_over, seen_ranges, seen_tree}
 use Rattle.rob_expand.specs.Placing.{placed_name}
-use Rattle.rob_expand.proofs.PartsLemmas.{parts_are}
-use Rattle.rob_expand.proofs.TreesLemmas.{one_tree, placed_within}
+use Rattle.rob_expand.proofs.Counting.PartsLemmas.{parts_are}
+use Rattle.rob_expand.proofs.Values.TreesLemmas.{one_tree, placed_within}
 use Rattle.rob_expand.proofs.lines.goal.Goals as goal
 
 pub returns : goal.returns

@@ -4,7 +4,7 @@ use Rattle.rob_syntax.specs.declared.syntax.Range.{Range}
 use Rattle.rob_syntax.specs.Seen.{seen_ranged, seen_ranges, seen_ref, seen_share}
 use Rattle.rob_expand.specs.Placing.{placed_name}
 use Rattle.rob_expand.specs.Statements.{member_item}
-use Rattle.rob_expand.proofs.ListLemmas.{listed_more, listed_all}
+use Rattle.rob_expand.proofs.Walks.ListLemmas.{listed_more, listed_all}
 use Rattle.rob_expand.proofs.lines.member_items.Goals as goal
 
 pub loop-member-preserved : goal.loop-member-preserved

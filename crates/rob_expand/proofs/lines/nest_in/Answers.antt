@@ -2,7 +2,7 @@ use Rattle.std.proofs.Common.{ℕ, List, [], ◌∷◌, ◌++◌, ap, ◌∙◌}
 use Rattle.rob_index.specs.Forms.{Ends}
 use Rattle.rob_index.specs.Fast.{ends_of}
 use Rattle.rob_syntax.specs.Seen.{seen_range}
-use Rattle.rob_expand.proofs.ListLemmas.{nest_more, names_more, nest_all, names_all}
+use Rattle.rob_expand.proofs.Walks.ListLemmas.{nest_more, names_more, nest_all, names_all}
 use Rattle.rob_expand.proofs.lines.nest_in.Goals as goal
 
 pub loop-range-preserved : goal.loop-range-preserved

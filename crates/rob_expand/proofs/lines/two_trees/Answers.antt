@@ -1,6 +1,6 @@
 use Rattle.rob_syntax.specs.Seen.{seen_tree}
-use Rattle.rob_expand.proofs.TreesLemmas.{both_trees, placed_within}
-use Rattle.rob_expand.proofs.PlaceLemmas.{placed_as}
+use Rattle.rob_expand.proofs.Values.TreesLemmas.{both_trees, placed_within}
+use Rattle.rob_expand.proofs.Values.PlaceLemmas.{placed_as}
 use Rattle.rob_expand.proofs.lines.two_trees.Goals as goal
 
 pub returns : goal.returns

@@ -10,11 +10,11 @@ use Rattle.rob_expand.specs.declared.placed.Placed.{Placed as Code}
 use Rattle.rob_expand.specs.Growing.{printed_at}
 use Rattle.rob_expand.specs.Making.{summed_of, made_each}
 use Rattle.rob_expand.specs.Placed.{Placed, placed_of}
-use Rattle.rob_expand.proofs.InmostLemmas.{printed_inside}
-use Rattle.rob_expand.proofs.StepLemmas.{over_seen}
-use Rattle.rob_expand.proofs.WalkLemmas.{next_some, next_none, made_more, made_all}
+use Rattle.rob_expand.proofs.Counting.InmostLemmas.{printed_inside}
+use Rattle.rob_expand.proofs.Counting.StepLemmas.{over_seen}
+use Rattle.rob_expand.proofs.Walks.WalkLemmas.{next_some, next_none, made_more, made_all}
 use Rattle.rob_settings.proofs.AnswerLemmas.{moved_if}
-use Rattle.rob_expand.proofs.MakeLemmas.{part_made, parts_made, factor_made, factors_made, value_made, each_made, summed_made}
+use Rattle.rob_expand.proofs.Expanding.MakeLemmas.{part_made, parts_made, factor_made, factors_made, value_made, each_made, summed_made}
 use Rattle.rob_expand.proofs.make.+make.Goals as goal
 
 pub make_parts-loop-part-preserved : goal.make_parts-loop-part-preserved

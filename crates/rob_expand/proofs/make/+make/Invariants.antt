@@ -3,7 +3,7 @@ use Rattle.std.specs.List.{flat_map}
 use Rattle.rob_index.specs.Forms.{values_of}
 use Rattle.rob_syntax.specs.Known.{texts}
 use Rattle.rob_expand.specs.Placed.{placed_of}
-use Rattle.rob_expand.proofs.MakeLemmas.{part_made, factor_made, value_made}
+use Rattle.rob_expand.proofs.Expanding.MakeLemmas.{part_made, factor_made, value_made}
 use Rattle.rob_expand.proofs.make.+make.Given as goal
 
 abbrev pub invariant-make_parts-loop-part : goal.invariant-make_parts-loop-part

@@ -1,7 +1,7 @@
 use Rattle.std.proofs.Common.{List, ap, ◌∙◌, arith}
 use Rattle.rob_syntax.specs.declared.syntax.Summand.{Summand}
 use Rattle.rob_syntax.specs.declared.syntax.Syntax.TheVariants.{Sum}
-use Rattle.rob_expand.proofs.MakeLemmas.{one_left, more_left}
+use Rattle.rob_expand.proofs.Expanding.MakeLemmas.{one_left, more_left}
 use Rattle.rob_expand.proofs.make.summed.Goals as goal
 
 pub returns-then-len-gt1 : goal.returns-then-len-gt1

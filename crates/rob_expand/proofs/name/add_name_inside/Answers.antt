@@ -3,7 +3,7 @@ use Rattle.rob_index.specs.Rules.{is_long_name}
 use Rattle.rob_syntax.specs.Known.{texts}
 use Rattle.rob_syntax.specs.Symbols.{add_word}
 use Rattle.rob_expand.specs.Growing.{named_at}
-use Rattle.rob_expand.proofs.PrintLemmas.{long_left, long_told, short_added, short_told, is_over, is_within}
+use Rattle.rob_expand.proofs.Expanding.PrintLemmas.{long_left, long_told, short_added, short_told, is_over, is_within}
 use Rattle.rob_expand.proofs.name.add_name_inside.Goals as goal
 
 pub returns-then-is_surely_long : goal.returns-then-is_surely_long

@@ -1,6 +1,6 @@
 use Rattle.rob_algebra.proofs.ListLemmas.{drop_at, drop_past}
 use Rattle.rob_expand.specs.Growing.{index_bytes}
-use Rattle.rob_expand.proofs.WalkLemmas.{made_more, made_all}
+use Rattle.rob_expand.proofs.Walks.WalkLemmas.{made_more, made_all}
 use Rattle.rob_expand.proofs.name.append_indices.Goals as goal
 
 pub loop-form-preserved : goal.loop-form-preserved

@@ -1,7 +1,7 @@
 use Rattle.std.proofs.Common.{length}
 use Rattle.std.proofs.lemmas.Bool.{ltb-true}
 use Rattle.rob_syntax.specs.Known.{texts}
-use Rattle.rob_expand.proofs.PrintLemmas.{long_word}
+use Rattle.rob_expand.proofs.Expanding.PrintLemmas.{long_word}
 use Rattle.rob_expand.proofs.name.is_surely_long.Goals as goal
 
 pub returns : goal.returns

@@ -1,7 +1,7 @@
 use Rattle.std.proofs.Common.{ap, ◌∙◌}
 use Rattle.std.specs.List.{flat_map}
 use Rattle.rob_expand.specs.Growing.{index_bytes}
-use Rattle.rob_expand.proofs.WalkLemmas.{join_both}
+use Rattle.rob_expand.proofs.Walks.WalkLemmas.{join_both}
 use Rattle.rob_expand.proofs.name.name_bytes.Goals as goal
 
 pub returns : goal.returns

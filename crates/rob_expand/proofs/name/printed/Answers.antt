@@ -1,6 +1,6 @@
 use Rattle.std.proofs.Common.{ap, sym, ◌∙◌}
 use Rattle.std.specs.Prelude.{ℤ, int_lt}
-use Rattle.rob_expand.proofs.PrintLemmas.{printed_below, printed_over, printed_within}
+use Rattle.rob_expand.proofs.Expanding.PrintLemmas.{printed_below, printed_over, printed_within}
 use Rattle.rob_expand.proofs.name.printed.Goals as goal
 
 pub returns-then-is_negative : goal.returns-then-is_negative

@@ -9,8 +9,8 @@ use Rattle.rob_expand.specs.declared.scope.Binding.{Binding}
 use Rattle.rob_expand.specs.Placed.{part_of}
 use Rattle.rob_expand.specs.Scopes.{IsPart, IsPlaced, outside}
 use Rattle.rob_settings.proofs.AnswerLemmas.{moved_if}
-use Rattle.rob_expand.proofs.PlaceLemmas.{either_way, pairs_none, pairs_more, pairs_all, placed_as, number_placed, ref_placed, sum_placed, product_placed, part_placed, ranged_placed, single_placed, over_is_placed}
-use Rattle.rob_expand.proofs.ScopeLemmas.{outside_is}
+use Rattle.rob_expand.proofs.Values.PlaceLemmas.{either_way, pairs_none, pairs_more, pairs_all, placed_as, number_placed, ref_placed, sum_placed, product_placed, part_placed, ranged_placed, single_placed, over_is_placed}
+use Rattle.rob_expand.proofs.Values.ScopeLemmas.{outside_is}
 use Rattle.rob_expand.proofs.place.+place.Goals as goal
 
 pub place-returns-in-Number-clause-placed : goal.place-returns-in-Number-clause-placed

@@ -2,7 +2,7 @@ use Rattle.rob_index.specs.Forms.{Form}
 use Rattle.rob_syntax.specs.declared.syntax.Index.{Index}
 use Rattle.rob_syntax.specs.Seen.{seen_index}
 use Rattle.rob_expand.specs.Scopes.{IsIndex}
-use Rattle.rob_expand.proofs.PlaceLemmas.{pairs_none, pairs_more, pairs_all}
+use Rattle.rob_expand.proofs.Values.PlaceLemmas.{pairs_none, pairs_more, pairs_all}
 use Rattle.rob_expand.proofs.place.indices_within.Goals as goal
 
 pub loop-index-init : goal.loop-index-init

@@ -2,7 +2,7 @@ use Rattle.rob_index.specs.Forms.{Form}
 use Rattle.rob_syntax.specs.declared.syntax.Index.{Index}
 use Rattle.rob_syntax.specs.Seen.{seen_index}
 use Rattle.rob_expand.specs.Scopes.{IsIndex}
-use Rattle.rob_expand.proofs.PlaceLemmas.{pairs_shown}
+use Rattle.rob_expand.proofs.Values.PlaceLemmas.{pairs_shown}
 use Rattle.rob_expand.proofs.place.name_within.Goals as goal
 
 pub returns-clause-indices : goal.returns-clause-indices

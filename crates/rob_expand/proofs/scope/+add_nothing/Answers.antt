@@ -1,5 +1,5 @@
 use Rattle.std.proofs.Common.{◌<◌, length, arith}
-use Rattle.rob_expand.proofs.ScopeLemmas.{nothing_none, nothing_more}
+use Rattle.rob_expand.proofs.Values.ScopeLemmas.{nothing_none, nothing_more}
 use Rattle.rob_expand.proofs.scope.+add_nothing.Goals as goal
 
 pub returns-in-empty : goal.returns-in-empty

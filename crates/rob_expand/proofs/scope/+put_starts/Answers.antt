@@ -1,6 +1,6 @@
 use Rattle.std.proofs.Common.{sym, ◌∙◌, ◌<◌, length, arith}
 use Rattle.rob_settings.proofs.AnswerLemmas.{moved_on}
-use Rattle.rob_expand.proofs.ScopeLemmas.{none_put, constant_put, starts_put}
+use Rattle.rob_expand.proofs.Values.ScopeLemmas.{none_put, constant_put, starts_put}
 use Rattle.rob_expand.proofs.scope.+put_starts.Goals as goal
 
 pub returns-in-empty : goal.returns-in-empty

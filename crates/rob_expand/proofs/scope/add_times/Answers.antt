@@ -1,4 +1,4 @@
-use Rattle.rob_expand.proofs.ScopeLemmas.{nothing_added, once_each}
+use Rattle.rob_expand.proofs.Values.ScopeLemmas.{nothing_added, once_each}
 use Rattle.rob_expand.proofs.scope.add_times.Goals as goal
 
 pub returns-then-is_seen : goal.returns-then-is_seen

@@ -1,4 +1,4 @@
-use Rattle.rob_expand.proofs.ScopeLemmas.{nothing_is}
+use Rattle.rob_expand.proofs.Values.ScopeLemmas.{nothing_is}
 use Rattle.rob_expand.proofs.scope.is_nothing.Goals as goal
 
 pub returns : goal.returns

@@ -1,4 +1,4 @@
-use Rattle.rob_expand.proofs.ScopeLemmas.{moving_put}
+use Rattle.rob_expand.proofs.Values.ScopeLemmas.{moving_put}
 use Rattle.rob_expand.proofs.scope.put_start.Goals as goal
 
 pub returns-in_ok-put_first : goal.returns-in_ok-put_first

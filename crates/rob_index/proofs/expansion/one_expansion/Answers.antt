@@ -1,4 +1,4 @@
-use Rattle.rob_index.proofs.ExpansionLemmas.{expands_is, is_expanded}
+use Rattle.rob_index.proofs.Expanding.ExpansionLemmas.{expands_is, is_expanded}
 use Rattle.rob_index.proofs.expansion.one_expansion.Goals as goal
 
 pub returns : goal.returns

@@ -1,4 +1,4 @@
-use Rattle.rob_index.proofs.SearchLemmas.{named_first, named_some}
+use Rattle.rob_index.proofs.Faults.SearchLemmas.{named_first, named_some}
 use Rattle.rob_index.proofs.judging.named_of_a_line.Goals as goal
 
 pub returns : goal.returns

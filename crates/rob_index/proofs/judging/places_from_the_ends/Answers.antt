@@ -1,4 +1,4 @@
-use Rattle.rob_index.proofs.FastLemmas.{is_long_is, is_out_is}
+use Rattle.rob_index.proofs.Faults.FastLemmas.{is_long_is, is_out_is}
 use Rattle.rob_index.proofs.judging.places_from_the_ends.Goals as goal
 
 pub returns : goal.returns

@@ -1,4 +1,4 @@
-use Rattle.rob_index.proofs.PlainFaults.{is_statement, plain_faultless}
+use Rattle.rob_index.proofs.LinesRead.PlainFaults.{is_statement, plain_faultless}
 use Rattle.rob_index.proofs.judging.plain_line.Goals as goal
 
 pub returns : goal.returns

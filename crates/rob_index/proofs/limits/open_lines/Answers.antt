@@ -1,6 +1,6 @@
-use Rattle.rob_index.proofs.ExpandedDepths.{expansion_shallow}
-use Rattle.rob_index.proofs.LineOpenLemmas.{line_deepest, line_shallow}
-use Rattle.rob_index.proofs.OpenLemmas.{deepest-bare}
+use Rattle.rob_index.proofs.Tokens.ExpandedDepths.{expansion_shallow}
+use Rattle.rob_index.proofs.Tokens.LineOpenLemmas.{line_deepest, line_shallow}
+use Rattle.rob_index.proofs.Tokens.OpenLemmas.{deepest-bare}
 use Rattle.rob_index.proofs.limits.open_lines.Goals as goal
 
 pub returns : goal.returns

@@ -1,6 +1,6 @@
 use Rattle.std.proofs.Common.{◌≡◌, true}
-use Rattle.rob_index.proofs.LineNames.{statement_refs}
-use Rattle.rob_index.proofs.NamingLemmas.{all_short, names_of_refs}
+use Rattle.rob_index.proofs.Names.LineNames.{statement_refs}
+use Rattle.rob_index.proofs.Names.NamingLemmas.{all_short, names_of_refs}
 use Rattle.rob_index.proofs.naming.names.Goals as goal
 
 pub returns : goal.returns

@@ -1,4 +1,4 @@
-use Rattle.rob_index.proofs.RenamingLemmas.{line_depth-renamed, line_tokens-renamed}
+use Rattle.rob_index.proofs.Names.RenamingLemmas.{line_depth-renamed, line_tokens-renamed}
 use Rattle.rob_index.proofs.naming.renaming.Goals as goal
 
 pub returns : goal.returns

@@ -1,5 +1,5 @@
 use Rattle.rob_index.specs.Reading.{IsOf}
-use Rattle.rob_index.proofs.KeptLemmas.{all_of_lines, total_counted, total_few}
+use Rattle.rob_index.proofs.LinesRead.KeptLemmas.{all_of_lines, total_counted, total_few}
 use Rattle.rob_index.proofs.reading.kept.Goals as goal
 
 pub returns : goal.returns

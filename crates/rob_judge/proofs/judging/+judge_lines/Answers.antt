@@ -4,7 +4,7 @@ use Rattle.rob_ranges.proofs.SpanLemmas.{behind_of, every_at, front_of}
 use Rattle.rob_expand.specs.Judging.{line_found}
 use Rattle.rob_settings.specs.Spots.{IsThinAt}
 use Rattle.rob_settings.proofs.AppendLemmas.{thin_moved}
-use Rattle.rob_expand.proofs.FindingLemmas.{found_first, found_if_only, found_none, found_split}
+use Rattle.rob_expand.proofs.Walks.FindingLemmas.{found_first, found_if_only, found_none, found_split}
 use Rattle.rob_judge.proofs.judging.+judge_lines.Goals as goal
 
 pub judge_line-requires : goal.judge_line-requires

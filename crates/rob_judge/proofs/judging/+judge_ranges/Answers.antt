@@ -1,9 +1,9 @@
 use Rattle.std.proofs.Common.{◌≡◌, ◌<◌, ◌∷◌, length, ap, sym, ◌∙◌, arith}
 use Rattle.rob_index.specs.Forms.{Form, value_of, values_of}
-use Rattle.rob_index.proofs.NestLemmas.{lt_from, lt_not}
+use Rattle.rob_index.proofs.Faults.NestLemmas.{lt_from, lt_not}
 use Rattle.rob_expand.specs.Judging.{worst, length_found, ranges_found}
 use Rattle.rob_settings.proofs.AnswerLemmas.{moved_if}
-use Rattle.rob_expand.proofs.FindingLemmas.{worse_both}
+use Rattle.rob_expand.proofs.Walks.FindingLemmas.{worse_both}
 use Rattle.rob_judge.proofs.JudgeLemmas.{long_first, only_range, first_range}
 use Rattle.rob_judge.proofs.PassingLemmas.{values_are, values_ended, values_more, values_none, values_over}
 use Rattle.rob_settings.proofs.SettingsLemmas.{walk_fewer, walk_some}

@@ -4,11 +4,11 @@ use Rattle.rob_algebra.proofs.ListLemmas.{drop_at, drop_past}
 use Rattle.rob_index.specs.Forms.{values_of}
 use Rattle.rob_expand.specs.Placed.{Placed, over, placed_of}
 use Rattle.rob_expand.specs.Judging.{worst, length_found, range_found, tree_found}
-use Rattle.rob_expand.proofs.InmostLemmas.{found_inside}
-use Rattle.rob_expand.proofs.StepLemmas.{over_placed}
-use Rattle.rob_expand.proofs.WalkLemmas.{next_some, next_none}
+use Rattle.rob_expand.proofs.Counting.InmostLemmas.{found_inside}
+use Rattle.rob_expand.proofs.Counting.StepLemmas.{over_placed}
+use Rattle.rob_expand.proofs.Walks.WalkLemmas.{next_some, next_none}
 use Rattle.rob_settings.proofs.AnswerLemmas.{moved_if}
-use Rattle.rob_expand.proofs.FindingLemmas.{worst_more, worst_all}
+use Rattle.rob_expand.proofs.Walks.FindingLemmas.{worst_more, worst_all}
 use Rattle.rob_judge.proofs.JudgeLemmas.{part_found, factor_found, parts_gathered, factors_gathered, long_first}
 use Rattle.rob_judge.proofs.judging.+judge_tree.Goals as goal
 

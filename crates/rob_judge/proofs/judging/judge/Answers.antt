@@ -5,7 +5,7 @@ use Rattle.rob_index.specs.Rules.{is_long, is_out}
 use Rattle.rob_index.specs.Forms.{Ends}
 use Rattle.rob_syntax.specs.Seen.{seen_statement}
 use Rattle.rob_expand.specs.Judging.{is_too_long, is_out_found, lines_found}
-use Rattle.rob_expand.proofs.FindingLemmas.{long_told, out_told}
+use Rattle.rob_expand.proofs.Walks.FindingLemmas.{long_told, out_told}
 use Rattle.rob_judge.proofs.JudgingLemmas.{statement_found}
 use Rattle.rob_judge.proofs.judging.judge.Goals as goal
 

@@ -1,7 +1,7 @@
 use Rattle.std.proofs.Common.{ap, ◌∙◌}
 use Rattle.rob_algebra.proofs.ListLemmas.{drop_at, drop_past}
 use Rattle.rob_expand.specs.Judging.{indices_found}
-use Rattle.rob_expand.proofs.FindingLemmas.{worst_more, worst_all}
+use Rattle.rob_expand.proofs.Walks.FindingLemmas.{worst_more, worst_all}
 use Rattle.rob_judge.proofs.judging.judge_entries.Goals as goal
 
 pub loop-setting-preserved : goal.loop-setting-preserved

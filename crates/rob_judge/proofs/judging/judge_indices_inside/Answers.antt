@@ -1,7 +1,7 @@
 use Rattle.rob_algebra.proofs.ListLemmas.{drop_at, drop_past}
 use Rattle.rob_index.specs.Forms.{Form}
 use Rattle.rob_expand.specs.Judging.{index_found}
-use Rattle.rob_expand.proofs.FindingLemmas.{worst_more, worst_all}
+use Rattle.rob_expand.proofs.Walks.FindingLemmas.{worst_more, worst_all}
 use Rattle.rob_judge.proofs.judging.judge_indices_inside.Goals as goal
 
 pub loop-index-preserved : goal.loop-index-preserved

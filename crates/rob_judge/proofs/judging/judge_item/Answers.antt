@@ -1,7 +1,7 @@
 use Rattle.std.proofs.Common.{sym, ◌∙◌}
 use Rattle.rob_index.specs.Forms.{extensions}
 use Rattle.rob_expand.specs.Judging.{worst, indices_found, ranges_found}
-use Rattle.rob_expand.proofs.FindingLemmas.{worse_both}
+use Rattle.rob_expand.proofs.Walks.FindingLemmas.{worse_both}
 use Rattle.rob_judge.proofs.JudgeLemmas.{quiet_item, long_first}
 use Rattle.rob_judge.proofs.judging.judge_item.Goals as goal
 

@@ -2,7 +2,7 @@ use Rattle.std.proofs.Common.{◌+◌, drop, sym, ◌∙◌}
 use Rattle.rob_algebra.proofs.ListLemmas.{drop_at, drop_past}
 use Rattle.rob_settings.specs.declared.item.Item.{Item}
 use Rattle.rob_expand.specs.Judging.{item_found}
-use Rattle.rob_expand.proofs.FindingLemmas.{worst_more, worst_all, worst_stop}
+use Rattle.rob_expand.proofs.Walks.FindingLemmas.{worst_more, worst_all, worst_stop}
 use Rattle.rob_judge.proofs.judging.judge_items.Goals as goal
 
 pub loop-item-preserved : goal.loop-item-preserved

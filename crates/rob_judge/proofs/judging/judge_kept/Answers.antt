@@ -4,7 +4,7 @@ use Rattle.rob_expand.specs.Judging.{item_found}
 use Rattle.rob_settings.specs.Spots.{picks}
 use Rattle.rob_settings.proofs.SpotLemmas.{place_apart, places_none}
 use Rattle.rob_judge.proofs.ThinLemmas.{worst_some}
-use Rattle.rob_expand.proofs.FindingLemmas.{worst_all, worst_stop}
+use Rattle.rob_expand.proofs.Walks.FindingLemmas.{worst_all, worst_stop}
 use Rattle.rob_judge.proofs.judging.judge_kept.Goals as goal
 
 pub loop-k-preserved : goal.loop-k-preserved

@@ -2,7 +2,7 @@ use Rattle.std.proofs.Common.{List, ap, ◌∙◌}
 use Rattle.rob_settings.specs.declared.item.Item.{Item}
 use Rattle.rob_expand.specs.Judging.{worst, item_found}
 use Rattle.rob_settings.specs.Spots.{picks}
-use Rattle.rob_expand.proofs.FindingLemmas.{worse_both}
+use Rattle.rob_expand.proofs.Walks.FindingLemmas.{worse_both}
 use Rattle.rob_judge.proofs.JudgeLemmas.{factor_found}
 use Rattle.rob_judge.proofs.ThinLemmas.{thin_found}
 use Rattle.rob_judge.proofs.judging.judge_line.Goals as goal

@@ -2,7 +2,7 @@ use Rattle.std.proofs.Common.{[], true, ap, sym, ◌∙◌}
 use Rattle.rob_index.specs.Forms.{extensions}
 use Rattle.rob_expand.specs.Judging.{worst, line_found, ranges_found}
 use Rattle.rob_settings.proofs.AppendLemmas.{thin_moved}
-use Rattle.rob_expand.proofs.FindingLemmas.{worse_both}
+use Rattle.rob_expand.proofs.Walks.FindingLemmas.{worse_both}
 use Rattle.rob_judge.proofs.JudgeLemmas.{long_first}
 use Rattle.rob_judge.proofs.judging.judge_statement.Goals as goal
 

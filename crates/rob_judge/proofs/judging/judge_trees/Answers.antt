@@ -1,5 +1,5 @@
 use Rattle.rob_algebra.proofs.ListLemmas.{drop_at, drop_past}
-use Rattle.rob_expand.proofs.FindingLemmas.{worst_more, worst_all}
+use Rattle.rob_expand.proofs.Walks.FindingLemmas.{worst_more, worst_all}
 use Rattle.rob_judge.proofs.JudgeLemmas.{factor_found}
 use Rattle.rob_judge.proofs.judging.judge_trees.Goals as goal
 

@@ -1,7 +1,7 @@
 use Rattle.std.proofs.Common.{◌≡◌, sym, ap, ◌∙◌, subst}
 use Rattle.std.specs.Prelude.{ℤ, negsuc, ◌+ℤ◌, ◌*ℤ◌, IfOk}
 use Rattle.rob_index.specs.Forms.{Form, value_of, length_form}
-use Rattle.rob_index.proofs.FormLemmas.{plus_times_is}
+use Rattle.rob_index.proofs.Faults.FormLemmas.{plus_times_is}
 use Rattle.rob_judge.proofs.judging.length_at.Goals as goal
 
 pub returns : goal.returns

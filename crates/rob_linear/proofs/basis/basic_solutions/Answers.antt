@@ -1,5 +1,5 @@
-use Rattle.rob_linear.proofs.Unique.{point_exists, move_exists}
-use Rattle.rob_linear.proofs.Fundamental.{basic_point_exists}
+use Rattle.rob_linear.proofs.Bases.Unique.{point_exists, move_exists}
+use Rattle.rob_linear.proofs.Meaning.Fundamental.{basic_point_exists}
 use Rattle.rob_linear.proofs.basis.basic_solutions.Goals as goal
 
 pub returns : goal.returns

@@ -1,4 +1,4 @@
-use Rattle.rob_linear.proofs.Vectors.{at-past}
+use Rattle.rob_linear.proofs.LinearPrograms.Vectors.{at-past}
 use Rattle.rob_linear.proofs.basis.entries_of_a_list.Goals as goal
 
 pub returns : goal.returns

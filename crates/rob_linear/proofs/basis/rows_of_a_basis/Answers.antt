@@ -1,6 +1,6 @@
-use Rattle.rob_linear.proofs.Unique.{rows_equal, row_unique}
-use Rattle.rob_linear.proofs.Square.{basis_is_back}
-use Rattle.rob_linear.proofs.Solutions.{meets_spanned}
+use Rattle.rob_linear.proofs.Bases.Unique.{rows_equal, row_unique}
+use Rattle.rob_linear.proofs.Bases.Square.{basis_is_back}
+use Rattle.rob_linear.proofs.Bases.Solutions.{meets_spanned}
 use Rattle.rob_linear.proofs.basis.rows_of_a_basis.Goals as goal
 
 pub returns : goal.returns

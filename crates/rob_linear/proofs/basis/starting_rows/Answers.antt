@@ -1,6 +1,6 @@
-use Rattle.rob_linear.proofs.Solutions.{start_is_basis}
-use Rattle.rob_linear.proofs.Starts.{system_tagged, auxiliary_tagged}
-use Rattle.rob_linear.proofs.TwoPhases.{kept_tagged}
+use Rattle.rob_linear.proofs.Bases.Solutions.{start_is_basis}
+use Rattle.rob_linear.proofs.BasisPaths.Starts.{system_tagged, auxiliary_tagged}
+use Rattle.rob_linear.proofs.BasisPaths.TwoPhases.{kept_tagged}
 use Rattle.rob_linear.proofs.basis.starting_rows.Goals as goal
 
 pub returns : goal.returns

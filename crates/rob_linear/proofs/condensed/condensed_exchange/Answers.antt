@@ -1,4 +1,4 @@
-use Rattle.rob_linear.proofs.CondensedRows.{placed_swapped, swapped_entry}
+use Rattle.rob_linear.proofs.RowForms.CondensedRows.{placed_swapped, swapped_entry}
 use Rattle.rob_linear.proofs.condensed.condensed_exchange.Goals as goal
 
 pub returns : goal.returns

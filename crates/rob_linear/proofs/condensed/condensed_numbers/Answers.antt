@@ -1,4 +1,4 @@
-use Rattle.rob_linear.proofs.CondensedNumbers.{entry_times, entry_primitive, entry_within, primitive_without}
+use Rattle.rob_linear.proofs.RowForms.CondensedNumbers.{entry_times, entry_primitive, entry_within, primitive_without}
 use Rattle.rob_linear.proofs.condensed.condensed_numbers.Goals as goal
 
 pub returns : goal.returns

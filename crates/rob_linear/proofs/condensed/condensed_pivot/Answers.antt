@@ -1,4 +1,4 @@
-use Rattle.rob_linear.proofs.CondensedRows.{placed_again, turned_entry, cleared_condensed}
+use Rattle.rob_linear.proofs.RowForms.CondensedRows.{placed_again, turned_entry, cleared_condensed}
 use Rattle.rob_linear.proofs.condensed.condensed_pivot.Goals as goal
 
 pub returns : goal.returns

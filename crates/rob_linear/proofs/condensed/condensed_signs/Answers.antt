@@ -1,4 +1,4 @@
-use Rattle.rob_linear.proofs.CondensedSigns.{condensed_first, condensed_none}
+use Rattle.rob_linear.proofs.RowForms.CondensedSigns.{condensed_first, condensed_none}
 use Rattle.rob_linear.proofs.condensed.condensed_signs.Goals as goal
 
 pub returns : goal.returns

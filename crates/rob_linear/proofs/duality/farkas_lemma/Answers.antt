@@ -1,4 +1,4 @@
-use Rattle.rob_linear.proofs.Fundamental.{farkas_lemma}
+use Rattle.rob_linear.proofs.Meaning.Fundamental.{farkas_lemma}
 use Rattle.rob_linear.proofs.duality.farkas_lemma.Goals as goal
 
 pub returns : goal.returns

@@ -1,4 +1,4 @@
-use Rattle.rob_linear.proofs.Fundamental.{fundamental_theorem}
+use Rattle.rob_linear.proofs.Meaning.Fundamental.{fundamental_theorem}
 use Rattle.rob_linear.proofs.duality.fundamental_theorem.Goals as goal
 
 pub returns : goal.returns

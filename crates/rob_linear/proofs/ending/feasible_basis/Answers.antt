@@ -1,4 +1,4 @@
-use Rattle.rob_linear.proofs.Endings.{point_is_solution}
+use Rattle.rob_linear.proofs.Meaning.Endings.{point_is_solution}
 use Rattle.rob_linear.proofs.ending.feasible_basis.Goals as goal
 
 pub returns : goal.returns

@@ -1,7 +1,7 @@
-use Rattle.rob_linear.proofs.Optimality.{farkas}
-use Rattle.rob_linear.proofs.Truths.{infeasible}
-use Rattle.rob_linear.proofs.Auxiliary.{farkas_primitive}
-use Rattle.rob_linear.proofs.Blocks.{one_block}
+use Rattle.rob_linear.proofs.Meaning.Optimality.{farkas}
+use Rattle.rob_linear.proofs.Meaning.Truths.{infeasible}
+use Rattle.rob_linear.proofs.BasisPaths.Auxiliary.{farkas_primitive}
+use Rattle.rob_linear.proofs.Meaning.Blocks.{one_block}
 use Rattle.rob_linear.proofs.ending.infeasible_ending.Goals as goal
 
 pub returns : goal.returns

@@ -1,5 +1,5 @@
-use Rattle.rob_linear.proofs.Optimality.{optimal_ending, optimal_duals_ℚ}
-use Rattle.rob_linear.proofs.Truths.{optimal, optimal_duals}
+use Rattle.rob_linear.proofs.Meaning.Optimality.{optimal_ending, optimal_duals_ℚ}
+use Rattle.rob_linear.proofs.Meaning.Truths.{optimal, optimal_duals}
 use Rattle.rob_linear.proofs.ending.optimal_ending.Goals as goal
 
 pub returns : goal.returns

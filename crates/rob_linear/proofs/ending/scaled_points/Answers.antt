@@ -1,4 +1,4 @@
-use Rattle.rob_linear.proofs.Scaling.{cleared, feasible_scaled, scaled_feasible}
+use Rattle.rob_linear.proofs.LinearPrograms.Scaling.{cleared, feasible_scaled, scaled_feasible}
 use Rattle.rob_linear.proofs.ending.scaled_points.Goals as goal
 
 pub returns : goal.returns

@@ -1,5 +1,5 @@
-use Rattle.rob_linear.proofs.Optimality.{unbounded_ending}
-use Rattle.rob_linear.proofs.Truths.{unbounded_parts}
+use Rattle.rob_linear.proofs.Meaning.Optimality.{unbounded_ending}
+use Rattle.rob_linear.proofs.Meaning.Truths.{unbounded_parts}
 use Rattle.rob_linear.proofs.ending.unbounded_ending.Goals as goal
 
 pub returns : goal.returns

@@ -1,5 +1,5 @@
-use Rattle.rob_linear.proofs.BesideLoops.{beside_needs, beside_parallel}
-use Rattle.rob_linear.proofs.BesideBack.{begun_stands, begun_exact, begun_wide, begun_cost_wide}
+use Rattle.rob_linear.proofs.KeptOut.BesideLoops.{beside_needs, beside_parallel}
+use Rattle.rob_linear.proofs.KeptOut.BesideBack.{begun_stands, begun_exact, begun_wide, begun_cost_wide}
 use Rattle.rob_linear.proofs.first_phase.back_from_beside.Goals as goal
 
 pub returns : goal.returns

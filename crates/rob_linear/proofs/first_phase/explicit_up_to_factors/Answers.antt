@@ -1,4 +1,4 @@
-use Rattle.rob_linear.proofs.MultiplePhases.{kept_multiple, change_multiple, ends_multiple, weights_multiple}
+use Rattle.rob_linear.proofs.RowForms.MultiplePhases.{kept_multiple, change_multiple, ends_multiple, weights_multiple}
 use Rattle.rob_linear.proofs.first_phase.explicit_up_to_factors.Goals as goal
 
 pub returns : goal.returns

@@ -1,4 +1,4 @@
-use Rattle.rob_linear.proofs.BesideLoops.{beside_within, beside_rank}
+use Rattle.rob_linear.proofs.KeptOut.BesideLoops.{beside_within, beside_rank}
 use Rattle.rob_linear.proofs.first_phase.measure_beside.Goals as goal
 
 pub returns : goal.returns

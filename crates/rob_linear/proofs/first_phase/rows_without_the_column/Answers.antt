@@ -1,4 +1,4 @@
-use Rattle.rob_linear.proofs.WithoutColumn.{slacks_without, enters_without, leaves_without, cleared_without, parallel_without}
+use Rattle.rob_linear.proofs.KeptOut.WithoutColumn.{slacks_without, enters_without, leaves_without, cleared_without, parallel_without}
 use Rattle.rob_linear.proofs.first_phase.rows_without_the_column.Goals as goal
 
 pub returns : goal.returns

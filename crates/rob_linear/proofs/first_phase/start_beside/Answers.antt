@@ -1,4 +1,4 @@
-use Rattle.rob_linear.proofs.BesideLoops.{beside_starts, slacks_start, start_stands}
+use Rattle.rob_linear.proofs.KeptOut.BesideLoops.{beside_starts, slacks_start, start_stands}
 use Rattle.rob_linear.proofs.first_phase.start_beside.Goals as goal
 
 pub returns : goal.returns

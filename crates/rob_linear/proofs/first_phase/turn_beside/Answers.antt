@@ -1,6 +1,6 @@
-use Rattle.rob_linear.proofs.BesideTurns.{least_is_other}
-use Rattle.rob_linear.proofs.BesidePaths.{beside_turn, beside_leaves, beside_leaves_exact, exchanged_q}
-use Rattle.rob_linear.proofs.BesideChoices.{enters_beside_or_none, beside_pivot_exists, least_or_none}
+use Rattle.rob_linear.proofs.KeptOut.BesideTurns.{least_is_other}
+use Rattle.rob_linear.proofs.KeptOut.BesidePaths.{beside_turn, beside_leaves, beside_leaves_exact, exchanged_q}
+use Rattle.rob_linear.proofs.KeptOut.BesideChoices.{enters_beside_or_none, beside_pivot_exists, least_or_none}
 use Rattle.rob_linear.specs.Programs.{auxiliary_of}
 use Rattle.rob_linear.specs.Paths.{auxiliary_column}
 use Rattle.std.proofs.Common.{ap, inl, inr}

@@ -1,4 +1,4 @@
-use Rattle.rob_linear.proofs.BesideColumns.{holds_start, holds_stands, holds_turn, holds_leaves, multiples_same}
+use Rattle.rob_linear.proofs.KeptOut.BesideColumns.{holds_start, holds_stands, holds_turn, holds_leaves, multiples_same}
 use Rattle.rob_linear.proofs.first_phase.turn_by_columns.Goals as goal
 
 pub returns : goal.returns

@@ -1,4 +1,4 @@
-use Rattle.rob_linear.proofs.MultipleNumbers.{point_parallel, move_parallel, scaled_parallel, rank_parallel}
+use Rattle.rob_linear.proofs.RowForms.MultipleNumbers.{point_parallel, move_parallel, scaled_parallel, rank_parallel}
 use Rattle.rob_linear.proofs.multiple.numbers_up_to_factors.Goals as goal
 
 pub returns : goal.returns

@@ -1,4 +1,4 @@
-use Rattle.rob_linear.proofs.MultiplePaths.{path_turn, path_turn_from, multiple_optimum, multiple_ray, optimum_last_from, ray_last_from}
+use Rattle.rob_linear.proofs.RowForms.MultiplePaths.{path_turn, path_turn_from, multiple_optimum, multiple_ray, optimum_last_from, ray_last_from}
 use Rattle.rob_linear.proofs.multiple.paths_up_to_factors.Goals as goal
 
 pub returns : goal.returns

@@ -1,5 +1,5 @@
-use Rattle.rob_linear.proofs.Solutions.{tags_in}
-use Rattle.rob_linear.proofs.Multiples.{multiple_rows_exist, rows_parallel, multiples_basis, multiple_parallel}
+use Rattle.rob_linear.proofs.Bases.Solutions.{tags_in}
+use Rattle.rob_linear.proofs.RowForms.Multiples.{multiple_rows_exist, rows_parallel, multiples_basis, multiple_parallel}
 use Rattle.rob_linear.proofs.multiple.rows_up_to_factors.Goals as goal
 
 pub returns : goal.returns

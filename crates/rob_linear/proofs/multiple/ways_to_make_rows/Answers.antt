@@ -1,4 +1,4 @@
-use Rattle.rob_linear.proofs.Multiples.{combined_clears, factors_clear, zero_clears, divided_parallel}
+use Rattle.rob_linear.proofs.RowForms.Multiples.{combined_clears, factors_clear, zero_clears, divided_parallel}
 use Rattle.rob_linear.proofs.multiple.ways_to_make_rows.Goals as goal
 
 pub returns : goal.returns

@@ -1,4 +1,4 @@
-use Rattle.rob_linear.proofs.Multiples.{wide_multiple, multiple_wide, pivot_wide}
+use Rattle.rob_linear.proofs.RowForms.Multiples.{wide_multiple, multiple_wide, pivot_wide}
 use Rattle.rob_linear.proofs.multiple.width_up_to_factors.Goals as goal
 
 pub returns : goal.returns

@@ -1,5 +1,5 @@
-use Rattle.rob_linear.proofs.Paths.{path_stands, path_rises, no_return, turns_bounded, path_unique, end_unique}
-use Rattle.rob_linear.proofs.Starts.{system_tagged}
+use Rattle.rob_linear.proofs.BasisPaths.Paths.{path_stands, path_rises, no_return, turns_bounded, path_unique, end_unique}
+use Rattle.rob_linear.proofs.BasisPaths.Starts.{system_tagged}
 use Rattle.rob_linear.specs.Programs.{system_of}
 use Rattle.rob_linear.proofs.path.path_from_a_basis.Goals as goal
 

@@ -1,5 +1,5 @@
-use Rattle.rob_linear.proofs.ProgramPaths.{turned_unique, turned_bounded, last_unique}
-use Rattle.rob_linear.proofs.LastBases.{last_exists}
+use Rattle.rob_linear.proofs.BasisPaths.ProgramPaths.{turned_unique, turned_bounded, last_unique}
+use Rattle.rob_linear.proofs.BasisPaths.LastBases.{last_exists}
 use Rattle.rob_linear.proofs.path.path_of_a_program.Goals as goal
 
 pub returns : goal.returns

@@ -1,5 +1,5 @@
-use Rattle.rob_linear.proofs.LastBases.{never_at_zero, auxiliary_bounded}
-use Rattle.rob_linear.proofs.ProgramPaths.{step_stays_out}
+use Rattle.rob_linear.proofs.BasisPaths.LastBases.{never_at_zero, auxiliary_bounded}
+use Rattle.rob_linear.proofs.BasisPaths.ProgramPaths.{step_stays_out}
 use Rattle.rob_linear.proofs.phase.auxiliary_column_leaves.Goals as goal
 
 pub returns : goal.returns

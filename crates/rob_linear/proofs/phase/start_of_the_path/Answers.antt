@@ -1,5 +1,5 @@
-use Rattle.rob_linear.proofs.LastBases.{start_exists}
-use Rattle.rob_linear.proofs.TwoPhases.{slacks_stand, first_start, kept_start}
+use Rattle.rob_linear.proofs.BasisPaths.LastBases.{start_exists}
+use Rattle.rob_linear.proofs.BasisPaths.TwoPhases.{slacks_stand, first_start, kept_start}
 use Rattle.rob_linear.proofs.phase.start_of_the_path.Goals as goal
 
 pub returns : goal.returns

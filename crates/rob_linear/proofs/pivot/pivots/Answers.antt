@@ -1,6 +1,6 @@
-use Rattle.rob_linear.proofs.Pivots.{pivot_is_basis}
-use Rattle.rob_linear.proofs.Primitive.{pivot_exists}
-use Rattle.rob_linear.proofs.Solutions.{tags_in}
+use Rattle.rob_linear.proofs.Bases.Pivots.{pivot_is_basis}
+use Rattle.rob_linear.proofs.Bases.Primitive.{pivot_exists}
+use Rattle.rob_linear.proofs.Bases.Solutions.{tags_in}
 use Rattle.rob_linear.proofs.pivot.pivots.Goals as goal
 
 pub returns : goal.returns

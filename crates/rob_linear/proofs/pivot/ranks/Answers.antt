@@ -1,4 +1,4 @@
-use Rattle.rob_linear.proofs.Measure.{rank_rises, rank_below}
+use Rattle.rob_linear.proofs.BasisPaths.Measure.{rank_rises, rank_below}
 use Rattle.rob_linear.proofs.pivot.ranks.Goals as goal
 
 pub returns : goal.returns

@@ -1,6 +1,6 @@
-use Rattle.rob_linear.proofs.Lexical.{turn_keeps_order, turn_rises}
-use Rattle.rob_linear.proofs.Turns.{rows_turn, turn_unique}
-use Rattle.rob_linear.proofs.Solutions.{tags_in}
+use Rattle.rob_linear.proofs.Bases.Lexical.{turn_keeps_order, turn_rises}
+use Rattle.rob_linear.proofs.Bases.Turns.{rows_turn, turn_unique}
+use Rattle.rob_linear.proofs.Bases.Solutions.{tags_in}
 use Rattle.rob_linear.proofs.pivot.turns.Goals as goal
 
 pub returns : goal.returns

@@ -1,4 +1,4 @@
-use Rattle.rob_linear.proofs.Stages.{new_cost_stands}
+use Rattle.rob_linear.proofs.CostChange.Stages.{new_cost_stands}
 use Rattle.rob_linear.proofs.stage.new_cost.Goals as goal
 
 pub returns : goal.returns

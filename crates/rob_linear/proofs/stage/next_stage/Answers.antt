@@ -1,4 +1,4 @@
-use Rattle.rob_linear.proofs.Stages.{half_is_next, half_cleared}
+use Rattle.rob_linear.proofs.CostChange.Stages.{half_is_next, half_cleared}
 use Rattle.rob_linear.proofs.stage.next_stage.Goals as goal
 
 pub returns : goal.returns

@@ -1,5 +1,5 @@
-use Rattle.rob_linear.proofs.OtherCosts.{reached_on}
-use Rattle.rob_linear.proofs.WideRows.{wide_from}
+use Rattle.rob_linear.proofs.CostChange.OtherCosts.{reached_on}
+use Rattle.rob_linear.proofs.CostChange.WideRows.{wide_from}
 use Rattle.rob_linear.proofs.stage.other_costs.Goals as goal
 
 pub returns : goal.returns

@@ -1,4 +1,4 @@
-use Rattle.rob_linear.proofs.Stages.{first_stage, last_stage, stage_unique, half_stage_unique}
+use Rattle.rob_linear.proofs.CostChange.Stages.{first_stage, last_stage, stage_unique, half_stage_unique}
 use Rattle.rob_linear.proofs.stage.stages.Goals as goal
 
 pub returns : goal.returns

@@ -1,4 +1,4 @@
-use Rattle.rob_linear.proofs.WideRows.{wide_in_rows, rows_wide_in, rows_at_hand, first_at_hand, second_at_hand}
+use Rattle.rob_linear.proofs.CostChange.WideRows.{wide_in_rows, rows_wide_in, rows_at_hand, first_at_hand, second_at_hand}
 use Rattle.rob_linear.proofs.stage.wide_rows.Goals as goal
 
 pub returns : goal.returns

@@ -1,6 +1,6 @@
-use Rattle.rob_meaning.proofs.ConeLemmas.{taken_meets}
-use Rattle.rob_meaning.proofs.CoverLemmas.{covered_at}
-use Rattle.rob_meaning.proofs.ProvesLemmas.{certificate_true, items_tight}
+use Rattle.rob_meaning.proofs.Conditions.ConeLemmas.{taken_meets}
+use Rattle.rob_meaning.proofs.Proving.CoverLemmas.{covered_at}
+use Rattle.rob_meaning.proofs.Proving.ProvesLemmas.{certificate_true, items_tight}
 use Rattle.rob_meaning.proofs.certificates.certificate_laws.Goals as goal
 
 pub returns : goal.returns

@@ -1,4 +1,4 @@
-use Rattle.rob_meaning.proofs.AtLemmas.{form_law, keeps_law, joint_bound_law, bound_law}
+use Rattle.rob_meaning.proofs.Tables.AtLemmas.{form_law, keeps_law, joint_bound_law, bound_law}
 use Rattle.rob_meaning.proofs.forms.form_laws.Goals as goal
 
 pub returns : goal.returns

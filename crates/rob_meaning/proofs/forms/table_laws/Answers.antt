@@ -1,7 +1,7 @@
-use Rattle.rob_meaning.proofs.EntryLemmas.{entry_constant, entry_parameter, entry_column, entry_both}
-use Rattle.rob_meaning.proofs.LeastLemmas.{whole_by_denominator, denominator_least}
-use Rattle.rob_meaning.proofs.MatrixLemmas.{sum_at-table}
-use Rattle.rob_meaning.proofs.TableLemmas.{value-table}
+use Rattle.rob_meaning.proofs.Tables.EntryLemmas.{entry_constant, entry_parameter, entry_column, entry_both}
+use Rattle.rob_meaning.proofs.Lists.LeastLemmas.{whole_by_denominator, denominator_least}
+use Rattle.rob_meaning.proofs.Tables.MatrixLemmas.{sum_at-table}
+use Rattle.rob_meaning.proofs.Tables.TableLemmas.{value-table}
 use Rattle.rob_meaning.proofs.forms.table_laws.Goals as goal
 
 pub returns : goal.returns

@@ -1,6 +1,6 @@
-use Rattle.rob_meaning.proofs.DeclaredLemmas.{parameters_distinct}
-use Rattle.rob_meaning.proofs.NamedFormLemmas.{distinct_columns, distinct_forms}
-use Rattle.rob_meaning.proofs.NamedSetLemmas.{distinct_set_conditions, distinct_set_rows, distinct_set_columns}
+use Rattle.rob_meaning.proofs.Naming.DeclaredLemmas.{parameters_distinct}
+use Rattle.rob_meaning.proofs.Naming.NamedFormLemmas.{distinct_columns, distinct_forms}
+use Rattle.rob_meaning.proofs.Naming.NamedSetLemmas.{distinct_set_conditions, distinct_set_rows, distinct_set_columns}
 use Rattle.rob_meaning.proofs.names.distinct_laws.Goals as goal
 
 pub returns : goal.returns

@@ -1,4 +1,4 @@
-use Rattle.rob_meaning.proofs.NameLemmas as names
+use Rattle.rob_meaning.proofs.Naming.NameLemmas as names
 use Rattle.rob_meaning.proofs.names.name_laws.Goals as goal
 
 pub returns : goal.returns

@@ -1,5 +1,5 @@
-use Rattle.rob_meaning.proofs.AdmittedLemmas.{one_set_law}
-use Rattle.rob_meaning.proofs.OneSetLemmas.{alone_bound_law, joint_alone_law, well_formed_law}
+use Rattle.rob_meaning.proofs.Conditions.AdmittedLemmas.{one_set_law}
+use Rattle.rob_meaning.proofs.Scenarios.OneSetLemmas.{alone_bound_law, joint_alone_law, well_formed_law}
 use Rattle.rob_meaning.proofs.status.alone_laws.Goals as goal
 
 pub returns : goal.returns

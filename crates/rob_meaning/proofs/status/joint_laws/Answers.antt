@@ -1,4 +1,4 @@
-use Rattle.rob_meaning.proofs.JointBoundLemmas.{bounds_agree, infeasible_agree, optimal_agree, some_jointly, unbounded_agree}
+use Rattle.rob_meaning.proofs.Scenarios.JointBoundLemmas.{bounds_agree, infeasible_agree, optimal_agree, some_jointly, unbounded_agree}
 use Rattle.rob_meaning.proofs.status.joint_laws.Goals as goal
 
 pub returns : goal.returns

@@ -1,4 +1,4 @@
-use Rattle.rob_meaning.proofs.StatusLemmas.{one_optimum, optimal_not_infeasible, optimal_not_unbounded, infeasible_not_unbounded}
+use Rattle.rob_meaning.proofs.Proving.StatusLemmas.{one_optimum, optimal_not_infeasible, optimal_not_unbounded, infeasible_not_unbounded}
 use Rattle.rob_meaning.proofs.status.status_laws.Goals as goal
 
 pub returns : goal.returns

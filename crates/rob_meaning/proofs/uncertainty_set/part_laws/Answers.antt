@@ -1,4 +1,4 @@
-use Rattle.rob_meaning.proofs.AdmittedLemmas.{admits_jointly, jointly_admits, some_admitted_law}
+use Rattle.rob_meaning.proofs.Conditions.AdmittedLemmas.{admits_jointly, jointly_admits, some_admitted_law}
 use Rattle.rob_meaning.proofs.uncertainty_set.part_laws.Goals as goal
 use Rattle.rob_meaning.specs.UncertaintySet.{part_of}
 

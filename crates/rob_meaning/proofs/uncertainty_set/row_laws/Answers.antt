@@ -1,4 +1,4 @@
-use Rattle.rob_meaning.proofs.OwnRowLemmas.{length-row_sets, own_number, set_of_joint, sets_in}
+use Rattle.rob_meaning.proofs.Conditions.OwnRowLemmas.{length-row_sets, own_number, set_of_joint, sets_in}
 use Rattle.rob_meaning.proofs.uncertainty_set.row_laws.Goals as goal
 
 pub returns : goal.returns

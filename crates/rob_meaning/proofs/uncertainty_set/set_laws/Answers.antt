@@ -1,8 +1,8 @@
-use Rattle.rob_meaning.proofs.AdmittedLemmas.{admission_law}
-use Rattle.rob_meaning.proofs.ConeLemmas.{along_ray, taken_law}
-use Rattle.rob_meaning.proofs.EmptyInLemmas.{shows_empty_in}
-use Rattle.rob_meaning.proofs.EmptyLemmas.{shows_empty}
-use Rattle.rob_meaning.proofs.WholeRowLemmas.{lifted_law}
+use Rattle.rob_meaning.proofs.Conditions.AdmittedLemmas.{admission_law}
+use Rattle.rob_meaning.proofs.Conditions.ConeLemmas.{along_ray, taken_law}
+use Rattle.rob_meaning.proofs.Conditions.EmptyInLemmas.{shows_empty_in}
+use Rattle.rob_meaning.proofs.Conditions.EmptyLemmas.{shows_empty}
+use Rattle.rob_meaning.proofs.Conditions.WholeRowLemmas.{lifted_law}
 use Rattle.rob_meaning.proofs.uncertainty_set.set_laws.Goals as goal
 
 pub returns : goal.returns

@@ -2,7 +2,7 @@ use Rattle.std.proofs.Common.{arith, ap, get_or, refl, rules, [], ◌++◌, ◌�
 use Rattle.std.specs.Prelude.{pos}
 use Rattle.std.proofs.lemmas.Int.{to_z-of_z}
 use Rattle.rob_cert.specs.Spelling.{name_at}
-use Rattle.rob_meaning.proofs.NameLemmas.{length-set_row_names}
+use Rattle.rob_meaning.proofs.Naming.NameLemmas.{length-set_row_names}
 use Rattle.rob_meaning.specs.Names.{set_row_names}
 use Rattle.rob_model.specs.View.{robust}
 use Rattle.rob_report.proofs.PairLemmas.{pairs_more}

@@ -1,6 +1,6 @@
 use Rattle.std.proofs.Common.{[], ◌∷◌, ◌++◌, ap, refl, take, ◌∙◌}
 use Rattle.std.specs.Prelude.{codes}
-use Rattle.rob_cert.proofs.NameListLemmas.{named_more}
+use Rattle.rob_cert.proofs.Words.NameListLemmas.{named_more}
 use Rattle.rob_meaning.specs.Names.{column_names}
 use Rattle.rob_model.specs.View.{robust}
 use Rattle.rob_report.proofs.labels.form_columns.Goals as goal

@@ -1,5 +1,5 @@
 use Rattle.std.proofs.Common.{arith}
-use Rattle.rob_meaning.proofs.NameLemmas.{length-set_column_names}
+use Rattle.rob_meaning.proofs.Naming.NameLemmas.{length-set_column_names}
 use Rattle.rob_model.specs.View.{robust}
 use Rattle.rob_report.proofs.labels.set_columns.Goals as goal
 

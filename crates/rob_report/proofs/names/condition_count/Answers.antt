@@ -1,6 +1,6 @@
 use Rattle.std.proofs.Common.{◌≡◌, arith, ap, sym, ◌∙◌, map, length}
 use Rattle.std.proofs.lemmas.List.{length-map}
-use Rattle.rob_meaning.proofs.NameLemmas.{length-set_condition_names}
+use Rattle.rob_meaning.proofs.Naming.NameLemmas.{length-set_condition_names}
 use Rattle.rob_meaning.specs.SetConditions.{bounds_from}
 use Rattle.rob_model.specs.GroupNames.{parameter_bound_names}
 use Rattle.rob_model.specs.View.{parameter_of, robust, set_line_of}

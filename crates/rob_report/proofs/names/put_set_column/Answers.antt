@@ -1,6 +1,6 @@
 use Rattle.std.proofs.Common.{◌+◌, ◌++◌, arith, ap, ◌∙◌}
-use Rattle.rob_cert.proofs.WriterLemmas.{on_ok}
-use Rattle.rob_meaning.proofs.NameLemmas.{length-set_column_names}
+use Rattle.rob_cert.proofs.Writing.WriterLemmas.{on_ok}
+use Rattle.rob_meaning.proofs.Naming.NameLemmas.{length-set_column_names}
 use Rattle.rob_meaning.specs.Names.{set_column_names, set_condition_names}
 use Rattle.rob_model.specs.Naming.{set_place_names}
 use Rattle.rob_model.specs.View.{robust}

@@ -1,6 +1,6 @@
 use Rattle.std.proofs.Common.{arith}
-use Rattle.rob_cert.proofs.WriterLemmas.{on_ok}
-use Rattle.rob_meaning.proofs.NameLemmas.{length-set_row_names}
+use Rattle.rob_cert.proofs.Writing.WriterLemmas.{on_ok}
+use Rattle.rob_meaning.proofs.Naming.NameLemmas.{length-set_row_names}
 use Rattle.rob_meaning.specs.Names.{set_row_names}
 use Rattle.rob_model.specs.View.{robust}
 use Rattle.rob_report.proofs.NameLemmas.{named_at}

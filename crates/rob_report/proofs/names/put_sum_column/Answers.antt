@@ -1,7 +1,7 @@
 use Rattle.std.proofs.Common.{◌++◌, [], ◌∷◌, arith, ap, sym, ◌∙◌}
 use Rattle.std.specs.Prelude.{codes}
-use Rattle.rob_cert.proofs.WriterLemmas.{on_ok}
-use Rattle.rob_meaning.proofs.NameLemmas.{length-column_names}
+use Rattle.rob_cert.proofs.Writing.WriterLemmas.{on_ok}
+use Rattle.rob_meaning.proofs.Naming.NameLemmas.{length-column_names}
 use Rattle.rob_meaning.specs.Names.{column_names}
 use Rattle.rob_model.specs.View.{robust}
 use Rattle.rob_report.proofs.NameLemmas.{at_back}

@@ -1,6 +1,6 @@
 use Rattle.std.proofs.Common.{arith, map, sym}
 use Rattle.std.proofs.lemmas.Option.{get_or_from_slice_get, slice_get-get_or}
-use Rattle.rob_cert.proofs.WriterLemmas.{text_more}
+use Rattle.rob_cert.proofs.Writing.WriterLemmas.{text_more}
 use Rattle.rob_model.proofs.SmallLemmas.{at_map}
 use Rattle.rob_model.specs.View.{parameter_of}
 use Rattle.rob_report.proofs.ReportLemmas.{coefficient_here, coefficients_text-cons}

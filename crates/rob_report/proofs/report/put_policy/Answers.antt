@@ -1,5 +1,5 @@
 use Rattle.std.proofs.Common.{arith, map}
-use Rattle.rob_cert.proofs.WriterLemmas.{on_ok}
+use Rattle.rob_cert.proofs.Writing.WriterLemmas.{on_ok}
 use Rattle.rob_model.proofs.SmallLemmas.{at_map}
 use Rattle.rob_model.specs.View.{adaptive_of, parameter_of}
 use Rattle.rob_report.proofs.ReportLemmas.{policy_written}

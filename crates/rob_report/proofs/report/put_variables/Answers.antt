@@ -1,5 +1,5 @@
 use Rattle.std.proofs.Common.{arith, map}
-use Rattle.rob_cert.proofs.WriterLemmas.{text_more}
+use Rattle.rob_cert.proofs.Writing.WriterLemmas.{text_more}
 use Rattle.rob_model.proofs.SmallLemmas.{at_map}
 use Rattle.rob_report.proofs.ReportLemmas.{variable_line, variables_from, variables_from-cons}
 use Rattle.rob_report.proofs.report.put_variables.Goals as goal

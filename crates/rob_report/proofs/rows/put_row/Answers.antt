@@ -1,7 +1,7 @@
 use Rattle.std.proofs.Common.{[], ◌++◌, ap, length, sym, ◌∙◌, rules, SFits, w64}
 use Rattle.std.proofs.lemmas.Int.{to_z-of_z}
 use Rattle.std.specs.Prelude.{codes}
-use Rattle.rob_cert.proofs.WriterLemmas.{on_ok}
+use Rattle.rob_cert.proofs.Writing.WriterLemmas.{on_ok}
 use Rattle.rob_cert.specs.Spelling.{name_at}
 use Rattle.rob_meaning.specs.Names.{set_row_names}
 use Rattle.rob_model.specs.View.{robust}

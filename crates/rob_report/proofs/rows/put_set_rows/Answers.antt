@@ -1,6 +1,6 @@
 use Rattle.std.proofs.Common.{[], ◌++◌, arith, ap, refl, ◌∙◌}
 use Rattle.rob_cert.specs.Spelling.{name_at}
-use Rattle.rob_meaning.proofs.NameLemmas.{length-set_row_names}
+use Rattle.rob_meaning.proofs.Naming.NameLemmas.{length-set_row_names}
 use Rattle.rob_meaning.specs.Names.{set_column_names, set_row_names}
 use Rattle.rob_model.specs.View.{robust}
 use Rattle.rob_report.proofs.PairLemmas.{pairs_more}

@@ -1,6 +1,6 @@
 use Rattle.std.proofs.Common.{◌++◌, ap, sym, ◌∙◌}
 use Rattle.std.specs.Prelude.{codes}
-use Rattle.rob_cert.proofs.WriterLemmas.{behind, on_ok}
+use Rattle.rob_cert.proofs.Writing.WriterLemmas.{behind, on_ok}
 use Rattle.rob_model.specs.View.{robust}
 use Rattle.rob_report.specs.Spots.{spot_words, where_words}
 use Rattle.rob_report.proofs.spots.put_spot.Goals as goal

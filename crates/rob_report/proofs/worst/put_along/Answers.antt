@@ -1,5 +1,5 @@
 use Rattle.std.proofs.Common.{List, map, ap, ◌∙◌, ◌++◌}
-use Rattle.rob_cert.proofs.WriterLemmas.{on_ok}
+use Rattle.rob_cert.proofs.Writing.WriterLemmas.{on_ok}
 use Rattle.rob_model.specs.View.{parameter_of, robust}
 use Rattle.rob_model.specs.declared.model.Param.{Param}
 use Rattle.rob_report.specs.Spots.{form_name}

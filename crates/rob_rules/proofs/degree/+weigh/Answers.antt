@@ -1,8 +1,8 @@
 use Rattle.std.proofs.Common.{ap, ◌∙◌, map}
 use Rattle.rob_rules.specs.declared.degree.Weight.{Weight}
 use Rattle.rob_syntax.specs.Trees.{tree_of, part_of, summands_of, operands_of}
-use Rattle.rob_rules.proofs.WeightLemmas.{sum_from, sum_whole, product_whole}
-use Rattle.rob_rules.proofs.WalkLemmas.{sum_step, sum_end, product_step, product_end}
+use Rattle.rob_rules.proofs.Trees.WeightLemmas.{sum_from, sum_whole, product_whole}
+use Rattle.rob_rules.proofs.Trees.WalkLemmas.{sum_step, sum_end, product_step, product_end}
 use Rattle.rob_rules.proofs.degree.+weigh.Goals as goal
 
 pub weigh_sum-loop-part-init : goal.weigh_sum-loop-part-init

@@ -1,7 +1,7 @@
 use Rattle.std.proofs.Common.{◌≡◌, drop, map}
 use Rattle.rob_syntax.specs.Trees.{tree_of, part_of, sum, product, summands_of, operands_of}
 use Rattle.rob_rules.specs.Weights.{weight_of}
-use Rattle.rob_rules.proofs.WeightLemmas.{sum_from, product_from}
+use Rattle.rob_rules.proofs.Trees.WeightLemmas.{sum_from, product_from}
 use Rattle.rob_rules.proofs.degree.+weigh.Given as goal
 
 abbrev pub invariant-weigh_product-loop-factor : goal.invariant-weigh_product-loop-factor

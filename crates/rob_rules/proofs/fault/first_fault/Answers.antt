@@ -1,7 +1,7 @@
 use Rattle.std.proofs.Common.{sym, ◌∙◌}
 use Rattle.rob_rules.specs.Faults.{has_fault}
 use Rattle.rob_rules.specs.Scopes.{earlier_of}
-use Rattle.rob_rules.proofs.SearchLemmas.{find_more}
+use Rattle.rob_rules.proofs.Judging.SearchLemmas.{find_more}
 use Rattle.rob_rules.proofs.fault.first_fault.Goals as goal
 
 pub loop-fault-preserved : goal.loop-fault-preserved

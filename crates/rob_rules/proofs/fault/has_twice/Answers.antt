@@ -1,5 +1,5 @@
 use Rattle.std.proofs.Common.{ℕ, List, ap, ◌∙◌}
-use Rattle.rob_rules.proofs.TwiceLemmas.{comes_again, comes_again_is}
+use Rattle.rob_rules.proofs.Judging.TwiceLemmas.{comes_again, comes_again_is}
 use Rattle.rob_rules.proofs.fault.has_twice.Goals as goal
 
 pub loop-leaf-init : goal.loop-leaf-init

@@ -1,6 +1,6 @@
 use Rattle.std.proofs.Common.{◌≡◌, drop}
 use Rattle.rob_rules.specs.Faults.{has_twice}
-use Rattle.rob_rules.proofs.TwiceLemmas.{comes_again}
+use Rattle.rob_rules.proofs.Judging.TwiceLemmas.{comes_again}
 use Rattle.rob_rules.proofs.fault.has_twice.Given as goal
 
 abbrev pub invariant-loop-leaf : goal.invariant-loop-leaf

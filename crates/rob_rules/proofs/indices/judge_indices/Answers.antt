@@ -6,9 +6,9 @@ use Rattle.rob_index.specs.Rules.{IndexFault}
 use Rattle.rob_places.specs.Tests.{is_set}
 use Rattle.rob_syntax.specs.Seen.{seen_statement}
 use Rattle.rob_rules.specs.Indices.{long_fault}
-use Rattle.rob_rules.proofs.IndicesLemmas.{no_room, first_long, first_great, first_out, none_first, room_left}
-use Rattle.rob_rules.proofs.ShownLemmas.{shown_named}
-use Rattle.rob_rules.proofs.TotalLemmas.{left_is}
+use Rattle.rob_rules.proofs.Judging.IndicesLemmas.{no_room, first_long, first_great, first_out, none_first, room_left}
+use Rattle.rob_rules.proofs.Judging.ShownLemmas.{shown_named}
+use Rattle.rob_rules.proofs.Counts.TotalLemmas.{left_is}
 use Rattle.rob_rules.proofs.indices.judge_indices.Goals as goal
 
 pub returns-then-shown-clause-named : goal.returns-then-shown-clause-named

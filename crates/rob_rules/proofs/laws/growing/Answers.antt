@@ -1,5 +1,5 @@
-use Rattle.rob_rules.proofs.GrowingLemmas.{statement_grows}
-use Rattle.rob_rules.proofs.WideLemmas.{fault_same}
+use Rattle.rob_rules.proofs.Joining.GrowingLemmas.{statement_grows}
+use Rattle.rob_rules.proofs.Joining.WideLemmas.{fault_same}
 use Rattle.rob_rules.proofs.laws.growing.Goals as goal
 
 pub returns : goal.returns

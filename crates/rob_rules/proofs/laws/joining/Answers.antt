@@ -1,4 +1,4 @@
-use Rattle.rob_rules.proofs.JoinLemmas.{reading_append, breaking_behind}
+use Rattle.rob_rules.proofs.Joining.JoinLemmas.{reading_append, breaking_behind}
 use Rattle.rob_rules.proofs.laws.joining.Goals as goal
 
 pub returns : goal.returns

@@ -1,4 +1,4 @@
-use Rattle.rob_rules.proofs.LinkLemmas.{read_linked, read_among}
+use Rattle.rob_rules.proofs.Joining.LinkLemmas.{read_linked, read_among}
 use Rattle.rob_rules.proofs.laws.linked.Goals as goal
 
 pub returns : goal.returns

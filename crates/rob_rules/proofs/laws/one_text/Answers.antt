@@ -1,4 +1,4 @@
-use Rattle.rob_rules.proofs.OneText.{some_text, one_text, one_break, never}
+use Rattle.rob_rules.proofs.Joining.OneText.{some_text, one_text, one_break, never}
 use Rattle.rob_rules.proofs.laws.one_text.Goals as goal
 
 pub returns : goal.returns

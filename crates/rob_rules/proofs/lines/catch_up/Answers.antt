@@ -1,7 +1,7 @@
 use Rattle.std.proofs.Common.{refl, ap, ◌∙◌, drop}
 use Rattle.rob_rules.specs.Scopes.{earlier_of}
 use Rattle.rob_rules.specs.Stages.{mark_declared}
-use Rattle.rob_rules.proofs.LowestLemmas.{caught_more, caught_all, room_now}
+use Rattle.rob_rules.proofs.Judging.LowestLemmas.{caught_more, caught_all, room_now}
 use Rattle.rob_rules.proofs.lines.catch_up.Goals as goal
 
 pub declared_by-requires : goal.declared_by-requires

@@ -1,7 +1,7 @@
 use Rattle.std.proofs.Common.{drop}
 use Rattle.rob_rules.specs.Scopes.{earlier_of}
 use Rattle.rob_rules.specs.Stages.{behind_all, declare_all}
-use Rattle.rob_rules.proofs.LowestLemmas.{IsCaughtUp}
+use Rattle.rob_rules.proofs.Judging.LowestLemmas.{IsCaughtUp}
 use Rattle.rob_rules.proofs.lines.catch_up.Given as goal
 
 abbrev pub invariant-loop-statement : goal.invariant-loop-statement

@@ -1,6 +1,6 @@
 use Rattle.std.proofs.Common.{refl, drop}
 use Rattle.rob_rules.specs.Scopes.{earlier_of}
-use Rattle.rob_rules.proofs.LowestLemmas.{judged_more, judged_all, room_now}
+use Rattle.rob_rules.proofs.Judging.LowestLemmas.{judged_more, judged_all, room_now}
 use Rattle.rob_rules.proofs.lines.judge_all.Goals as goal
 
 pub first_fault-requires : goal.first_fault-requires

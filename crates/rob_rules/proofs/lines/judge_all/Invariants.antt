@@ -1,7 +1,7 @@
 use Rattle.std.proofs.Common.{drop}
 use Rattle.rob_rules.specs.Scopes.{earlier_of}
 use Rattle.rob_rules.specs.Stages.{lowest_fault, behind_all}
-use Rattle.rob_rules.proofs.LowestLemmas.{IsJudged}
+use Rattle.rob_rules.proofs.Judging.LowestLemmas.{IsJudged}
 use Rattle.rob_rules.proofs.lines.judge_all.Given as goal
 
 abbrev pub invariant-loop-statement : goal.invariant-loop-statement

@@ -1,6 +1,6 @@
 use Rattle.std.proofs.Common.{◌<◌, ◌≤◌, length, sym, ap, ◌∙◌, arith}
 use Rattle.rob_rules.specs.Stages.{padded}
-use Rattle.rob_rules.proofs.PaddedLemmas.{padded_more, padded_all}
+use Rattle.rob_rules.proofs.Joining.PaddedLemmas.{padded_more, padded_all}
 use Rattle.rob_rules.proofs.lines.pad.Goals as goal
 
 pub loop-value-preserved : goal.loop-value-preserved

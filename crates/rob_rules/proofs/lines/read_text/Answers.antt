@@ -3,7 +3,7 @@ use Rattle.std.proofs.lemmas.Result.{err_from_is_err_and}
 use Rattle.rob_lex.specs.Offences.{AreTokens}
 use Rattle.rob_lex.proofs.SliceLemmas.{at_most}
 use Rattle.rob_syntax.specs.Versions.{seen_version}
-use Rattle.rob_rules.proofs.WholeText.{refused_by, start_between, text_breaks, text_ends, text_reads}
+use Rattle.rob_rules.proofs.Steps.WholeText.{refused_by, start_between, text_breaks, text_ends, text_reads}
 use Rattle.rob_rules.proofs.lines.read_text.Goals as goal
 
 pub read_lines-requires-clause-room : goal.read_lines-requires-clause-room

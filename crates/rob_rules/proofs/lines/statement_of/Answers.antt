@@ -2,7 +2,7 @@ use Rattle.std.proofs.Common.{ap, refl}
 use Rattle.rob_syntax.specs.SeenSymbols.{seen_line}
 use Rattle.rob_syntax.specs.Seen.{seen_statement}
 use Rattle.rob_syntax.specs.Versions.{seen_version}
-use Rattle.rob_rules.proofs.VersionLines.{none_of, none_plain, of_two, plain_of}
+use Rattle.rob_rules.proofs.Steps.VersionLines.{none_of, none_plain, of_two, plain_of}
 use Rattle.rob_rules.proofs.lines.statement_of.Goals as goal
 
 pub returns-in-Err-NotAStatement : goal.returns-in-Err-NotAStatement

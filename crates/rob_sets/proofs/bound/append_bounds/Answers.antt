@@ -4,12 +4,12 @@ use Rattle.rob_meaning.specs.SetRows.{bound_rows, lower_row}
 use Rattle.rob_model.specs.View.{robust}
 use Rattle.rob_sets.specs.SetForm.{judged_rows}
 use Rattle.rob_sets.specs.declared.set_form.SetRow.{SetRow}
-use Rattle.rob_sets.proofs.BoundRowLemmas.{bounds_at, bounds_end, bounds_many, length-declared, upper_at}
+use Rattle.rob_sets.proofs.WholeRows.BoundRowLemmas.{bounds_at, bounds_end, bounds_many, length-declared, upper_at}
 use Rattle.rob_number.proofs.CountLemmas.{later}
-use Rattle.rob_sets.proofs.ItemLemmas.{drop_item, drop_over}
-use Rattle.rob_sets.proofs.AppendingLemmas.{appended_length}
-use Rattle.rob_sets.proofs.ProgressLemmas.{begins, ends, so_many}
-use Rattle.rob_sets.proofs.RowSteps.{RowProgress, rows_go_on, rows_stop}
+use Rattle.rob_sets.proofs.Cells.ItemLemmas.{drop_item, drop_over}
+use Rattle.rob_sets.proofs.Judging.AppendingLemmas.{appended_length}
+use Rattle.rob_sets.proofs.Judging.ProgressLemmas.{begins, ends, so_many}
+use Rattle.rob_sets.proofs.Judging.RowSteps.{RowProgress, rows_go_on, rows_stop}
 use Rattle.rob_sets.proofs.bound.append_bounds.Goals as goal
 
 pub loop-parameter-init : goal.loop-parameter-init

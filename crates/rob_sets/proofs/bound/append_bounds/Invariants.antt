@@ -2,8 +2,8 @@ use Rattle.std.specs.Prelude.{◌≡◌, zero, []}
 use Rattle.rob_number.specs.Counts.{NeverFell}
 use Rattle.rob_meaning.specs.SetRows.{bound_rows}
 use Rattle.rob_model.specs.View.{robust}
-use Rattle.rob_sets.proofs.BoundRowLemmas.{other_bounds}
-use Rattle.rob_sets.proofs.RowSteps.{RowProgress}
+use Rattle.rob_sets.proofs.WholeRows.BoundRowLemmas.{other_bounds}
+use Rattle.rob_sets.proofs.Judging.RowSteps.{RowProgress}
 use Rattle.rob_sets.proofs.bound.append_bounds.Given as goal
 
 -- the rows of the parameters so far are done

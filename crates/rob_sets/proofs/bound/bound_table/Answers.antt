@@ -2,7 +2,7 @@ use Rattle.std.proofs.Common.{ap, ◌∙◌}
 use Rattle.rob_algebra.specs.Fraction.{◌+ℚ◌, ◌*ℚ◌}
 use Rattle.rob_meaning.specs.Coefficients.{single}
 use Rattle.rob_sets.specs.Tables.{numbers_of}
-use Rattle.rob_sets.proofs.BoundLemmas.{bound_row, first_number, no_constant}
+use Rattle.rob_sets.proofs.WholeRows.BoundLemmas.{bound_row, first_number, no_constant}
 use Rattle.rob_sets.proofs.bound.bound_table.Goals as goal
 
 pub put-requires-2 : goal.put-requires-2

@@ -2,7 +2,7 @@ use Rattle.std.proofs.Common.{arith, map}
 use Rattle.std.proofs.lemmas.List.{length-map}
 use Rattle.rob_model.specs.View.{member_of, robust}
 use Rattle.rob_number.proofs.CountLemmas.{later}
-use Rattle.rob_sets.proofs.BudgetSteps.{down_done, down_few, down_stops, member_few, members_begin, sum_ends, sum_few, up_few, up_stops}
+use Rattle.rob_sets.proofs.WholeRows.BudgetSteps.{down_done, down_few, down_stops, member_few, members_begin, sum_ends, sum_few, up_few, up_stops}
 use Rattle.rob_sets.proofs.budget.append_budget.Goals as goal
 
 pub loop-member-init : goal.loop-member-init

@@ -1,7 +1,7 @@
 use Rattle.std.specs.Prelude.{◌≡◌, ◌+◌}
 use Rattle.rob_number.specs.Counts.{NeverFell}
 use Rattle.rob_model.specs.View.{robust}
-use Rattle.rob_sets.proofs.BudgetSteps.{MembersSoFar}
+use Rattle.rob_sets.proofs.WholeRows.BudgetSteps.{MembersSoFar}
 use Rattle.rob_sets.proofs.budget.append_budget.Given as goal
 
 -- the rows of the members so far are done

@@ -4,7 +4,7 @@ use Rattle.rob_algebra.specs.Fraction.{◌+ℚ◌, ◌*ℚ◌}
 use Rattle.rob_algebra.specs.FractionLaws.{ℚ-one-mul}
 use Rattle.rob_meaning.specs.Coefficients.{single}
 use Rattle.rob_sets.specs.Tables.{numbers_of}
-use Rattle.rob_sets.proofs.BudgetLemmas.{lifts_from, lifts-more, lifts-later, lifts-constant, sum_row}
+use Rattle.rob_sets.proofs.WholeRows.BudgetLemmas.{lifts_from, lifts-more, lifts-later, lifts-constant, sum_row}
 use Rattle.rob_sets.proofs.budget.budget_table.Goals as goal
 
 pub put-requires : goal.put-requires

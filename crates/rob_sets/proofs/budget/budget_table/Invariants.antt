@@ -1,6 +1,6 @@
 use Rattle.std.specs.Prelude.{◌≡◌, ℕ}
 use Rattle.rob_sets.specs.Tables.{numbers_of}
-use Rattle.rob_sets.proofs.BudgetLemmas.{lifts_from}
+use Rattle.rob_sets.proofs.WholeRows.BudgetLemmas.{lifts_from}
 use Rattle.rob_sets.proofs.budget.budget_table.Given as goal
 
 -- 1 in the columns of the members so far

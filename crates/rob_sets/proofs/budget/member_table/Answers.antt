@@ -3,7 +3,7 @@ use Rattle.rob_algebra.specs.Fraction.{◌+ℚ◌, ◌*ℚ◌}
 use Rattle.rob_meaning.specs.Coefficients.{single}
 use Rattle.rob_model.specs.View.{member_of}
 use Rattle.rob_sets.specs.Tables.{numbers_of}
-use Rattle.rob_sets.proofs.BoundLemmas.{member_row, first_number, second_number, no_lift, still_no_constant}
+use Rattle.rob_sets.proofs.WholeRows.BoundLemmas.{member_row, first_number, second_number, no_lift, still_no_constant}
 use Rattle.rob_sets.proofs.budget.member_table.Goals as goal
 
 pub put-requires-2 : goal.put-requires-2

@@ -3,8 +3,8 @@ use Rattle.rob_algebra.specs.Width.{IsWideWhole}
 use Rattle.rob_number.specs.Counts.{Rose}
 use Rattle.rob_meaning.specs.Clearing.{whole_at}
 use Rattle.rob_sets.specs.FirstWide.{Some_of}
-use Rattle.rob_sets.proofs.ClearingSteps.{clear_fits, clear_wide}
-use Rattle.rob_sets.proofs.StopLemmas.{stops_also}
+use Rattle.rob_sets.proofs.WholeRows.ClearingSteps.{clear_fits, clear_wide}
+use Rattle.rob_sets.proofs.Judging.StopLemmas.{stops_also}
 use Rattle.rob_sets.proofs.clearing.clear.Goals as goal
 
 pub returns-in-Some-clause-not_wide : goal.returns-in-Some-clause-not_wide

@@ -1,5 +1,5 @@
 use Rattle.std.proofs.Common.{arith}
-use Rattle.rob_sets.proofs.ClearingSteps.{whole_wide}
+use Rattle.rob_sets.proofs.WholeRows.ClearingSteps.{whole_wide}
 use Rattle.rob_sets.proofs.clearing.cleared.Goals as goal
 
 pub returns-in-None-clause-wide : goal.returns-in-None-clause-wide

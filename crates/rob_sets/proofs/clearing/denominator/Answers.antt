@@ -1,8 +1,8 @@
 use Rattle.std.proofs.Common.{arith}
 use Rattle.std.specs.Prelude.{[], refl}
 use Rattle.rob_algebra.specs.Fraction.{den_pos}
-use Rattle.rob_meaning.proofs.ClearingLemmas.{lcm_pos}
-use Rattle.rob_sets.proofs.ClearingSteps.{common_all, common_more, common_wide}
+use Rattle.rob_meaning.proofs.Tables.ClearingLemmas.{lcm_pos}
+use Rattle.rob_sets.proofs.WholeRows.ClearingSteps.{common_all, common_more, common_wide}
 use Rattle.rob_sets.proofs.clearing.denominator.Goals as goal
 
 pub loop-q-init : goal.loop-q-init

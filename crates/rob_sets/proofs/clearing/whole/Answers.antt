@@ -1,6 +1,6 @@
 use Rattle.std.proofs.Common.{◌/◌, ℤ, pos, ◌<ℤ◌, ◌<◌, ◌≤◌, nat_abs, ap, sym, ◌∙◌, subst, arith}
 use Rattle.rob_number.proofs.CastLemmas.{product_value, seen_small, seen_within}
-use Rattle.rob_sets.proofs.MachineProducts.{kept_fits, kept_seen, over_limit, within_limit}
+use Rattle.rob_sets.proofs.WholeRows.MachineProducts.{kept_fits, kept_seen, over_limit, within_limit}
 use Rattle.rob_sets.proofs.clearing.whole.Goals as goal
 
 pub quotient-times-requires-clause-within : goal.quotient-times-requires-clause-within

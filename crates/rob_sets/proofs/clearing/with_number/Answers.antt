@@ -1,5 +1,5 @@
 use Rattle.std.proofs.Common.{arith, ◌∙◌}
-use Rattle.rob_sets.proofs.ClearingSteps.{cast_back, multiple_as}
+use Rattle.rob_sets.proofs.WholeRows.ClearingSteps.{cast_back, multiple_as}
 use Rattle.rob_sets.proofs.clearing.with_number.Goals as goal
 
 pub returns : goal.returns

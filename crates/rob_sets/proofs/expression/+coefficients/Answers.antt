@@ -2,10 +2,10 @@ use Rattle.std.proofs.Common.{arith}
 use Rattle.std.proofs.lemmas.List.{length-map}
 use Rattle.rob_model.specs.View.{robust, adaptive_of}
 use Rattle.rob_number.proofs.CountLemmas.{later}
-use Rattle.rob_sets.proofs.LeafLemmas.{adaptive_in_is, adaptive_inside, number_leaf, parameter_leaf, product_is, rule_leaf, sum_is, variable_inside, variable_leaf}
-use Rattle.rob_sets.proofs.ProductSteps.{product_apart, product_begins, product_ends, product_goes_on, product_part_stops, product_stops}
-use Rattle.rob_sets.proofs.SumSteps.{sum_begins, sum_ends, sum_goes_on, sum_part_stops, sum_stops}
-use Rattle.rob_sets.proofs.TabulatingLemmas.{memory_stops, tabulates_as}
+use Rattle.rob_sets.proofs.Expressions.LeafLemmas.{adaptive_in_is, adaptive_inside, number_leaf, parameter_leaf, product_is, rule_leaf, sum_is, variable_inside, variable_leaf}
+use Rattle.rob_sets.proofs.Expressions.ProductSteps.{product_apart, product_begins, product_ends, product_goes_on, product_part_stops, product_stops}
+use Rattle.rob_sets.proofs.Expressions.SumSteps.{sum_begins, sum_ends, sum_goes_on, sum_part_stops, sum_stops}
+use Rattle.rob_sets.proofs.Expressions.TabulatingLemmas.{memory_stops, tabulates_as}
 use Rattle.rob_sets.proofs.expression.+coefficients.Goals as goal
 
 -- ---- leaves

@@ -1,7 +1,7 @@
 use Rattle.rob_number.specs.Counts.{NeverFell}
 use Rattle.rob_model.specs.View.{robust}
-use Rattle.rob_sets.proofs.ProductSteps.{ProductSoFar}
-use Rattle.rob_sets.proofs.SumSteps.{SumSoFar}
+use Rattle.rob_sets.proofs.Expressions.ProductSteps.{ProductSoFar}
+use Rattle.rob_sets.proofs.Expressions.SumSteps.{SumSoFar}
 use Rattle.rob_sets.proofs.expression.+coefficients.Given as goal
 
 -- the table so far is that of the first terms; what is left of the subexpressions is judged next

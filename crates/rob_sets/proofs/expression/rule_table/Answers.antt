@@ -4,10 +4,10 @@ use Rattle.rob_model.specs.declared.model.Adaptive.{Adaptive}
 use Rattle.rob_number.proofs.CountLemmas.{later}
 use Rattle.rob_meaning.specs.Expressions.{adaptive_in}
 use Rattle.rob_sets.specs.Tables.{numbers_of}
-use Rattle.rob_sets.proofs.JointLemmas.{listed_below}
-use Rattle.rob_sets.proofs.RuleLemmas.{list_is, rule_few}
-use Rattle.rob_sets.proofs.RuleSteps.{rule_begins, rule_ends, rule_goes_on, rule_stops}
-use Rattle.rob_sets.proofs.TabulatingLemmas.{leaf_is, memory_stops}
+use Rattle.rob_sets.proofs.Expressions.JointLemmas.{listed_below}
+use Rattle.rob_sets.proofs.Expressions.RuleLemmas.{list_is, rule_few}
+use Rattle.rob_sets.proofs.Expressions.RuleSteps.{rule_begins, rule_ends, rule_goes_on, rule_stops}
+use Rattle.rob_sets.proofs.Expressions.TabulatingLemmas.{leaf_is, memory_stops}
 use Rattle.rob_sets.proofs.expression.rule_table.Goals as goal
 
 pub overflow_cast-column : goal.overflow_cast-column

@@ -3,7 +3,7 @@ use Rattle.rob_number.specs.Counts.{NeverFell}
 use Rattle.rob_meaning.specs.RobustModel.{column_of, list_of}
 use Rattle.rob_model.specs.View.{robust}
 use Rattle.rob_sets.specs.Tables.{numbers_of}
-use Rattle.rob_sets.proofs.RuleSteps.{RuleSoFar}
+use Rattle.rob_sets.proofs.Expressions.RuleSteps.{RuleSoFar}
 use Rattle.rob_sets.proofs.expression.rule_table.Given as goal
 
 -- the numbers so far, with those of the parameters that are left, are the adaptive variable's

@@ -1,7 +1,7 @@
-use Rattle.rob_meaning.proofs.AdmittedLemmas.{admission_law}
-use Rattle.rob_meaning.proofs.WholeRowLemmas.{lifted_law}
+use Rattle.rob_meaning.proofs.Conditions.AdmittedLemmas.{admission_law}
+use Rattle.rob_meaning.proofs.Conditions.WholeRowLemmas.{lifted_law}
 use Rattle.rob_meaning.specs.Places.{1ℚ}
-use Rattle.rob_sets.proofs.LiftedLemmas.{covered, through}
+use Rattle.rob_sets.proofs.WholeRows.LiftedLemmas.{covered, through}
 use Rattle.rob_sets.proofs.laws.set_form_laws.Goals as goal
 
 pub returns : goal.returns

@@ -6,8 +6,8 @@ use Rattle.rob_meaning.specs.SetRows.{expression_row}
 use Rattle.rob_model.specs.View.{robust, expression_of, relation_of}
 use Rattle.rob_sets.specs.Appending.{Appends}
 use Rattle.rob_sets.specs.SetForm.{judged_sides}
-use Rattle.rob_sets.proofs.JudgedLemmas.{stops_left}
-use Rattle.rob_sets.proofs.AppendingLemmas.{appended_length, appends_err, appends_then}
+use Rattle.rob_sets.proofs.Judging.JudgedLemmas.{stops_left}
+use Rattle.rob_sets.proofs.Judging.AppendingLemmas.{appended_length, appends_err, appends_then}
 use Rattle.rob_sets.specs.SetForm.{RowFits, cleared_row}
 use Rattle.rob_sets.proofs.line.append_line.Goals as goal
 

@@ -11,10 +11,10 @@ use Rattle.rob_sets.specs.FirstWide as judge
 use Rattle.rob_sets.specs.SetForm.{judged_row}
 use Rattle.rob_sets.specs.Subexpressions.{subexpressions, HasWideCoefficient}
 use Rattle.rob_sets.specs.Tables.{numbers_of}
-use Rattle.rob_sets.proofs.DifferenceLemmas.{side_row}
-use Rattle.rob_sets.proofs.ListLemmas.{each_none}
-use Rattle.rob_sets.proofs.JudgedLemmas.{stops_here}
-use Rattle.rob_sets.proofs.AppendingLemmas.{appends_nothing, appends_then}
+use Rattle.rob_sets.proofs.Expressions.DifferenceLemmas.{side_row}
+use Rattle.rob_sets.proofs.Cells.ListLemmas.{each_none}
+use Rattle.rob_sets.proofs.Judging.JudgedLemmas.{stops_here}
+use Rattle.rob_sets.proofs.Judging.AppendingLemmas.{appends_nothing, appends_then}
 use Rattle.rob_sets.proofs.line.append_side.Goals as goal
 
 pub returns-in-Ok-clause-row : goal.returns-in-Ok-clause-row

@@ -3,10 +3,10 @@ use Rattle.std.specs.Prelude.{◌∷◌, ◌++◌, []}
 use Rattle.rob_meaning.specs.Forms.{difference}
 use Rattle.rob_model.specs.View.{robust, expression_of}
 use Rattle.rob_sets.specs.Subexpressions.{subexpressions}
-use Rattle.rob_sets.proofs.DifferenceLemmas.{alone, difference_tabulates, left_done}
-use Rattle.rob_sets.proofs.JudgingLemmas.{judging_begins}
-use Rattle.rob_sets.proofs.PartedLemmas.{parted}
-use Rattle.rob_sets.proofs.TabulatingLemmas.{part_stops}
+use Rattle.rob_sets.proofs.Expressions.DifferenceLemmas.{alone, difference_tabulates, left_done}
+use Rattle.rob_sets.proofs.Judging.JudgingLemmas.{judging_begins}
+use Rattle.rob_sets.proofs.Cells.PartedLemmas.{parted}
+use Rattle.rob_sets.proofs.Expressions.TabulatingLemmas.{part_stops}
 use Rattle.rob_sets.proofs.line.difference_table.Goals as goal
 
 pub returns-in_err-table-clause-table : goal.returns-in_err-table-clause-table

@@ -12,8 +12,8 @@ use Rattle.rob_sets.specs.SetForm.{judged_row}
 use Rattle.rob_sets.specs.Stops.{StopsFor}
 use Rattle.rob_sets.specs.Tables.{numbers_of}
 use Rattle.rob_sets.specs.declared.set_form.SetRow.{SetRow as SetRowData}
-use Rattle.rob_sets.proofs.JudgedLemmas.{stops_here}
-use Rattle.rob_sets.proofs.RowLemmas.{row_appended, row_is}
+use Rattle.rob_sets.proofs.Judging.JudgedLemmas.{stops_here}
+use Rattle.rob_sets.proofs.WholeRows.RowLemmas.{row_appended, row_is}
 use Rattle.rob_sets.proofs.row.append_row.Goals as goal
 
 pub overflow_cast-place : goal.overflow_cast-place

@@ -2,8 +2,8 @@ use Rattle.std.proofs.Common.{List, ap, arith, map}
 use Rattle.rob_meaning.specs.SetRows.{lift_count}
 use Rattle.rob_model.specs.View.{set_line_of}
 use Rattle.rob_model.specs.declared.model.SetLine.{SetLine as SetLineData}
-use Rattle.rob_sets.proofs.ItemLemmas.{drop_over}
-use Rattle.rob_sets.proofs.StatementCounts.{few_here, lifts_fit, lifts_left}
+use Rattle.rob_sets.proofs.Cells.ItemLemmas.{drop_over}
+use Rattle.rob_sets.proofs.WholeRows.StatementCounts.{few_here, lifts_fit, lifts_left}
 use Rattle.rob_sets.proofs.row.lift_count.Goals as goal
 
 pub member_count-count-requires : goal.member_count-count-requires

@@ -2,7 +2,7 @@ use Rattle.std.proofs.Common.{arith, ap, ◌∙◌, add-one}
 use Rattle.rob_meaning.specs.Places.{tabulate}
 use Rattle.rob_sets.specs.Appending.{row_of}
 use Rattle.rob_sets.specs.Tables.{numbers_of}
-use Rattle.rob_sets.proofs.RowLemmas.{parameter_more, lift_more}
+use Rattle.rob_sets.proofs.WholeRows.RowLemmas.{parameter_more, lift_more}
 use Rattle.rob_sets.proofs.row.row_numbers.Goals as goal
 
 pub loop-k-preserved : goal.loop-k-preserved

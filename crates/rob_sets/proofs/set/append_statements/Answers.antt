@@ -4,11 +4,11 @@ use Rattle.rob_model.specs.View.{robust, set_line_of}
 use Rattle.rob_model.specs.declared.model.SetLine.{SetLine as SetLineData}
 use Rattle.rob_sets.specs.SetForm.{judged_statements}
 use Rattle.rob_number.proofs.CountLemmas.{later}
-use Rattle.rob_sets.proofs.ItemLemmas.{drop_item, drop_over}
-use Rattle.rob_sets.proofs.AppendingLemmas.{appended_length}
-use Rattle.rob_sets.proofs.StatementCounts.{few_here, lifts_below, lifts_fit, lifts_left, number_fits, statement_inside}
-use Rattle.rob_sets.proofs.ProgressLemmas.{begins, ends, goes_on, so_many, stops}
-use Rattle.rob_sets.proofs.StatementLemmas.{judged_at, statements_at, statements_many}
+use Rattle.rob_sets.proofs.Cells.ItemLemmas.{drop_item, drop_over}
+use Rattle.rob_sets.proofs.Judging.AppendingLemmas.{appended_length}
+use Rattle.rob_sets.proofs.WholeRows.StatementCounts.{few_here, lifts_below, lifts_fit, lifts_left, number_fits, statement_inside}
+use Rattle.rob_sets.proofs.Judging.ProgressLemmas.{begins, ends, goes_on, so_many, stops}
+use Rattle.rob_sets.proofs.WholeRows.StatementLemmas.{judged_at, statements_at, statements_many}
 use Rattle.rob_sets.proofs.set.append_statements.Goals as goal
 
 pub loop-line-init : goal.loop-line-init

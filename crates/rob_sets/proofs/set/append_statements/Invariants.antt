@@ -3,7 +3,7 @@ use Rattle.rob_number.specs.Counts.{NeverFell}
 use Rattle.rob_meaning.specs.SetRows.{lift_count, statement_rows}
 use Rattle.rob_model.specs.View.{robust, set_line_of}
 use Rattle.rob_sets.specs.SetForm.{RowFits, cleared_row, judged_statements}
-use Rattle.rob_sets.proofs.ProgressLemmas.{Progress}
+use Rattle.rob_sets.proofs.Judging.ProgressLemmas.{Progress}
 use Rattle.rob_sets.proofs.set.append_statements.Given as goal
 
 -- the rows of the statements so far are done

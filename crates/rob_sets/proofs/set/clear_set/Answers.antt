@@ -5,9 +5,9 @@ use Rattle.rob_meaning.specs.SetRows.{bound_rows}
 use Rattle.rob_model.specs.View.{robust}
 use Rattle.rob_sets.specs.Appending.{StopsAt}
 use Rattle.rob_sets.specs.SetForm.{judged_rows, judged_set, judged_statements}
-use Rattle.rob_sets.proofs.BoundRowLemmas.{bounds_many}
-use Rattle.rob_sets.proofs.JudgedLemmas.{cause_err, stops_right}
-use Rattle.rob_sets.proofs.AppendingLemmas.{appended_length}
+use Rattle.rob_sets.proofs.WholeRows.BoundRowLemmas.{bounds_many}
+use Rattle.rob_sets.proofs.Judging.JudgedLemmas.{cause_err, stops_right}
+use Rattle.rob_sets.proofs.Judging.AppendingLemmas.{appended_length}
 use Rattle.rob_sets.proofs.set.clear_set.Goals as goal
 
 pub append_statements-requires-clause-few : goal.append_statements-requires-clause-few

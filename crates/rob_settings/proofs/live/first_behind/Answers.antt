@@ -1,6 +1,6 @@
 use Rattle.std.proofs.Common.{sym, ◌∙◌}
 use Rattle.std.specs.Prelude.{pos}
-use Rattle.rob_index.proofs.NestLemmas.{lt_from, lt_not}
+use Rattle.rob_index.proofs.Faults.NestLemmas.{lt_from, lt_not}
 use Rattle.rob_settings.proofs.LiveLemmas.{alive_there, none_live, some_live}
 use Rattle.rob_settings.proofs.live.first_behind.Goals as goal
 

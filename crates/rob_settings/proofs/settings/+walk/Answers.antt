@@ -3,7 +3,7 @@ use Rattle.std.specs.Prelude.{ℤ}
 use Rattle.std.proofs.lemmas.Result.{err_from_is_err_and}
 use Rattle.rob_number.proofs.AnswerLaws.{on_ok}
 use Rattle.rob_index.specs.Forms.{extensions}
-use Rattle.rob_index.proofs.NestLemmas.{lt_from, lt_not}
+use Rattle.rob_index.proofs.Faults.NestLemmas.{lt_from, lt_not}
 use Rattle.rob_settings.specs.Room.{left_of}
 use Rattle.rob_settings.specs.Settings.{between}
 use Rattle.rob_settings.proofs.AnswerLemmas.{refused, moved, value_read}

@@ -1,6 +1,6 @@
 use Rattle.std.proofs.Common.{[], ◌∷◌, length, sym, ◌∙◌}
 use Rattle.std.proofs.lemmas.Result.{err_from_is_err_and}
-use Rattle.rob_index.proofs.NestLemmas.{lt_from, lt_not}
+use Rattle.rob_index.proofs.Faults.NestLemmas.{lt_from, lt_not}
 use Rattle.rob_settings.specs.Room.{left_of}
 use Rattle.rob_settings.specs.Settings.{between}
 use Rattle.rob_settings.proofs.AnswerLemmas.{refused}

@@ -1,5 +1,5 @@
 use Rattle.rob_table.proofs.Clearing.{rows_apart}
-use Rattle.rob_simplex.proofs.RowEdits.{negated_bounds}
+use Rattle.rob_simplex.proofs.Rows.RowEdits.{negated_bounds}
 use Rattle.rob_simplex.proofs.row_edits.negate_row.Goals as goal
 
 pub returns-clause-others : goal.returns-clause-others

@@ -1,5 +1,5 @@
 use Rattle.rob_table.proofs.Clearing.{rows_apart}
-use Rattle.rob_simplex.proofs.RowEdits.{kept_bounds}
+use Rattle.rob_simplex.proofs.Rows.RowEdits.{kept_bounds}
 use Rattle.rob_simplex.proofs.row_edits.reduce_row.Goals as goal
 
 pub returns-clause-row : goal.returns-clause-row

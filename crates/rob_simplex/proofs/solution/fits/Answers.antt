@@ -2,7 +2,7 @@ use Rattle.std.proofs.Common.{◌≡◌, ◌∙◌, ◌<◌, arith, nat_abs, pos
 use Rattle.std.proofs.lemmas.Int.{ints}
 use lib.Signed.{◌<ℤ◌}
 use Rattle.rob_number.proofs.CastLemmas.{limit_seen}
-use Rattle.rob_simplex.proofs.Quotients.{of_pair_fits}
+use Rattle.rob_simplex.proofs.Telling.Quotients.{of_pair_fits}
 use Rattle.rob_simplex.proofs.solution.fits.Goals as goal
 
 pub returns-then-size-limit-2-clause-fits : goal.returns-then-size-limit-2-clause-fits

@@ -2,7 +2,7 @@ use Rattle.std.proofs.Common.{◌≡◌, ◌∙◌, ◌≤◌, ◌<◌, ◌-◌,
 use Rattle.std.specs.Prelude.{IfNone}
 use lib.IntN.{ℤ}
 use Rattle.rob_number.proofs.CastLemmas.{seen_within}
-use Rattle.rob_simplex.proofs.ShortParts.{short_parts, wide_first, wide_second}
+use Rattle.rob_simplex.proofs.Rows.ShortParts.{short_parts, wide_first, wide_second}
 use Rattle.rob_simplex.proofs.solution.short_parts.Goals as goal
 
 pub returns-in-Some-Some-2 : goal.returns-in-Some-Some-2

@@ -4,7 +4,7 @@ use lib.IntN.{ℤ, neg_ℤ}
 use Rattle.rob_linear.specs.Vectors.{at}
 use Rattle.rob_table.specs.Tables.{row_at}
 use Rattle.rob_table.proofs.RowMoves.{written_bounds}
-use Rattle.rob_simplex.proofs.StartLemmas.{entry_within, largest_within}
+use Rattle.rob_simplex.proofs.Turns.StartLemmas.{entry_within, largest_within}
 use Rattle.rob_simplex.proofs.starting_rows.write_cost.Goals as goal
 
 pub returns-clause-bounded : goal.returns-clause-bounded

@@ -6,7 +6,7 @@ use Rattle.rob_linear.specs.Vectors.{at}
 use Rattle.rob_table.specs.Tables.{row_at}
 use Rattle.rob_table.proofs.RowMoves.{written_bounds}
 use Rattle.rob_simplex.specs.Starts.{start_entry}
-use Rattle.rob_simplex.proofs.StartLemmas.{entry_low, entry_within, largest_within}
+use Rattle.rob_simplex.proofs.Turns.StartLemmas.{entry_low, entry_within, largest_within}
 use Rattle.rob_simplex.proofs.starting_rows.write_row.Goals as goal
 
 pub returns-clause-bounded : goal.returns-clause-bounded

@@ -1,5 +1,5 @@
 use Rattle.std.proofs.Common.{◌∙◌, sym, subst}
-use Rattle.rob_simplex.proofs.BegunWork.{begun_as}
+use Rattle.rob_simplex.proofs.Pivoting.BegunWork.{begun_as}
 use Rattle.rob_solver.specs.Depths.{deep_limit}
 use Rattle.rob_solver.specs.Solving.{IsStopped, IsCausedDeep}
 use Rattle.rob_solver.proofs.SolvingLemmas.{begun_solution, caused_by, counts_refused, positions_as}

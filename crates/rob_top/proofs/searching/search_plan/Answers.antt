@@ -1,6 +1,6 @@
 use Rattle.std.proofs.Common.{arith, refl}
 use Rattle.rob_cert.specs.View.{certificate_of}
-use Rattle.rob_meaning.proofs.NameLemmas.{length-form_names}
+use Rattle.rob_meaning.proofs.Naming.NameLemmas.{length-form_names}
 use Rattle.rob_meaning.specs.Names.{form_names}
 use Rattle.rob_model.specs.View.{robust}
 use Rattle.rob_top.proofs.Meaning.SearchStops.{sought_answers}

@@ -1,6 +1,6 @@
 use Rattle.std.proofs.Common.{◌++◌, ap, sym, ◌∙◌, List}
 use Rattle.std.proofs.lemmas.List.Elements.{All-same}
-use Rattle.rob_cert.proofs.WriterLemmas.{on_ok}
+use Rattle.rob_cert.proofs.Writing.WriterLemmas.{on_ok}
 use Rattle.rob_cert.specs.declared.trace.Round.{Round}
 use Rattle.rob_model.specs.View.{robust}
 use Rattle.rob_report.specs.Rounds.{IsRoundOf, rounds_text}

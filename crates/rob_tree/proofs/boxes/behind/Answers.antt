@@ -1,7 +1,7 @@
 use Rattle.std.proofs.Common.{◌<◌, length, map, sym, subst, ◌∙◌, ap}
 use Rattle.rob_model.specs.View.{variable_of}
 use Rattle.rob_reach.specs.Boxes.{change_at, tightened}
-use Rattle.rob_tree.proofs.BoxLemmas.{column_in, valid_behind}
+use Rattle.rob_tree.proofs.BoxShapes.BoxLemmas.{column_in, valid_behind}
 use Rattle.rob_tree.specs.View.{branch_of}
 use Rattle.rob_tree.proofs.boxes.behind.Goals as goal
 

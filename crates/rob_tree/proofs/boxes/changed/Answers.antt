@@ -1,7 +1,7 @@
 use Rattle.std.proofs.Common.{◌+◌, ◌++◌, ap, ◌∙◌}
 use Rattle.rob_model.specs.View.{variable_of}
 use Rattle.rob_reach.specs.Boxes.{tightened}
-use Rattle.rob_tree.proofs.BoxLemmas.{changed_at, rest_of}
+use Rattle.rob_tree.proofs.BoxShapes.BoxLemmas.{changed_at, rest_of}
 use Rattle.rob_tree.proofs.boxes.changed.Goals as goal
 
 pub returns : goal.returns

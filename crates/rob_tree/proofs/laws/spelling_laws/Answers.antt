@@ -1,6 +1,6 @@
 use Rattle.std.proofs.Common.{sym, ◌∙◌}
-use Rattle.rob_tree.proofs.SomeTree.{some_tree}
-use Rattle.rob_tree.proofs.TreeLaws as laws
+use Rattle.rob_tree.proofs.OneText.SomeTree.{some_tree}
+use Rattle.rob_tree.proofs.OneText.TreeLaws as laws
 use Rattle.rob_tree.proofs.laws.spelling_laws.Goals as goal
 
 pub returns : goal.returns

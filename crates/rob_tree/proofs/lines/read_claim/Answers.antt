@@ -1,6 +1,6 @@
 use Rattle.rob_cert.specs.View.{status_of}
-use Rattle.rob_tree.proofs.LineLemmas.{claim_cause, claim_missing}
-use Rattle.rob_tree.proofs.ReadingLemmas.{text_of_words}
+use Rattle.rob_tree.proofs.Readers.LineLemmas.{claim_cause, claim_missing}
+use Rattle.rob_tree.proofs.Readers.ReadingLemmas.{text_of_words}
 use Rattle.rob_tree.specs.Parts.{claim_words}
 use Rattle.rob_tree.proofs.lines.read_claim.Goals as goal
 

@@ -1,5 +1,5 @@
 use Rattle.std.proofs.Common.{ap, length}
-use Rattle.rob_tree.proofs.LineLemmas.{no_claim}
+use Rattle.rob_tree.proofs.Readers.LineLemmas.{no_claim}
 use Rattle.rob_tree.proofs.lines.read_optimum.Goals as goal
 
 pub returns-in-None-clause-claim : goal.returns-in-None-clause-claim

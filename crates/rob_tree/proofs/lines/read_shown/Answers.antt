@@ -4,7 +4,7 @@ use mir.Val.{to_z, of_z}
 use Rattle.std.proofs.Common.{w64}
 use Rattle.rob_cert.specs.View.{status_of}
 use Rattle.rob_number.proofs.CastLemmas.{seen}
-use Rattle.rob_tree.proofs.LineLemmas.{best_cause, best_missing, best_read}
+use Rattle.rob_tree.proofs.Readers.LineLemmas.{best_cause, best_missing, best_read}
 use Rattle.rob_tree.proofs.lines.read_shown.Goals as goal
 
 pub returns-in-None-clause-shown : goal.returns-in-None-clause-shown

@@ -1,7 +1,7 @@
 use mir.Val.{of_z}
 use Rattle.std.proofs.Common.{◌∙◌, ap, w64}
 use Rattle.std.specs.Prelude.{pos}
-use Rattle.rob_tree.proofs.LineLemmas.{no_whole, not_whole}
+use Rattle.rob_tree.proofs.Readers.LineLemmas.{no_whole, not_whole}
 use Rattle.rob_tree.proofs.lines.read_whole.Goals as goal
 
 pub returns-in-None-clause-whole : goal.returns-in-None-clause-whole

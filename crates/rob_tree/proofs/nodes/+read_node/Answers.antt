@@ -1,7 +1,7 @@
 use Rattle.std.proofs.Common.{arith}
 use Rattle.rob_cert.specs.View.{status_of}
 use Rattle.rob_model.specs.View.{robust}
-use Rattle.rob_tree.proofs.NodeSteps.{above_cause, below_cause, both_joined, branch_read, head_told, leaf_told, second_shorter, second_small}
+use Rattle.rob_tree.proofs.Readers.NodeSteps.{above_cause, below_cause, both_joined, branch_read, head_told, leaf_told, second_shorter, second_small}
 use Rattle.rob_tree.proofs.nodes.+read_node.Goals as goal
 
 pub returns-in-Err-clause-fault : goal.returns-in-Err-clause-fault

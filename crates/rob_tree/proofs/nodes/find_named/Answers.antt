@@ -3,7 +3,7 @@ use Rattle.std.specs.Cmp.Lexicographic.{other_text, same_text}
 use Rattle.std.specs.Prelude.{slice_index_or}
 use Rattle.rob_cert.specs.Spelling.{name_at}
 use Rattle.rob_meaning.specs.Names.{Name}
-use Rattle.rob_tree.proofs.NamedLemmas.{none_more, number_in}
+use Rattle.rob_tree.proofs.Numbers.NamedLemmas.{none_more, number_in}
 use Rattle.rob_tree.proofs.nodes.find_named.Goals as goal
 
 pub returns-then-eq : goal.returns-then-eq

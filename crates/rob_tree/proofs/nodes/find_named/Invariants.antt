@@ -1,6 +1,6 @@
 use Rattle.std.proofs.Common.{drop}
 use Rattle.rob_cert.specs.NamesView.{naming}
-use Rattle.rob_tree.proofs.NamedLemmas.{NoneHas}
+use Rattle.rob_tree.proofs.Numbers.NamedLemmas.{NoneHas}
 use Rattle.rob_tree.proofs.nodes.find_named.Given as goal
 
 -- where none of the rest has the name, none of all has it

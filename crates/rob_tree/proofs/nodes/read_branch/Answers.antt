@@ -1,7 +1,7 @@
 use Rattle.std.proofs.Common.{ap, length}
 use Rattle.rob_cert.specs.View.{status_of}
 use Rattle.rob_model.specs.View.{robust}
-use Rattle.rob_tree.proofs.LineLemmas.{no_node}
+use Rattle.rob_tree.proofs.Readers.LineLemmas.{no_node}
 use Rattle.rob_tree.proofs.nodes.read_branch.Goals as goal
 
 pub returns-in-None-clause-head : goal.returns-in-None-clause-head

@@ -1,7 +1,7 @@
 use Rattle.rob_cert.specs.NamesView.{naming}
 use Rattle.rob_cert.specs.View.{status_of}
 use Rattle.rob_model.specs.View.{robust}
-use Rattle.rob_tree.proofs.LineLemmas.{head_read, node_cause, node_missing}
+use Rattle.rob_tree.proofs.Readers.LineLemmas.{head_read, node_cause, node_missing}
 use Rattle.rob_tree.proofs.nodes.read_head.Goals as goal
 
 pub returns-in-None-clause-head : goal.returns-in-None-clause-head

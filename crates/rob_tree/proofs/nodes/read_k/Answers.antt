@@ -1,5 +1,5 @@
 use Rattle.std.proofs.Common.{◌∙◌}
-use Rattle.rob_tree.proofs.LineLemmas.{limit_word, told_limit}
+use Rattle.rob_tree.proofs.Readers.LineLemmas.{limit_word, told_limit}
 use Rattle.rob_tree.proofs.nodes.read_k.Goals as goal
 
 pub returns-then-k-LIMIT-clause-k : goal.returns-then-k-LIMIT-clause-k

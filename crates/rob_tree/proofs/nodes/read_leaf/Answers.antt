@@ -4,8 +4,8 @@ use Rattle.rob_cert.specs.Reading.{start}
 use Rattle.rob_cert.specs.Spelling.{naming_of}
 use Rattle.rob_cert.specs.View.{certificate_of}
 use Rattle.rob_model.specs.View.{robust}
-use Rattle.rob_tree.proofs.NodeSteps.{cause_within}
-use Rattle.rob_tree.proofs.ReadingLemmas.{line_ends_within}
+use Rattle.rob_tree.proofs.Readers.NodeSteps.{cause_within}
+use Rattle.rob_tree.proofs.Readers.ReadingLemmas.{line_ends_within}
 use Rattle.rob_tree.specs.Reading.{line_ends}
 use Rattle.rob_tree.proofs.nodes.read_leaf.Goals as goal
 

@@ -3,7 +3,7 @@ use Rattle.std.proofs.lemmas.List.{take-append-drop, take_rest}
 use Rattle.std.specs.Cmp.Lexicographic.{other_text, same_text}
 use Rattle.rob_cert.specs.Reading.{Lacks}
 use Rattle.rob_model.proofs.PartLemmas.{drop_past}
-use Rattle.rob_tree.proofs.CutLemmas.{cut_counted, cut_counted_all, cut_ends, cut_few, cut_goes_on, cut_nothing, cut_within}
+use Rattle.rob_tree.proofs.Readers.CutLemmas.{cut_counted, cut_counted_all, cut_ends, cut_few, cut_goes_on, cut_nothing, cut_within}
 use Rattle.rob_tree.proofs.part.certificate_part.Goals as goal
 
 pub overflow_add-count : goal.overflow_add-count

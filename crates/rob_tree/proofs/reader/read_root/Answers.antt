@@ -4,7 +4,7 @@ use Rattle.std.specs.Prelude.{nat_abs}
 use Rattle.rob_cert.specs.View.{status_of}
 use Rattle.rob_model.specs.View.{robust}
 use Rattle.rob_number.proofs.CastLemmas.{seen}
-use Rattle.rob_tree.proofs.ReaderLemmas.{root_cause_node, roots_cause, roots_read}
+use Rattle.rob_tree.proofs.Readers.ReaderLemmas.{root_cause_node, roots_cause, roots_read}
 use Rattle.rob_tree.specs.Parts.{HasNodeCause, IsNodeRead}
 use Rattle.rob_tree.specs.View.{node_of}
 use Rattle.rob_tree.proofs.reader.read_root.Goals as goal

@@ -1,7 +1,7 @@
 use Rattle.std.proofs.Common.{sym, subst}
 use Rattle.rob_cert.specs.View.{status_of}
 use Rattle.rob_model.specs.View.{robust}
-use Rattle.rob_tree.proofs.ReaderLemmas.{best_fits, text_best_cause, text_claim_cause, texts_cause, texts_read}
+use Rattle.rob_tree.proofs.Readers.ReaderLemmas.{best_fits, text_best_cause, text_claim_cause, texts_cause, texts_read}
 use Rattle.rob_tree.specs.Reading.{Breaks}
 use Rattle.rob_tree.proofs.reader.read_text.Goals as goal
 

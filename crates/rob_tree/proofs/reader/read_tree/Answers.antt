@@ -1,7 +1,7 @@
 use Rattle.rob_model.specs.View.{robust}
 use Rattle.rob_reach.proofs.RuleLemmas.{rules_kept}
-use Rattle.rob_tree.proofs.GoodNodes.{columns_inside}
-use Rattle.rob_tree.proofs.ReaderLemmas.{reads_exactly}
+use Rattle.rob_tree.proofs.Writing.GoodNodes.{columns_inside}
+use Rattle.rob_tree.proofs.Readers.ReaderLemmas.{reads_exactly}
 use Rattle.rob_tree.proofs.reader.read_tree.Goals as goal
 
 pub read_text-requires-clause-ready : goal.read_text-requires-clause-ready

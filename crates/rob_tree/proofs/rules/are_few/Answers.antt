@@ -1,7 +1,7 @@
 use Rattle.std.proofs.Common.{refl}
 use Rattle.rob_model.specs.View.{robust}
 use Rattle.rob_reach.specs.Ranges.{product_of_ranges}
-use Rattle.rob_tree.proofs.RangeLemmas.{product_more, product_over}
+use Rattle.rob_tree.proofs.Numbers.RangeLemmas.{product_more, product_over}
 use Rattle.rob_tree.proofs.rules.are_few.Goals as goal
 
 pub returns-in-None : goal.returns-in-None

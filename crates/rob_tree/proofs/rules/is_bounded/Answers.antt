@@ -1,4 +1,4 @@
-use Rattle.rob_tree.proofs.RangeLemmas.{tests_both, tests_lower, tests_past}
+use Rattle.rob_tree.proofs.Numbers.RangeLemmas.{tests_both, tests_lower, tests_past}
 use Rattle.rob_tree.proofs.rules.is_bounded.Goals as goal
 
 pub returns-then-is_some : goal.returns-then-is_some

@@ -1,7 +1,7 @@
 use Rattle.std.proofs.Common.{ap, sym, ◌∙◌}
 use Rattle.std.specs.Prelude.{Some, option_map}
 use Rattle.rob_reach.specs.Ranges.{range_between}
-use Rattle.rob_tree.proofs.RangeLemmas.{lacks_upper, range_here, range_past}
+use Rattle.rob_tree.proofs.Numbers.RangeLemmas.{lacks_upper, range_here, range_past}
 use Rattle.rob_tree.proofs.rules.range_at.Goals as goal
 
 pub returns-in-Some-Some : goal.returns-in-Some-Some

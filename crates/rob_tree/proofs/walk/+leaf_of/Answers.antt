@@ -2,7 +2,7 @@ use Rattle.std.proofs.Common.{◌≡◌, ◌∙◌, Some, None, ap, rules, sym}
 use Rattle.rob_cert.specs.View.{certificate_of}
 use Rattle.rob_reach.specs.Trees.{split}
 use Rattle.rob_tree.specs.View.{node_of}
-use Rattle.rob_tree.proofs.WalkLemmas.{first_leaf, first_open, leaf_left, walk_right}
+use Rattle.rob_tree.proofs.Numbers.WalkLemmas.{first_leaf, first_open, leaf_left, walk_right}
 use Rattle.rob_tree.proofs.walk.+leaf_of.Goals as goal
 
 pub returns-then-number-eq1 : goal.returns-then-number-eq1

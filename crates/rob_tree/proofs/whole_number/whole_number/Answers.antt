@@ -4,7 +4,7 @@ use Rattle.rob_algebra.specs.Width.{kept}
 use Rattle.rob_algebra.proofs.Parts.{of_int-one}
 use Rattle.rob_number.specs.Answer.{answer}
 use Rattle.rob_number.proofs.AnswerLaws.{ok_tells, ok_where_fits}
-use Rattle.rob_tree.proofs.WholeNumberLemmas.{whole_fits, whole_seen}
+use Rattle.rob_tree.proofs.Numbers.WholeNumberLemmas.{whole_fits, whole_seen}
 use Rattle.rob_tree.proofs.whole_number.whole_number.Goals as goal
 
 pub unwrap-requires : goal.unwrap-requires

@@ -1,13 +1,13 @@
 use Rattle.rob_reach.specs.Trees.{Node}
 use Rattle.std.proofs.Common.{◌≡◌, ℕ, List, rules, ◌<◌, ◌^◌, [], ◌∷◌, ◌++◌, codes, nat_abs, ap, sym, ◌∙◌, subst, arith}
 use Rattle.std.specs.Fmt.{signed_decimal}
-use Rattle.rob_cert.proofs.WriterLemmas.{on_ok}
+use Rattle.rob_cert.proofs.Writing.WriterLemmas.{on_ok}
 use Rattle.rob_cert.specs.Spelling.{name_at, naming_of, spaced}
 use Rattle.rob_cert.specs.View.{certificate_of}
 use Rattle.rob_meaning.specs.Names.{column_names}
 use Rattle.rob_model.specs.View.{robust}
 use Rattle.rob_number.proofs.CastLemmas.{seen}
-use Rattle.rob_tree.proofs.TreeWriterLemmas.{leaf_text, split_text}
+use Rattle.rob_tree.proofs.Writing.TreeWriterLemmas.{leaf_text, split_text}
 use Rattle.rob_tree.specs.TreeText.{IsSpelledWith, pieces, pieces_text}
 use Rattle.rob_tree.specs.View.{node_of}
 use Rattle.rob_tree.proofs.writer.+put_node.Goals as goal

@@ -2,8 +2,8 @@ use Rattle.std.proofs.Common.{◌++◌, ap, ◌∙◌, to_z-of_z}
 use Rattle.std.specs.Fmt.{signed_decimal}
 use Rattle.rob_meaning.specs.Names.{column_names}
 use Rattle.rob_model.specs.View.{robust}
-use Rattle.rob_cert.proofs.WriterLemmas.{on_ok}
-use Rattle.rob_tree.proofs.TreeWriterLemmas.{branch_line}
+use Rattle.rob_cert.proofs.Writing.WriterLemmas.{on_ok}
+use Rattle.rob_tree.proofs.Writing.TreeWriterLemmas.{branch_line}
 use Rattle.rob_tree.proofs.writer.put_branch.Goals as goal
 
 pub returns : goal.returns

@@ -1,5 +1,5 @@
 use Rattle.rob_model.specs.View.{robust}
-use Rattle.rob_tree.proofs.SpelledLemmas.{tree_spelled}
+use Rattle.rob_tree.proofs.BoxShapes.SpelledLemmas.{tree_spelled}
 use Rattle.rob_tree.specs.View.{tree_of}
 use Rattle.rob_tree.proofs.writer.write_tree.Goals as goal
 

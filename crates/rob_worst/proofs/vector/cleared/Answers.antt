@@ -1,4 +1,4 @@
-use Rattle.rob_sets.proofs.ClearingSteps.{whole_wide}
+use Rattle.rob_sets.proofs.WholeRows.ClearingSteps.{whole_wide}
 use Rattle.rob_worst.proofs.vector.cleared.Goals as goal
 
 pub returns-in-None-clause-wide : goal.returns-in-None-clause-wide

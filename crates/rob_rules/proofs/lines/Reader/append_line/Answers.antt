@@ -4,7 +4,7 @@ use Rattle.rob_syntax.specs.SeenSymbols.{seen_line}
 use Rattle.rob_syntax.specs.Seen.{seen_statement}
 use Rattle.rob_syntax.specs.Versions.{seen_version}
 use Rattle.rob_rules.specs.Stages.{stage_of}
-use Rattle.rob_rules.proofs.OneLine.{line_appended, no_statement_stops, seen_some, stopped_by}
+use Rattle.rob_rules.proofs.Steps.OneLine.{line_appended, no_statement_stops, seen_some, stopped_by}
 use Rattle.rob_rules.proofs.lines.Reader.append_line.Goals as goal
 
 pub returns-in_err-statement : goal.returns-in_err-statement

@@ -2,8 +2,8 @@ use Rattle.std.proofs.Common.{refl}
 use Rattle.rob_places.specs.Tests.{is_set}
 use Rattle.rob_syntax.specs.Known.{texts}
 use Rattle.rob_syntax.specs.Seen.{seen_statement}
-use Rattle.rob_rules.proofs.ExpandedLemmas.{stops_early, stops_late, late_only, expanded}
-use Rattle.rob_rules.proofs.IndicesLemmas.{within_named}
+use Rattle.rob_rules.proofs.Joining.ExpandedLemmas.{stops_early, stops_late, late_only, expanded}
+use Rattle.rob_rules.proofs.Judging.IndicesLemmas.{within_named}
 use Rattle.rob_rules.proofs.lines.Reader.expand_line.Goals as goal
 
 pub expand-requires : goal.expand-requires

@@ -1,5 +1,5 @@
 use Rattle.std.proofs.Common.{length, ap, arith}
-use Rattle.rob_rules.proofs.TakenLemmas.{fault_found, room_behind, room_in_front, taken}
+use Rattle.rob_rules.proofs.Steps.TakenLemmas.{fault_found, room_behind, room_in_front, taken}
 use Rattle.rob_rules.proofs.lines.Reader.judge_behind.Goals as goal
 
 pub slice_bounds-more-start : goal.slice_bounds-more-start

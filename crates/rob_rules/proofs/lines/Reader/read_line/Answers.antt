@@ -4,8 +4,8 @@ use Rattle.rob_syntax.specs.Known.{texts}
 use Rattle.rob_syntax.specs.SeenSymbols.{seen_line}
 use Rattle.rob_syntax.specs.Versions.{seen_version}
 use Rattle.rob_rules.specs.Stages.{stage_of}
-use Rattle.rob_rules.proofs.MoreLines.{read_nothing}
-use Rattle.rob_rules.proofs.OneLine.{count_fits, line_judged, room_behind, seen_some, some_symbols, stopped_by}
+use Rattle.rob_rules.proofs.Steps.MoreLines.{read_nothing}
+use Rattle.rob_rules.proofs.Steps.OneLine.{count_fits, line_judged, room_behind, seen_some, some_symbols, stopped_by}
 use Rattle.rob_rules.proofs.lines.Reader.read_line.Goals as goal
 
 pub returns-then-is_empty : goal.returns-then-is_empty

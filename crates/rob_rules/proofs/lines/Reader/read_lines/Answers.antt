@@ -3,7 +3,7 @@ use Rattle.rob_syntax.specs.Known.{texts}
 use Rattle.rob_syntax.specs.Symbols.{token_lines}
 use Rattle.rob_syntax.specs.Versions.{seen_version}
 use Rattle.rob_syntax.proofs.WordLemmas.{left, front_left, line_fits}
-use Rattle.rob_rules.proofs.MoreLines.{between_own, line_breaks, line_on, read_all, read_start, symbols_in}
+use Rattle.rob_rules.proofs.Steps.MoreLines.{between_own, line_breaks, line_on, read_all, read_start, symbols_in}
 use Rattle.rob_rules.proofs.lines.Reader.read_lines.Goals as goal
 
 pub overflow_add-line : goal.overflow_add-line

@@ -3,8 +3,8 @@ use Rattle.rob_syntax.specs.Known.{texts}
 use Rattle.rob_syntax.specs.Symbols.{token_lines}
 use Rattle.rob_syntax.specs.Versions.{seen_version}
 use Rattle.rob_syntax.proofs.WordLemmas.{left}
-use Rattle.rob_rules.proofs.MoreLines.{symbols_in}
-use Rattle.rob_rules.proofs.StageLemmas.{HasRead}
+use Rattle.rob_rules.proofs.Steps.MoreLines.{symbols_in}
+use Rattle.rob_rules.proofs.Steps.StageLemmas.{HasRead}
 use Rattle.rob_rules.proofs.lines.Reader.read_lines.Given as goal
 
 abbrev pub invariant-loop-rest : goal.invariant-loop-rest

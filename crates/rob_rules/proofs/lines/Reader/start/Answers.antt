@@ -2,7 +2,7 @@ use Rattle.std.proofs.Common.{◌≡◌, ℕ, false, length, refl, sym, ap, ◌�
 use Rattle.std.proofs.lemmas.List.{length-map}
 use Rattle.rob_syntax.specs.Symbols.{words_of}
 use Rattle.rob_rules.specs.Scopes.{start}
-use Rattle.rob_rules.proofs.StageLemmas.{starts}
+use Rattle.rob_rules.proofs.Steps.StageLemmas.{starts}
 use Rattle.rob_rules.proofs.lines.Reader.start.Goals as goal
 
 pub returns : goal.returns

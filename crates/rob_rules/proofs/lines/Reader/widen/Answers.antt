@@ -5,7 +5,7 @@ use Rattle.std.proofs.lemmas.List.{length-map}
 use Rattle.rob_syntax.specs.Known.{texts}
 use Rattle.rob_rules.specs.Scopes.{earlier_of}
 use Rattle.rob_rules.specs.Stages.{padded}
-use Rattle.rob_rules.proofs.PaddedLemmas.{widened_by}
+use Rattle.rob_rules.proofs.Joining.PaddedLemmas.{widened_by}
 use Rattle.rob_rules.proofs.lines.Reader.widen.Goals as goal
 
 pub returns : goal.returns

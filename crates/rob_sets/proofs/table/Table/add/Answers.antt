@@ -1,7 +1,7 @@
 use Rattle.std.specs.BTreeMap.{get}
 use Rattle.rob_algebra.specs.Fraction.{◌+ℚ◌}
 use Rattle.rob_number.proofs.AnswerLaws.{ok_tells}
-use Rattle.rob_sets.proofs.CellLemmas.{added_at}
+use Rattle.rob_sets.proofs.Cells.CellLemmas.{added_at}
 use Rattle.rob_sets.specs.Tables.{cell_cmp, numbers_of}
 use Rattle.rob_sets.proofs.table.Table.add.Goals as goal
 

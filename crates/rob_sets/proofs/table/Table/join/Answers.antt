@@ -4,7 +4,7 @@ use Rattle.std.specs.Map.Iter.{deref_pair}
 use Rattle.rob_algebra.specs.Fraction.{◌+ℚ◌}
 use Rattle.rob_meaning.specs.Values.{signed}
 use Rattle.rob_sets.specs.Tables.{numbers_of}
-use Rattle.rob_sets.proofs.EntryLemmas.{joined_step, joined_end, ordered_behind}
+use Rattle.rob_sets.proofs.Cells.EntryLemmas.{joined_step, joined_end, ordered_behind}
 use Rattle.rob_sets.proofs.table.Table.join.Goals as goal
 
 pub loop-cell-preserved : goal.loop-cell-preserved

@@ -2,7 +2,7 @@ use Rattle.std.specs.Prelude.{◌≡◌, ℕ}
 use Rattle.rob_number.specs.Counts.{NeverFell}
 use Rattle.rob_algebra.specs.Fraction.{◌+ℚ◌}
 use Rattle.rob_meaning.specs.Values.{signed}
-use Rattle.rob_sets.proofs.EntryLemmas.{AreOrdered, number_in}
+use Rattle.rob_sets.proofs.Cells.EntryLemmas.{AreOrdered, number_in}
 use Rattle.rob_sets.specs.Tables.{numbers_of}
 use Rattle.rob_sets.proofs.table.Table.join.Given as goal
 

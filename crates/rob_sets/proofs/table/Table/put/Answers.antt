@@ -2,7 +2,7 @@ use Rattle.std.proofs.Common.{ap, sym, ◌∙◌}
 use Rattle.std.specs.BTreeMap.{get}
 use Rattle.rob_algebra.specs.Fraction.{◌+ℚ◌}
 use Rattle.rob_algebra.specs.FractionLaws.{ℚ-zero-add}
-use Rattle.rob_sets.proofs.CellLemmas.{added_at}
+use Rattle.rob_sets.proofs.Cells.CellLemmas.{added_at}
 use Rattle.rob_sets.specs.Tables.{cell_cmp}
 use Rattle.rob_sets.proofs.table.Table.put.Goals as goal
 

@@ -1,4 +1,4 @@
-use Rattle.rob_sets.proofs.NumberLemmas.{kept_absent}
+use Rattle.rob_sets.proofs.Cells.NumberLemmas.{kept_absent}
 use Rattle.rob_sets.proofs.table.Table.raised.Goals as goal
 
 pub returns-in-None-clause-exact : goal.returns-in-None-clause-exact

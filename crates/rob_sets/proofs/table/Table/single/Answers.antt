@@ -7,7 +7,7 @@ use Rattle.rob_algebra.proofs.WidthLaws.{fits_not_wide}
 use Rattle.rob_number.specs.Counts.{Rose}
 use Rattle.rob_meaning.specs.Coefficients.{single}
 use Rattle.rob_sets.specs.Tables.{numbers_of}
-use Rattle.rob_sets.proofs.StopLemmas.{only_memory}
+use Rattle.rob_sets.proofs.Judging.StopLemmas.{only_memory}
 use Rattle.rob_sets.proofs.table.Table.single.Goals as goal
 
 pub returns-clause-number : goal.returns-clause-number

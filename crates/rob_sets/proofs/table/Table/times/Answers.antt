@@ -8,10 +8,10 @@ use Rattle.rob_number.specs.Counts.{Rose}
 use Rattle.rob_number.proofs.AnswerLaws.{ok_tells, err_tells}
 use Rattle.rob_sets.specs.Tables.{numbers_of}
 use Rattle.rob_sets.specs.declared.table.Cell.{Cell}
-use Rattle.rob_sets.proofs.EntryLemmas.{number_in}
-use Rattle.rob_sets.proofs.NumberLemmas.{number_fits}
-use Rattle.rob_sets.proofs.StopLemmas.{stops, stops_more}
-use Rattle.rob_sets.proofs.TimesLemmas.{first_begins, first_ends, product_wide, second_begins, second_ends, second_goes_on, sum_wide}
+use Rattle.rob_sets.proofs.Cells.EntryLemmas.{number_in}
+use Rattle.rob_sets.proofs.Cells.NumberLemmas.{number_fits}
+use Rattle.rob_sets.proofs.Judging.StopLemmas.{stops, stops_more}
+use Rattle.rob_sets.proofs.Products.TimesLemmas.{first_begins, first_ends, product_wide, second_begins, second_ends, second_goes_on, sum_wide}
 use Rattle.rob_sets.proofs.table.Table.times.Goals as goal
 
 pub loop-a-init : goal.loop-a-init

@@ -1,6 +1,6 @@
 use Rattle.rob_number.specs.Counts.{NeverFell}
 use Rattle.rob_sets.specs.Tables.{numbers_of}
-use Rattle.rob_sets.proofs.TimesLemmas.{FirstLeft, SecondLeft}
+use Rattle.rob_sets.proofs.Products.TimesLemmas.{FirstLeft, SecondLeft}
 use Rattle.rob_sets.proofs.table.Table.times.Given as goal
 
 -- the numbers so far, with the products of what is left of the first table, are the product

@@ -1,11 +1,11 @@
 use Rattle.std.proofs.Common.{◌+◌, ◌<◌, ◌≤◌, refl, subst, arith}
 use Rattle.rob_simplex.specs.Dictionaries.{positions}
-use Rattle.rob_simplex.proofs.Ranks.{IsSmall}
-use Rattle.rob_simplex.proofs.SecondPhase.{entering_free, not_spare, turn_second, turns_on, turns_fall, wide_second, ends_optimal}
-use Rattle.rob_simplex.proofs.EntryLemmas.{small_entries}
-use Rattle.rob_simplex.proofs.JudgingLemmas.{stands_own}
-use Rattle.rob_simplex.proofs.OwnEntries.{own_positive, keeps_positive}
-use Rattle.rob_simplex.proofs.Views.{positions_told, first_told, none_told}
+use Rattle.rob_simplex.proofs.Turns.Ranks.{IsSmall}
+use Rattle.rob_simplex.proofs.Turns.SecondPhase.{entering_free, not_spare, turn_second, turns_on, turns_fall, wide_second, ends_optimal}
+use Rattle.rob_simplex.proofs.Places.EntryLemmas.{small_entries}
+use Rattle.rob_simplex.proofs.Telling.JudgingLemmas.{stands_own}
+use Rattle.rob_simplex.proofs.Places.OwnEntries.{own_positive, keeps_positive}
+use Rattle.rob_simplex.proofs.Places.Views.{positions_told, first_told, none_told}
 use Rattle.rob_simplex.proofs.dictionary.Dictionary.advance.Goals as goal
 
 pub returns-in_default-clause-turned : goal.returns-in_default-clause-turned

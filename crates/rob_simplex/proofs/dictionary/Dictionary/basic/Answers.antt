@@ -1,7 +1,7 @@
 use Rattle.std.proofs.Common.{◌<◌, ◌^◌, ◌∙◌, ap, sym, subst}
 use Rattle.rob_table.proofs.Places.{read_at}
 use Rattle.rob_simplex.specs.Dictionaries.{Table, positions, columns_of}
-use Rattle.rob_simplex.proofs.ColumnLemmas.{basic_few}
+use Rattle.rob_simplex.proofs.Places.ColumnLemmas.{basic_few}
 use Rattle.rob_simplex.proofs.dictionary.Dictionary.basic.Goals as goal
 
 pub returns-clause-column : goal.returns-clause-column

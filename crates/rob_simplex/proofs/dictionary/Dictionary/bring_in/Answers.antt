@@ -1,11 +1,11 @@
 use Rattle.std.proofs.Common.{◌≡◌, ℕ, ◌+◌, ◌∙◌, sym, ap, subst, arith, min}
 use Rattle.rob_simplex.specs.Dictionaries.{positions, columns_of}
 use Rattle.rob_simplex.specs.Explicit.{IsPrepared, StopsFirst}
-use Rattle.rob_simplex.proofs.Prepared.{prepared}
-use Rattle.rob_simplex.proofs.ExplicitStart.{open_free, open_size, ready_free, begins_back, begins_refused, back_basis, back_columns}
-use Rattle.rob_simplex.proofs.OwnEntries.{clears_prepared}
-use Rattle.rob_simplex.proofs.Sizes.{sized_after}
-use Rattle.rob_simplex.proofs.Views.{auxiliary_told, auxiliary_free, free_as}
+use Rattle.rob_simplex.proofs.Turns.Prepared.{prepared}
+use Rattle.rob_simplex.proofs.Turns.ExplicitStart.{open_free, open_size, ready_free, begins_back, begins_refused, back_basis, back_columns}
+use Rattle.rob_simplex.proofs.Places.OwnEntries.{clears_prepared}
+use Rattle.rob_simplex.proofs.Places.Sizes.{sized_after}
+use Rattle.rob_simplex.proofs.Places.Views.{auxiliary_told, auxiliary_free, free_as}
 use Rattle.rob_simplex.proofs.dictionary.Dictionary.bring_in.Given.{Over}
 use Rattle.rob_simplex.proofs.dictionary.Dictionary.bring_in.Goals.{After-write_auxiliary}
 use Rattle.rob_simplex.proofs.dictionary.Dictionary.bring_in.Goals as goal

@@ -6,11 +6,11 @@ use Rattle.rob_table.specs.Tables.{row_at, bound_at, IsStopped}
 use Rattle.rob_table.proofs.Places.{read_at}
 use Rattle.rob_table.proofs.ClearingTops.{multiple_in}
 use Rattle.rob_simplex.specs.Dictionaries.{Table, ClearsTable, StopsTable}
-use Rattle.rob_simplex.proofs.RowEdits.{lent_bounds}
-use Rattle.rob_simplex.proofs.EditLemmas.{column_in}
-use Rattle.rob_simplex.proofs.TableClearing.{free_place, row_there, positive_entry, own_there, table_cleared, table_stopped, err_weaker, before, after}
-use Rattle.rob_simplex.proofs.Views.{can_clear}
-use Rattle.rob_simplex.proofs.Sizes.{sized_view}
+use Rattle.rob_simplex.proofs.Rows.RowEdits.{lent_bounds}
+use Rattle.rob_simplex.proofs.Rows.EditLemmas.{column_in}
+use Rattle.rob_simplex.proofs.Pivoting.TableClearing.{free_place, row_there, positive_entry, own_there, table_cleared, table_stopped, err_weaker, before, after}
+use Rattle.rob_simplex.proofs.Places.Views.{can_clear}
+use Rattle.rob_simplex.proofs.Places.Sizes.{sized_view}
 use Rattle.rob_simplex.proofs.dictionary.Dictionary.clear_others.Goals as goal
 
 pub load-requires : goal.load-requires

@@ -1,7 +1,7 @@
 use Rattle.std.proofs.Common.{◌≡◌, ◌+◌, ◌∙◌, refl, ap, subst, arith, pos}
 use Rattle.rob_simplex.specs.Dictionaries.{Table, positions, rows_of}
 use Rattle.rob_simplex.specs.FreeSlacks.{lead}
-use Rattle.rob_simplex.proofs.RatioLemmas.{first_found}
+use Rattle.rob_simplex.proofs.Leaving.RatioLemmas.{first_found}
 use Rattle.rob_simplex.proofs.dictionary.Dictionary.comes_before.Goals as goal
 
 pub returns-in-Some : goal.returns-in-Some

@@ -1,6 +1,6 @@
 use Rattle.std.proofs.Common.{◌≡◌, ◌≤◌, ◌+◌, ◌∙◌, refl, ap, subst, arith, pos, ◌*ℤ◌, ◌-ℤ◌}
 use Rattle.rob_simplex.specs.Dictionaries.{Table, positions, rows_of}
-use Rattle.rob_simplex.proofs.RatioLemmas.{later_found, none_found, zeros_more}
+use Rattle.rob_simplex.proofs.Leaving.RatioLemmas.{later_found, none_found, zeros_more}
 use Rattle.rob_simplex.proofs.dictionary.Dictionary.comes_before_tied.Goals as goal
 
 pub returns-in-Some : goal.returns-in-Some

@@ -1,7 +1,7 @@
 -- The slack entries before k are in the same ratio.
 use Rattle.std.specs.Prelude.{◌≡◌, ℕ, ◌<◌, ◌+◌, pos}
 use Rattle.rob_simplex.specs.Dictionaries.{rows_of}
-use Rattle.rob_simplex.proofs.RatioLemmas.{difference}
+use Rattle.rob_simplex.proofs.Leaving.RatioLemmas.{difference}
 use Rattle.rob_simplex.proofs.dictionary.Dictionary.comes_before_tied.Given as goal
 
 abbrev pub invariant-loop-k : goal.invariant-loop-k

@@ -1,7 +1,7 @@
 use Rattle.std.proofs.Common.{refl, ◌≡◌, ◌+◌, ◌∙◌, ap, sym, length, take, drop, ◌++◌}
 use Rattle.rob_simplex.specs.Dictionaries.{Table}
 use Rattle.rob_entries.proofs.WrittenRows.{written_back}
-use Rattle.rob_simplex.proofs.CopiedTables.{same_table, copied_sound}
+use Rattle.rob_simplex.proofs.Rows.CopiedTables.{same_table, copied_sound}
 use Rattle.rob_simplex.proofs.dictionary.Dictionary.copy_from.Goals as goal
 
 pub returns : goal.returns

@@ -1,7 +1,7 @@
 use Rattle.std.proofs.Common.{◌+◌, ◌∙◌, refl, ap, arith, length}
 use Rattle.rob_simplex.specs.Dictionaries.{with_limit}
-use Rattle.rob_simplex.proofs.CopiedTables.{same_table, raised_sound, place_within}
-use Rattle.rob_simplex.proofs.WrittenStarts.{sound_carry}
+use Rattle.rob_simplex.proofs.Rows.CopiedTables.{same_table, raised_sound, place_within}
+use Rattle.rob_simplex.proofs.Turns.WrittenStarts.{sound_carry}
 use Rattle.rob_simplex.proofs.dictionary.Dictionary.deepened.Goals as goal
 
 pub deepened-requires : goal.deepened-requires

@@ -1,7 +1,7 @@
 use Rattle.std.proofs.Common.{◌<◌, ◌≤◌, ◌+◌, ◌∙◌, ap, sym, subst, arith, length, nat_abs}
 use Rattle.rob_table.proofs.Places.{read_at}
 use Rattle.rob_simplex.specs.Dictionaries.{Table, positions, width_of, rows_of}
-use Rattle.rob_simplex.proofs.EntryLemmas.{near_value, own_value}
+use Rattle.rob_simplex.proofs.Places.EntryLemmas.{near_value, own_value}
 use Rattle.rob_simplex.proofs.dictionary.Dictionary.dense_entry.Goals as goal
 
 pub returns-then-place-self-clause-entry : goal.returns-then-place-self-clause-entry

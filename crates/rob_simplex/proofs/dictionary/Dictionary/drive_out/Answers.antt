@@ -2,8 +2,8 @@ use Rattle.std.proofs.Common.{◌∙◌, subst, inr}
 use Rattle.rob_number.proofs.CountLemmas.{only_later}
 use Rattle.rob_simplex.specs.Dictionaries.{columns_of}
 use Rattle.rob_simplex.specs.Explicit.{HasTurnedExplicit, StopsFirst}
-use Rattle.rob_simplex.proofs.FirstTurns.{explicit_leaves}
-use Rattle.rob_simplex.proofs.Sizes.{sized_after}
+use Rattle.rob_simplex.proofs.Turns.FirstTurns.{explicit_leaves}
+use Rattle.rob_simplex.proofs.Places.Sizes.{sized_after}
 use Rattle.rob_simplex.proofs.dictionary.Dictionary.drive_out.Goals as goal
 
 pub turn_explicit-requires : goal.turn_explicit-requires

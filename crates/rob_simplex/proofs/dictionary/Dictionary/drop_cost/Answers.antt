@@ -3,10 +3,10 @@ use Rattle.rob_linear.specs.Stages.{unit_row}
 use Rattle.rob_table.specs.Tables.{row_at}
 use Rattle.rob_table.specs.Lowering.{step_row}
 use Rattle.rob_simplex.specs.Dictionaries.{Table, positions, rows_of, width_of}
-use Rattle.rob_simplex.proofs.RowEdits.{sound_back}
-use Rattle.rob_simplex.proofs.EditLemmas.{table_with, other_read}
-use Rattle.rob_simplex.proofs.LoweredTables.{dropped_objective}
-use Rattle.rob_simplex.proofs.Sizes.{sized_view}
+use Rattle.rob_simplex.proofs.Rows.RowEdits.{sound_back}
+use Rattle.rob_simplex.proofs.Rows.EditLemmas.{table_with, other_read}
+use Rattle.rob_simplex.proofs.CostChange.LoweredTables.{dropped_objective}
+use Rattle.rob_simplex.proofs.Places.Sizes.{sized_view}
 use Rattle.rob_simplex.proofs.dictionary.Dictionary.drop_cost.Goals as goal
 
 pub invariant_of-self : goal.invariant_of-self

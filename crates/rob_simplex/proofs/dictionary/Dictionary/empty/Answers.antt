@@ -1,9 +1,9 @@
 use Rattle.std.proofs.Common.{◌≡◌, ◌≢◌, ◌⊎◌, ℕ, ◌<◌, ◌≤◌, ◌+◌, ◌∙◌, sym, subst, arith, length, pos}
 use Rattle.rob_table.proofs.Places.{read_at}
 use Rattle.rob_simplex.specs.Dictionaries.{Table, positions, rows_of, width_of}
-use Rattle.rob_simplex.proofs.EditLemmas.{table_with, column_in, emptied_zero, emptied_others}
-use Rattle.rob_simplex.proofs.Sizes.{sized_view}
-use Rattle.rob_simplex.proofs.Views.{column_free}
+use Rattle.rob_simplex.proofs.Rows.EditLemmas.{table_with, column_in, emptied_zero, emptied_others}
+use Rattle.rob_simplex.proofs.Places.Sizes.{sized_view}
+use Rattle.rob_simplex.proofs.Places.Views.{column_free}
 use Rattle.rob_simplex.proofs.dictionary.Dictionary.empty.Goals as goal
 
 pub returns-clause-zero : goal.returns-clause-zero

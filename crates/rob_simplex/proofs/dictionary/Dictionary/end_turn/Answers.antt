@@ -2,11 +2,11 @@ use Rattle.std.proofs.Common.{ℕ, ◌+◌, ◌<◌, ◌≤◌, subst, arith}
 use Rattle.std.proofs.lemmas.Result.{on_ok_weaker}
 use Rattle.rob_linear.specs.WideRows.{HasWideRow}
 use Rattle.rob_simplex.specs.Dictionaries.{positions, columns_of, StopsTable}
-use Rattle.rob_simplex.proofs.BrokenPivots.{spare_free, clears_again, cleared_free}
-use Rattle.rob_simplex.proofs.BegunTurns.{pivotable_turn, ended_again, refused_again}
-use Rattle.rob_simplex.proofs.Views.{spare_told}
-use Rattle.rob_simplex.proofs.Sizes.{sized_after}
-use Rattle.rob_simplex.proofs.TableClearing.{err_weaker}
+use Rattle.rob_simplex.proofs.Pivoting.BrokenPivots.{spare_free, clears_again, cleared_free}
+use Rattle.rob_simplex.proofs.Pivoting.BegunTurns.{pivotable_turn, ended_again, refused_again}
+use Rattle.rob_simplex.proofs.Places.Views.{spare_told}
+use Rattle.rob_simplex.proofs.Places.Sizes.{sized_after}
+use Rattle.rob_simplex.proofs.Pivoting.TableClearing.{err_weaker}
 use Rattle.rob_simplex.proofs.dictionary.Dictionary.end_turn.Goals as goal
 
 pub replace-requires-clause-free : goal.replace-requires-clause-free

@@ -3,10 +3,10 @@ use Rattle.std.proofs.lemmas.List.{length-set}
 use Rattle.rob_linear.specs.Beside.{exchanged}
 use Rattle.rob_table.proofs.Places.{read_at}
 use Rattle.rob_simplex.specs.Dictionaries.{Table, positions, rows_of, kept_row_of, width_of}
-use Rattle.rob_simplex.proofs.EditLemmas.{exchanged_table, exchanged_sound, exchanged_rows, exchanged_kept}
-use Rattle.rob_simplex.proofs.RowEdits.{lent_bounds, bounds_back, length_back}
-use Rattle.rob_simplex.proofs.Sizes.{sized_view}
-use Rattle.rob_simplex.proofs.Views.{position_in}
+use Rattle.rob_simplex.proofs.Rows.EditLemmas.{exchanged_table, exchanged_sound, exchanged_rows, exchanged_kept}
+use Rattle.rob_simplex.proofs.Rows.RowEdits.{lent_bounds, bounds_back, length_back}
+use Rattle.rob_simplex.proofs.Places.Sizes.{sized_view}
+use Rattle.rob_simplex.proofs.Places.Views.{position_in}
 use Rattle.rob_simplex.proofs.dictionary.Dictionary.exchange.Goals as goal
 
 pub invariant_of-self : goal.invariant_of-self

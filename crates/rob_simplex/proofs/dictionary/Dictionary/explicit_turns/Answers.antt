@@ -2,7 +2,7 @@ use Rattle.std.proofs.Common.{ℕ, ◌≤◌, IfErr, MatchResult, subst}
 use Rattle.rob_number.proofs.CountLemmas.{only_later}
 use Rattle.rob_simplex.specs.Dictionaries.{columns_of}
 use Rattle.rob_simplex.specs.Explicit.{FirstTurns, StopsFirst}
-use Rattle.rob_simplex.proofs.Sizes.{sized_after}
+use Rattle.rob_simplex.proofs.Places.Sizes.{sized_after}
 use Rattle.rob_simplex.proofs.dictionary.Dictionary.explicit_turns.Goals as goal
 
 pub drive_out-requires : goal.drive_out-requires

@@ -3,7 +3,7 @@ use lib.Signed.{◌≤ℤ◌}
 use Rattle.rob_table.specs.Tables.{row_at}
 use Rattle.rob_simplex.specs.Dictionaries.{Table, positions, columns_of, basic_columns, rows_of, FirstNegative}
 use Rattle.rob_entries.specs.Choices.{IsLowest}
-use Rattle.rob_simplex.proofs.EntryLemmas.{row_inside, is_first, is_none}
+use Rattle.rob_simplex.proofs.Places.EntryLemmas.{row_inside, is_first, is_none}
 use Rattle.rob_simplex.proofs.dictionary.Dictionary.first_negative.Goals as goal
 
 pub returns-then-best-auxiliary : goal.returns-then-best-auxiliary

@@ -1,8 +1,8 @@
 use Rattle.std.proofs.Common.{◌≡◌, ◌+◌, subst, arith}
 use Rattle.rob_simplex.specs.Dictionaries.{positions, IsFree}
 use Rattle.rob_simplex.specs.Explicit.{FirstTurns}
-use Rattle.rob_simplex.proofs.FirstTurns.{auxiliary_out, second_begins}
-use Rattle.rob_simplex.proofs.Sizes.{sized_after}
+use Rattle.rob_simplex.proofs.Turns.FirstTurns.{auxiliary_out, second_begins}
+use Rattle.rob_simplex.proofs.Places.Sizes.{sized_after}
 use Rattle.rob_simplex.proofs.dictionary.Dictionary.first_phase.Goals as goal
 
 pub empty-requires : goal.empty-requires

@@ -2,8 +2,8 @@ use Rattle.std.proofs.Common.{ℕ, ◌≤◌, IfErr, MatchResult, subst, inl}
 use Rattle.rob_number.proofs.CountLemmas.{only_later}
 use Rattle.rob_simplex.specs.Dictionaries.{columns_of}
 use Rattle.rob_simplex.specs.Explicit.{FirstTurns, StopsFirst}
-use Rattle.rob_simplex.proofs.FirstTurns.{starts_left, starts_beside}
-use Rattle.rob_simplex.proofs.Sizes.{sized_after}
+use Rattle.rob_simplex.proofs.Turns.FirstTurns.{starts_left, starts_beside}
+use Rattle.rob_simplex.proofs.Places.Sizes.{sized_after}
 use Rattle.rob_simplex.proofs.dictionary.Dictionary.first_turns_by.Goals as goal
 
 pub least-requires : goal.least-requires

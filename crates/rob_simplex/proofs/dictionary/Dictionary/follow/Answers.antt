@@ -2,7 +2,7 @@ use Rattle.std.proofs.Common.{◌≤◌, sym, subst, inl}
 use Rattle.rob_linear.specs.WideRows.{HasWideRow}
 use Rattle.rob_simplex.specs.Dictionaries.{columns_of}
 use Rattle.rob_simplex.specs.Explicit.{FirstEnds, StopsFirst}
-use Rattle.rob_simplex.proofs.JudgingLemmas.{wide_below}
+use Rattle.rob_simplex.proofs.Telling.JudgingLemmas.{wide_below}
 use Rattle.rob_simplex.proofs.dictionary.Dictionary.follow.Goals as goal
 
 pub improve_to_end-requires : goal.improve_to_end-requires

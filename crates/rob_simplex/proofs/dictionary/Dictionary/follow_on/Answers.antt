@@ -2,7 +2,7 @@ use Rattle.std.proofs.Common.{subst}
 use Rattle.rob_simplex.specs.declared.state.Cause.{Cause}
 use Rattle.rob_simplex.specs.Begun.{HasBegunAt}
 use Rattle.rob_simplex.specs.Phases.{InSecond}
-use Rattle.rob_simplex.proofs.BegunWork.{turn_row}
+use Rattle.rob_simplex.proofs.Pivoting.BegunWork.{turn_row}
 use Rattle.rob_simplex.proofs.dictionary.Dictionary.follow_on.Goals as goal
 
 pub follow_second-requires : goal.follow_second-requires

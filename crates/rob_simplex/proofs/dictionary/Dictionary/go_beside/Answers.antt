@@ -1,8 +1,8 @@
 use Rattle.std.proofs.Common.{subst}
 use Rattle.rob_number.proofs.CountLemmas.{only_later}
 use Rattle.rob_simplex.specs.Phases.{HasTurnedBeside}
-use Rattle.rob_simplex.proofs.BesideRows.{row_own}
-use Rattle.rob_simplex.proofs.Sizes.{sized_after}
+use Rattle.rob_simplex.proofs.Turns.BesideRows.{row_own}
+use Rattle.rob_simplex.proofs.Places.Sizes.{sized_after}
 use Rattle.rob_simplex.proofs.dictionary.Dictionary.go_beside.Goals as goal
 
 pub first_negative-requires-clause-own : goal.first_negative-requires-clause-own

@@ -7,8 +7,8 @@ use Rattle.rob_simplex.specs.Dictionaries.{positions, columns_of}
 use Rattle.rob_simplex.specs.Judging.{Tells}
 use Rattle.rob_simplex.specs.PathEnds.{PathStopsFrom}
 use Rattle.rob_simplex.specs.Phases.{EndsFrom}
-use Rattle.rob_simplex.proofs.JudgingLemmas.{wide_below_from, within_above}
-use Rattle.rob_simplex.proofs.NewCosts.{cost_refused}
+use Rattle.rob_simplex.proofs.Telling.JudgingLemmas.{wide_below_from, within_above}
+use Rattle.rob_simplex.proofs.CostChange.NewCosts.{cost_refused}
 use Rattle.rob_simplex.proofs.dictionary.Dictionary.go_on.Goals as goal
 
 pub put_on-requires-clause-cost : goal.put_on-requires-clause-cost

@@ -4,9 +4,9 @@ use Rattle.rob_linear.specs.WideRows.{HasWideRowFrom}
 use Rattle.rob_simplex.specs.Dictionaries.{columns_of}
 use Rattle.rob_simplex.specs.Begun.{StandsFrom}
 use Rattle.rob_simplex.specs.Phases.{HasTurned}
-use Rattle.rob_simplex.proofs.BegunTurns.{begun_where}
-use Rattle.rob_simplex.proofs.PathsFrom.{from_here, one_turn, ends_from, refused_from}
-use Rattle.rob_simplex.proofs.Sizes.{sized_same, sized_after}
+use Rattle.rob_simplex.proofs.Pivoting.BegunTurns.{begun_where}
+use Rattle.rob_simplex.proofs.Turns.PathsFrom.{from_here, one_turn, ends_from, refused_from}
+use Rattle.rob_simplex.proofs.Places.Sizes.{sized_same, sized_after}
 use Rattle.rob_simplex.proofs.dictionary.Dictionary.improve.Goals as goal
 
 pub returns-in-Ok-Optimal-clause-told : goal.returns-in-Ok-Optimal-clause-told

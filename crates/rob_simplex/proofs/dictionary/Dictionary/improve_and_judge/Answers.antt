@@ -3,9 +3,9 @@ use Rattle.rob_linear.specs.Paths.{LastFrom}
 use Rattle.rob_linear.specs.WideRows.{HasWideRowFrom}
 use Rattle.rob_simplex.specs.Dictionaries.{columns_of}
 use Rattle.rob_simplex.specs.Begun.{StandsFrom}
-use Rattle.rob_simplex.proofs.BegunTurns.{halts_begun}
-use Rattle.rob_simplex.proofs.Causes.{ends_wide_from}
-use Rattle.rob_simplex.proofs.JudgingLemmas.{stands_own, growing_low, quotient_first, told_wide_from, wide_below_from}
+use Rattle.rob_simplex.proofs.Pivoting.BegunTurns.{halts_begun}
+use Rattle.rob_simplex.proofs.Telling.Causes.{ends_wide_from}
+use Rattle.rob_simplex.proofs.Telling.JudgingLemmas.{stands_own, growing_low, quotient_first, told_wide_from, wide_below_from}
 use Rattle.rob_simplex.proofs.dictionary.Dictionary.improve_and_judge.Goals as goal
 
 pub judge-requires-clause-own : goal.judge-requires-clause-own

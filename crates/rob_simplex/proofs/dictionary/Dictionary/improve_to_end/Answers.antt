@@ -2,9 +2,9 @@ use Rattle.std.proofs.Common.{subst, Some, None}
 use Rattle.rob_simplex.specs.Dictionaries.{columns_of}
 use Rattle.rob_simplex.specs.Judging.{Tells}
 use Rattle.rob_simplex.specs.Phases.{EndsFrom}
-use Rattle.rob_simplex.proofs.BegunTurns.{halts_on}
-use Rattle.rob_simplex.proofs.Causes.{stops_on}
-use Rattle.rob_simplex.proofs.PathsFrom.{second_from, wide_from}
+use Rattle.rob_simplex.proofs.Pivoting.BegunTurns.{halts_on}
+use Rattle.rob_simplex.proofs.Telling.Causes.{stops_on}
+use Rattle.rob_simplex.proofs.Turns.PathsFrom.{second_from, wide_from}
 use Rattle.rob_simplex.proofs.dictionary.Dictionary.improve_to_end.Goals as goal
 
 pub improve_and_judge-requires : goal.improve_and_judge-requires

@@ -1,8 +1,8 @@
 use Rattle.std.proofs.Common.{◌+◌, refl, inl, inr, pos, neg_ℤ, false}
 use Rattle.rob_algebra.specs.IntegerOrder.{le_total}
 use Rattle.rob_simplex.specs.Dictionaries.{positions, rows_of}
-use Rattle.rob_simplex.proofs.LeastRows.{positive_of, below_negative}
-use Rattle.rob_simplex.proofs.RatioLemmas.{first_decides, apart}
+use Rattle.rob_simplex.proofs.Leaving.LeastRows.{positive_of, below_negative}
+use Rattle.rob_simplex.proofs.Leaving.RatioLemmas.{first_decides, apart}
 use Rattle.rob_simplex.proofs.dictionary.Dictionary.is_below_best.Goals as goal
 
 pub returns-then-not-is_below_zero-clause-decides : goal.returns-then-not-is_below_zero-clause-decides

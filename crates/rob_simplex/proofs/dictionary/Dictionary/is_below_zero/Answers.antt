@@ -2,7 +2,7 @@ use Rattle.std.proofs.Common.{◌≡◌, ◌+◌, ◌∙◌, refl, ap, sym, subs
 use lib.IntN.{ℤ}
 use lib.Signed.{◌<ℤ◌}
 use Rattle.rob_simplex.specs.Dictionaries.{Table, positions, rows_of}
-use Rattle.rob_simplex.proofs.LeastRows.{negative_of, positive_of}
+use Rattle.rob_simplex.proofs.Leaving.LeastRows.{negative_of, positive_of}
 use Rattle.rob_simplex.proofs.dictionary.Dictionary.is_below_zero.Goals as goal
 
 pub returns-then-not-is_positive : goal.returns-then-not-is_positive

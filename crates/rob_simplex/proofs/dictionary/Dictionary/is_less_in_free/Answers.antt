@@ -1,7 +1,7 @@
 use Rattle.std.proofs.Common.{◌≡◌, ◌≢◌, ℕ, ◌+◌, ◌<◌, ◌≤◌, sym, subst, arith, length, get_or, pos}
 use Rattle.rob_simplex.specs.Dictionaries.{Table, positions, columns_of, rows_of}
-use Rattle.rob_simplex.proofs.EntryLemmas.{zero_beside}
-use Rattle.rob_simplex.proofs.Ties.{tied_more, tied_all, tied_below}
+use Rattle.rob_simplex.proofs.Places.EntryLemmas.{zero_beside}
+use Rattle.rob_simplex.proofs.Leaving.Ties.{tied_more, tied_all, tied_below}
 use Rattle.rob_simplex.proofs.dictionary.Dictionary.is_less_in_free.Goals as goal
 
 pub loop-k-preserved : goal.loop-k-preserved

@@ -1,5 +1,5 @@
 -- The listed columns so far don't decide.
-use Rattle.rob_simplex.proofs.Ties.{Tied}
+use Rattle.rob_simplex.proofs.Leaving.Ties.{Tied}
 use Rattle.rob_simplex.proofs.dictionary.Dictionary.is_less_in_free.Given as goal
 
 abbrev pub invariant-loop-k : goal.invariant-loop-k

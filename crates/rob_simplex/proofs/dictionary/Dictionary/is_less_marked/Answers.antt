@@ -2,7 +2,7 @@ use Rattle.std.proofs.Common.{◌≡◌, ◌+◌, ap, subst, pos}
 use Rattle.std.specs.Option.{MatchOption}
 use Rattle.rob_simplex.specs.Dictionaries.{Table, Decided, rows_of}
 use Rattle.rob_simplex.specs.FreeSlacks.{lead}
-use Rattle.rob_simplex.proofs.RatioLemmas.{both_zero}
+use Rattle.rob_simplex.proofs.Leaving.RatioLemmas.{both_zero}
 use Rattle.rob_simplex.proofs.dictionary.Dictionary.is_less_marked.Goals as goal
 
 pub returns-then-is_some_in : goal.returns-then-is_some_in

@@ -3,7 +3,7 @@ use lib.IntN.{ℤ}
 use lib.Signed.{◌<ℤ◌}
 use Rattle.rob_simplex.specs.Dictionaries.{positions, rows_of}
 use Rattle.rob_simplex.specs.LeastRows.{IsLower}
-use Rattle.rob_simplex.proofs.LeastRows.{negative_of, positive_of}
+use Rattle.rob_simplex.proofs.Leaving.LeastRows.{negative_of, positive_of}
 use Rattle.rob_simplex.proofs.dictionary.Dictionary.is_lower.Goals as goal
 
 pub returns-then-not-is_positive-clause-decides : goal.returns-then-not-is_positive-clause-decides

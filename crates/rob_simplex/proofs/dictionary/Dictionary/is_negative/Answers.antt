@@ -1,8 +1,8 @@
 use Rattle.std.proofs.Common.{◌≡◌, ◌+◌, ◌∙◌, sym, subst, ap, arith, pos, neg_ℤ}
 use lib.IntN.{ℤ}
 use Rattle.rob_simplex.specs.Dictionaries.{Table, positions, rows_of, Decided}
-use Rattle.rob_simplex.proofs.RatioLemmas.{zeros_more}
-use Rattle.rob_simplex.proofs.LeastRows.{right_decides, slack_decides, none_decides}
+use Rattle.rob_simplex.proofs.Leaving.RatioLemmas.{zeros_more}
+use Rattle.rob_simplex.proofs.Leaving.LeastRows.{right_decides, slack_decides, none_decides}
 use Rattle.rob_simplex.proofs.dictionary.Dictionary.is_negative.Goals as goal
 
 pub returns-in-Some : goal.returns-in-Some

@@ -1,7 +1,7 @@
 use Rattle.std.proofs.Common.{◌<◌, ◌+◌, ◌∙◌, ap, sym, subst, arith, length, pos}
 use Rattle.rob_table.proofs.Places.{read_at}
 use Rattle.rob_simplex.specs.Dictionaries.{Table, positions, width_of, rows_of}
-use Rattle.rob_simplex.proofs.EntryLemmas.{near_value}
+use Rattle.rob_simplex.proofs.Places.EntryLemmas.{near_value}
 use Rattle.rob_simplex.proofs.dictionary.Dictionary.is_some_in.Goals as goal
 
 pub returns-clause-i_zero : goal.returns-clause-i_zero

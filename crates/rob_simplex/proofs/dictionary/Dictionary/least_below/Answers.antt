@@ -1,7 +1,7 @@
 use Rattle.std.proofs.Common.{◌≡◌, ℕ, ◌+◌, ◌-◌, ◌∙◌, sym, subst, ap, arith, true, false, Some}
 use Rattle.rob_simplex.specs.Dictionaries.{Table, positions, rows_of}
 use Rattle.rob_simplex.specs.LeastRows.{IsBelowZero}
-use Rattle.rob_simplex.proofs.LeastRows.{IsLeastSoFar, least_begins, least_takes, least_keeps, least_of_all, may_be_least}
+use Rattle.rob_simplex.proofs.Leaving.LeastRows.{IsLeastSoFar, least_begins, least_takes, least_keeps, least_of_all, may_be_least}
 use Rattle.rob_simplex.proofs.dictionary.Dictionary.least_below.Goals as goal
 use Rattle.rob_simplex.proofs.dictionary.Dictionary.least_below.Goals.{then-is_below_best, else-is_below_best}
 

@@ -2,7 +2,7 @@
 use Rattle.std.specs.Prelude.{Some}
 use Rattle.rob_simplex.specs.Dictionaries.{positions, rows_of}
 use Rattle.rob_simplex.specs.LeastRows.{IsBelowZero}
-use Rattle.rob_simplex.proofs.LeastRows.{IsLeastSoFar}
+use Rattle.rob_simplex.proofs.Leaving.LeastRows.{IsLeastSoFar}
 use Rattle.rob_simplex.proofs.dictionary.Dictionary.least_below.Given as goal
 
 abbrev pub invariant-loop-passed : goal.invariant-loop-passed

@@ -1,6 +1,6 @@
 use Rattle.std.proofs.Common.{◌≡◌, ℕ, ◌+◌, ◌-◌, ◌∙◌, sym, subst, ap, arith, true, false, Option, None}
 use Rattle.rob_simplex.specs.Dictionaries.{Table, positions, rows_of}
-use Rattle.rob_simplex.proofs.LeastRows.{IsLeastSoFar, least_begins, least_takes, least_keeps, least_of_all, lowest_within}
+use Rattle.rob_simplex.proofs.Leaving.LeastRows.{IsLeastSoFar, least_begins, least_takes, least_keeps, least_of_all, lowest_within}
 use Rattle.rob_simplex.proofs.dictionary.Dictionary.least_negative.Goals as goal
 use Rattle.rob_simplex.proofs.dictionary.Dictionary.least_negative.Goals.{then-is_lower, else-is_lower}
 

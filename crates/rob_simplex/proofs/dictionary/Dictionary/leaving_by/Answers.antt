@@ -1,6 +1,6 @@
 use Rattle.std.proofs.Common.{◌≡◌, ℕ, ◌+◌, ◌-◌, ◌∙◌, sym, subst, ap, arith, true, false}
 use Rattle.rob_simplex.specs.Dictionaries.{Table, positions, rows_of, GoesFirst}
-use Rattle.rob_simplex.proofs.RatioTests.{IsFirstSoFar, first_takes, first_keeps, first_of_all}
+use Rattle.rob_simplex.proofs.Leaving.RatioTests.{IsFirstSoFar, first_takes, first_keeps, first_of_all}
 use Rattle.rob_simplex.proofs.dictionary.Dictionary.leaving_by.Goals as goal
 use Rattle.rob_simplex.proofs.dictionary.Dictionary.leaving_by.Goals.{then-goes_first, else-goes_first}
 

@@ -1,6 +1,6 @@
 -- best is the first of the rows that were looked at, the last k ones.
 use Rattle.rob_simplex.specs.Dictionaries.{positions, rows_of}
-use Rattle.rob_simplex.proofs.RatioTests.{IsFirstSoFar}
+use Rattle.rob_simplex.proofs.Leaving.RatioTests.{IsFirstSoFar}
 use Rattle.rob_simplex.proofs.dictionary.Dictionary.leaving_by.Given as goal
 
 abbrev pub invariant-loop-passed : goal.invariant-loop-passed

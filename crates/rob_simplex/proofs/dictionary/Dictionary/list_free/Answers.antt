@@ -2,7 +2,7 @@ use Rattle.std.proofs.Common.{◌≡◌, ◌+◌, ◌≤◌, ◌∙◌, sym, sub
 use Rattle.rob_entries.proofs.Listing.{IsListedTo, skip_place, list_place}
 use Rattle.rob_table.proofs.Places.{read_at}
 use Rattle.rob_simplex.specs.Dictionaries.{Table, positions, columns_of}
-use Rattle.rob_simplex.proofs.Ties.{free_row, free_zero, of_listed}
+use Rattle.rob_simplex.proofs.Leaving.Ties.{free_row, free_zero, of_listed}
 use Rattle.rob_simplex.proofs.dictionary.Dictionary.list_free.Goals.{then-place-first, else-place-first}
 use Rattle.rob_simplex.proofs.dictionary.Dictionary.list_free.Goals as goal
 

@@ -6,12 +6,12 @@ use Rattle.rob_table.specs.Lowering.{IsLowered, IsWideLowered}
 use Rattle.rob_table.proofs.Places.{read_at}
 use Rattle.rob_simplex.specs.Dictionaries.{Table, positions, rows_of, width_of, columns_of}
 use Rattle.rob_simplex.specs.Lowering.{HasWay, amount_of}
-use Rattle.rob_simplex.proofs.RowEdits.{lent_bounds, sound_back, sound_loaded}
-use Rattle.rob_simplex.proofs.EditLemmas.{table_with, column_in}
-use Rattle.rob_simplex.proofs.ReadRows.{read_same}
-use Rattle.rob_simplex.proofs.LoweredTables.{own_entry, way_there, lowered_table, wide_table}
-use Rattle.rob_simplex.proofs.Sizes.{sized_view}
-use Rattle.rob_simplex.proofs.Views.{column_free}
+use Rattle.rob_simplex.proofs.Rows.RowEdits.{lent_bounds, sound_back, sound_loaded}
+use Rattle.rob_simplex.proofs.Rows.EditLemmas.{table_with, column_in}
+use Rattle.rob_simplex.proofs.Rows.ReadRows.{read_same}
+use Rattle.rob_simplex.proofs.CostChange.LoweredTables.{own_entry, way_there, lowered_table, wide_table}
+use Rattle.rob_simplex.proofs.Places.Sizes.{sized_view}
+use Rattle.rob_simplex.proofs.Places.Views.{column_free}
 use Rattle.rob_simplex.proofs.dictionary.Dictionary.lower.Goals as goal
 
 pub lower_row-requires-clause-ready : goal.lower_row-requires-clause-ready

@@ -5,10 +5,10 @@ use Rattle.rob_table.specs.Lowering.{IsLowered, IsWideLowered}
 use Rattle.rob_simplex.specs.Dictionaries.{Table, positions, width_of, rows_of, StopsTable}
 use Rattle.rob_simplex.specs.Lowering.{amount_of}
 use Rattle.rob_rows.proofs.Reductions.{on_err}
-use Rattle.rob_simplex.proofs.OwnEntries.{keeps_lowered}
-use Rattle.rob_simplex.proofs.ReadRows.{basic_high}
-use Rattle.rob_simplex.proofs.ClearedObjective.{free2, open2, positive2, objective_cleared, objective_refused}
-use Rattle.rob_simplex.proofs.Sizes.{sized_after}
+use Rattle.rob_simplex.proofs.Places.OwnEntries.{keeps_lowered}
+use Rattle.rob_simplex.proofs.Rows.ReadRows.{basic_high}
+use Rattle.rob_simplex.proofs.CostChange.ClearedObjective.{free2, open2, positive2, objective_cleared, objective_refused}
+use Rattle.rob_simplex.proofs.Places.Sizes.{sized_after}
 use Rattle.rob_simplex.proofs.dictionary.Dictionary.lower_and_clear.Goals as goal
 
 pub lower-requires-clause-ready : goal.lower-requires-clause-ready

@@ -3,7 +3,7 @@ use lib.IntN.{ℤ, ◌*ℤ◌}
 use Rattle.rob_rows.specs.PrimitiveParts.{content}
 use Rattle.rob_linear.specs.Vectors.{at}
 use Rattle.rob_simplex.specs.Dictionaries.{Table, positions}
-use Rattle.rob_simplex.proofs.WeightLemmas.{within_from, take_whole}
+use Rattle.rob_simplex.proofs.Telling.WeightLemmas.{within_from, take_whole}
 use Rattle.rob_simplex.proofs.dictionary.Dictionary.lowest_slacks.Goals as goal
 
 pub reduce-requires-clause-within : goal.reduce-requires-clause-within

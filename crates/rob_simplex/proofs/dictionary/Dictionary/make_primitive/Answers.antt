@@ -1,4 +1,4 @@
-use Rattle.rob_simplex.proofs.Sizes.{sized_view}
+use Rattle.rob_simplex.proofs.Places.Sizes.{sized_view}
 use Rattle.rob_simplex.proofs.dictionary.Dictionary.make_primitive.Goals as goal
 
 pub returns-clause-sized : goal.returns-clause-sized

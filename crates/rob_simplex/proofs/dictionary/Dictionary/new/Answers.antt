@@ -2,8 +2,8 @@ use Rattle.std.proofs.Common.{◌≡◌, ◌∙◌, [], get_or, ℕ, ◌≤◌, 
 use Rattle.rob_linear.specs.Vectors.{at}
 use Rattle.rob_entries.proofs.WrittenRows.{back_whole, lent_length}
 use Rattle.rob_table.specs.Tables.{HasBounds}
-use Rattle.rob_simplex.proofs.StartLemmas.{IsNumbered, start_is_sound, zero_bounds}
-use Rattle.rob_simplex.proofs.WrittenStarts.{numbered_told, starting_told, sound_carry, starting_carry}
+use Rattle.rob_simplex.proofs.Turns.StartLemmas.{IsNumbered, start_is_sound, zero_bounds}
+use Rattle.rob_simplex.proofs.Turns.WrittenStarts.{numbered_told, starting_told, sound_carry, starting_carry}
 use Rattle.rob_simplex.proofs.dictionary.Dictionary.new.Given.{Over}
 use Rattle.rob_simplex.proofs.dictionary.Dictionary.new.Goals.{After-write_program}
 use Rattle.rob_simplex.proofs.dictionary.Dictionary.new.Goals as goal

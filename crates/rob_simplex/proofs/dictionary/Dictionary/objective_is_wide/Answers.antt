@@ -2,7 +2,7 @@ use Rattle.std.proofs.Common.{◌≡◌, ◌+◌, ap, ◌∙◌, arith}
 use Rattle.rob_algebra.specs.Width.{Fits}
 use Rattle.rob_simplex.specs.Dictionaries.{Table, positions}
 use Rattle.rob_simplex.specs.Judging.{ratio_of, objective_column}
-use Rattle.rob_simplex.proofs.JudgingLemmas.{value_is_wide, dual_is_wide, dual_fits, fits_more}
+use Rattle.rob_simplex.proofs.Telling.JudgingLemmas.{value_is_wide, dual_is_wide, dual_fits, fits_more}
 use Rattle.rob_simplex.proofs.dictionary.Dictionary.objective_is_wide.Goals as goal
 
 pub returns-then-is_wide_over-clause-wide : goal.returns-then-is_wide_over-clause-wide

@@ -1,7 +1,7 @@
 use Rattle.std.proofs.Common.{◌≡◌, ◌∙◌, ℕ, ap, subst, arith, List, set}
 use Rattle.rob_simplex.specs.Dictionaries.{positions, spare_column, IsExchanged}
-use Rattle.rob_simplex.proofs.PivotLemmas.{set_twice, free_begun}
-use Rattle.rob_simplex.proofs.Sizes.{sized_after}
+use Rattle.rob_simplex.proofs.Pivoting.PivotLemmas.{set_twice, free_begun}
+use Rattle.rob_simplex.proofs.Places.Sizes.{sized_after}
 use Rattle.rob_simplex.proofs.dictionary.Dictionary.pivot.Goals as goal
 
 pub replace-requires : goal.replace-requires

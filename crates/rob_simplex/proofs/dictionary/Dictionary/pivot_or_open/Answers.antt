@@ -1,10 +1,10 @@
 use Rattle.std.proofs.Common.{ℕ, ◌+◌, ◌<◌, ◌≤◌, ◌∙◌, ap, subst, arith}
 use Rattle.rob_simplex.specs.Dictionaries.{Table, positions, width_of, basic_columns, kept_row_of}
 use Rattle.rob_simplex.specs.Pivots.{RefusesPivot}
-use Rattle.rob_simplex.proofs.OwnEntries.{clears_opened}
-use Rattle.rob_simplex.proofs.PivotLemmas.{IsOpening, opening, closed_free, free_after, next_basis, pivoted, closed4, begun, refused, kept_cleared}
-use Rattle.rob_simplex.proofs.Views.{positions_told, spare_told, free_as}
-use Rattle.rob_simplex.proofs.Sizes.{sized_after}
+use Rattle.rob_simplex.proofs.Places.OwnEntries.{clears_opened}
+use Rattle.rob_simplex.proofs.Pivoting.PivotLemmas.{IsOpening, opening, closed_free, free_after, next_basis, pivoted, closed4, begun, refused, kept_cleared}
+use Rattle.rob_simplex.proofs.Places.Views.{positions_told, spare_told, free_as}
+use Rattle.rob_simplex.proofs.Places.Sizes.{sized_after}
 use Rattle.rob_simplex.proofs.dictionary.Dictionary.pivot_or_open.Given.{Over}
 use Rattle.rob_simplex.proofs.dictionary.Dictionary.pivot_or_open.Goals.{After-replace}
 use Rattle.rob_simplex.proofs.dictionary.Dictionary.pivot_or_open.Goals as goal

@@ -2,7 +2,7 @@ use Rattle.std.proofs.Common.{ℕ, ◌<◌, ◌+◌, ◌-◌, ◌∙◌, ap, sym
 use Rattle.rob_table.proofs.Places.{read_at}
 use Rattle.rob_simplex.specs.Dictionaries.{Table, positions}
 use Rattle.rob_simplex.specs.Solutions.{position_of}
-use Rattle.rob_simplex.proofs.ColumnLemmas.{nowhere, somewhere}
+use Rattle.rob_simplex.proofs.Places.ColumnLemmas.{nowhere, somewhere}
 use Rattle.rob_simplex.proofs.dictionary.Dictionary.position_of.Goals as goal
 
 pub returns-then-place-first-clause-position : goal.returns-then-place-first-clause-position

@@ -3,15 +3,15 @@ use Rattle.std.proofs.lemmas.Result.{on_ok_weaker, on_err_weaker}
 use Rattle.std.proofs.lemmas.Int.{ints, to_z-of_z}
 use lib.Signed.{◌<ℤ◌}
 use Rattle.rob_table.specs.Lowering.{IsLowered, IsWideLowered}
-use Rattle.rob_simplex.proofs.JudgingLemmas.{stands_own}
+use Rattle.rob_simplex.proofs.Telling.JudgingLemmas.{stands_own}
 use lib.IntN.{ℤ, pos}
 use Rattle.rob_linear.specs.Stages.{truncated}
 use Rattle.rob_simplex.specs.Dictionaries.{positions, width_of, rows_of}
 use Rattle.rob_simplex.specs.Lowering.{amount_of}
-use Rattle.rob_simplex.proofs.Positions.{position_is, position_not}
-use Rattle.rob_simplex.proofs.FreeColumns.{way_free, way_zero, column_free}
-use Rattle.rob_simplex.proofs.NewCosts.{nothing_put}
-use Rattle.rob_simplex.proofs.CostStages.{half_wide, next_lowered}
+use Rattle.rob_simplex.proofs.Places.Positions.{position_is, position_not}
+use Rattle.rob_simplex.proofs.Places.FreeColumns.{way_free, way_zero, column_free}
+use Rattle.rob_simplex.proofs.CostChange.NewCosts.{nothing_put}
+use Rattle.rob_simplex.proofs.CostChange.CostStages.{half_wide, next_lowered}
 use Rattle.rob_simplex.proofs.dictionary.Dictionary.put_in.Goals as goal
 
 pub lower-requires-clause-ready : goal.lower-requires-clause-ready

@@ -3,10 +3,10 @@ use Rattle.std.proofs.lemmas.Result.{on_ok_weaker, on_err_weaker}
 use Rattle.std.proofs.lemmas.Int.{to_z-of_z}
 use lib.IntN.{ℤ}
 use Rattle.rob_simplex.specs.Lowering.{HasRefusedCost}
-use Rattle.rob_simplex.proofs.FreeColumns.{spare_free}
-use Rattle.rob_simplex.proofs.BasicColumns.{next_cleared, refused_wide, free1, alone1, clears1, has_way, basis_back, refused_back, cleared_in_place}
-use Rattle.rob_simplex.proofs.Sizes.{sized_after}
-use Rattle.rob_simplex.proofs.Views.{spare_told, free_as}
+use Rattle.rob_simplex.proofs.Places.FreeColumns.{spare_free}
+use Rattle.rob_simplex.proofs.CostChange.BasicColumns.{next_cleared, refused_wide, free1, alone1, clears1, has_way, basis_back, refused_back, cleared_in_place}
+use Rattle.rob_simplex.proofs.Places.Sizes.{sized_after}
+use Rattle.rob_simplex.proofs.Places.Views.{spare_told, free_as}
 use Rattle.rob_simplex.proofs.dictionary.Dictionary.put_in_basic.Goals as goal
 
 pub replace-requires-clause-free : goal.replace-requires-clause-free

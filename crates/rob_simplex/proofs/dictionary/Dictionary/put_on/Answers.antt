@@ -8,8 +8,8 @@ use Rattle.rob_linear.specs.WideRows.{IsOwnWideAt}
 use Rattle.rob_simplex.specs.Dictionaries.{columns_of}
 use Rattle.rob_simplex.specs.Phases.{StandsFor}
 use Rattle.rob_number.proofs.CastLemmas.{seen_within}
-use Rattle.rob_simplex.proofs.NewCosts.{cost_dropped, all_put}
-use Rattle.rob_simplex.proofs.Sizes.{sized_after}
+use Rattle.rob_simplex.proofs.CostChange.NewCosts.{cost_dropped, all_put}
+use Rattle.rob_simplex.proofs.Places.Sizes.{sized_after}
 use Rattle.rob_simplex.proofs.dictionary.Dictionary.put_on.Goals as goal
 
 pub loop-k-init : goal.loop-k-init

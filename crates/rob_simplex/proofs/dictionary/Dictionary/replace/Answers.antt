@@ -2,11 +2,11 @@ use Rattle.std.proofs.Common.{◌≡◌, ℕ, ◌<◌, ◌≤◌, ◌+◌, ◌*�
 use Rattle.std.proofs.lemmas.List.{length-set}
 use Rattle.rob_table.proofs.Places.{read_at}
 use Rattle.rob_simplex.specs.Dictionaries.{Table, positions, columns_of, rows_of, kept_row_of, IsAlone, IsExchanged}
-use Rattle.rob_simplex.proofs.EntryLemmas.{small_entries}
-use Rattle.rob_simplex.proofs.Replacing.{first_in, left_in, place_low, made_sound, made_rows, made_kept, made_exchanged, made}
-use Rattle.rob_simplex.proofs.EditLemmas.{column_in}
-use Rattle.rob_simplex.proofs.Sizes.{sized_view}
-use Rattle.rob_simplex.proofs.Views.{position_in, column_free}
+use Rattle.rob_simplex.proofs.Places.EntryLemmas.{small_entries}
+use Rattle.rob_simplex.proofs.Pivoting.Replacing.{first_in, left_in, place_low, made_sound, made_rows, made_kept, made_exchanged, made}
+use Rattle.rob_simplex.proofs.Rows.EditLemmas.{column_in}
+use Rattle.rob_simplex.proofs.Places.Sizes.{sized_view}
+use Rattle.rob_simplex.proofs.Places.Views.{position_in, column_free}
 use Rattle.rob_simplex.proofs.dictionary.Dictionary.replace.Goals as goal
 
 pub swap-requires-clause-a_in : goal.swap-requires-clause-a_in

@@ -1,8 +1,8 @@
 use Rattle.std.proofs.Common.{◌≡◌, ℕ, suc, ◌+◌, ◌∙◌, subst, arith, length}
 use Rattle.rob_simplex.specs.Dictionaries.{Table, positions, rows_of, kept_row_of}
-use Rattle.rob_simplex.proofs.RowEdits.{lent_bounds, sound_back}
-use Rattle.rob_simplex.proofs.EditLemmas.{table_with, copied_between}
-use Rattle.rob_simplex.proofs.Sizes.{sized_view}
+use Rattle.rob_simplex.proofs.Rows.RowEdits.{lent_bounds, sound_back}
+use Rattle.rob_simplex.proofs.Rows.EditLemmas.{table_with, copied_between}
+use Rattle.rob_simplex.proofs.Places.Sizes.{sized_view}
 use Rattle.rob_simplex.proofs.dictionary.Dictionary.restore_objective.Goals as goal
 
 pub invariant_of-self : goal.invariant_of-self

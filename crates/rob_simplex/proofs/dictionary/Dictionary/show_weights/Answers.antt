@@ -1,5 +1,5 @@
 use Rattle.std.proofs.Common.{◌∙◌}
-use Rattle.rob_simplex.proofs.WeightLemmas.{row_low, row_free, shown_weights}
+use Rattle.rob_simplex.proofs.Telling.WeightLemmas.{row_low, row_free, shown_weights}
 use Rattle.rob_simplex.proofs.dictionary.Dictionary.show_weights.Goals as goal
 
 pub lowest_slacks-requires-clause-row_in : goal.lowest_slacks-requires-clause-row_in

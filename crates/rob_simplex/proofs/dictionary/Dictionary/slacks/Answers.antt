@@ -3,7 +3,7 @@ use lib.IntN.{ℤ}
 use Rattle.rob_linear.specs.Vectors.{at}
 use Rattle.rob_table.proofs.RowMoves.{set_size}
 use Rattle.rob_simplex.specs.Dictionaries.{Table, positions, rows_of}
-use Rattle.rob_simplex.proofs.WeightLemmas.{slack_more}
+use Rattle.rob_simplex.proofs.Telling.WeightLemmas.{slack_more}
 use Rattle.rob_simplex.proofs.dictionary.Dictionary.slacks.Goals as goal
 
 pub loop-i-preserved : goal.loop-i-preserved

@@ -1,7 +1,7 @@
 use Rattle.std.proofs.Common.{◌≡◌, ◌∙◌, refl, ap, sym, subst, arith, inl, inr, pos, true, false, get_or}
 use Rattle.std.proofs.lemmas.Bool.{cases_eq}
 use Rattle.rob_simplex.specs.Dictionaries.{Table, positions, rows_of}
-use Rattle.rob_simplex.proofs.KnownRows.{not_off}
+use Rattle.rob_simplex.proofs.Leaving.KnownRows.{not_off}
 use Rattle.rob_simplex.proofs.dictionary.Dictionary.spare.Goals as goal
 
 pub returns-then-not-is_any_known : goal.returns-then-not-is_any_known

@@ -1,5 +1,5 @@
 use Rattle.std.proofs.Common.{◌∙◌, arith}
-use Rattle.rob_simplex.proofs.ToldRows.{growing_in, own_in, own_positive, right_in, told_point, told_ray, told_slack, told_wide_point, told_wide_ray}
+use Rattle.rob_simplex.proofs.Telling.ToldRows.{growing_in, own_in, own_positive, right_in, told_point, told_ray, told_slack, told_wide_point, told_wide_ray}
 use Rattle.rob_simplex.proofs.dictionary.Dictionary.tells_wide.Goals as goal
 
 pub overflow_add-self-inside : goal.overflow_add-self-inside

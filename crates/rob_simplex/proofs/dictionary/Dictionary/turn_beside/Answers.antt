@@ -1,11 +1,11 @@
 use Rattle.std.proofs.Common.{◌≡◌, ◌+◌, ◌∙◌, ap, subst, arith}
 use Rattle.rob_simplex.specs.Dictionaries.{Table, positions}
-use Rattle.rob_simplex.proofs.OwnEntries.{keeps_rows, keeps_positive, beside_positive}
-use Rattle.rob_simplex.proofs.Ranks.{IsSmall}
-use Rattle.rob_simplex.proofs.EntryLemmas.{small_entries}
-use Rattle.rob_simplex.proofs.FirstPhase.{negated_free, negated_closed, negated_positive, leaves_beside, stays_beside, falls_beside, open_beside}
-use Rattle.rob_simplex.proofs.Sizes.{sized_after}
-use Rattle.rob_simplex.proofs.KnownRows.{forgotten, known_pivoted, known_exchanged}
+use Rattle.rob_simplex.proofs.Places.OwnEntries.{keeps_rows, keeps_positive, beside_positive}
+use Rattle.rob_simplex.proofs.Turns.Ranks.{IsSmall}
+use Rattle.rob_simplex.proofs.Places.EntryLemmas.{small_entries}
+use Rattle.rob_simplex.proofs.Turns.FirstPhase.{negated_free, negated_closed, negated_positive, leaves_beside, stays_beside, falls_beside, open_beside}
+use Rattle.rob_simplex.proofs.Places.Sizes.{sized_after}
+use Rattle.rob_simplex.proofs.Leaving.KnownRows.{forgotten, known_pivoted, known_exchanged}
 use Rattle.rob_simplex.proofs.dictionary.Dictionary.turn_beside.Goals as goal
 
 pub pivot_or_open-requires : goal.pivot_or_open-requires

@@ -4,11 +4,11 @@ use Rattle.std.proofs.lemmas.Bool.Decides.{nat_tests}
 use lib.Signed.{◌≤ℤ◌}
 use Rattle.rob_simplex.specs.Dictionaries.{Table, positions, columns_of, basic_columns, rows_of}
 use Rattle.rob_simplex.specs.Explicit.{EndsExplicit, HasTurnedExplicit, StopsFirst}
-use Rattle.rob_simplex.proofs.Ranks.{IsSmall}
-use Rattle.rob_simplex.proofs.EntryLemmas.{small_entries}
-use Rattle.rob_simplex.proofs.OwnEntries.{keeps_explicit}
-use Rattle.rob_simplex.proofs.ExplicitTurns.{explicit_own, explicit_free, explicit_not_spare, explicit_bounded, explicit_turned, explicit_refused, kept_spare}
-use Rattle.rob_simplex.proofs.Views.{positions_told, first_told, none_told}
+use Rattle.rob_simplex.proofs.Turns.Ranks.{IsSmall}
+use Rattle.rob_simplex.proofs.Places.EntryLemmas.{small_entries}
+use Rattle.rob_simplex.proofs.Places.OwnEntries.{keeps_explicit}
+use Rattle.rob_simplex.proofs.Turns.ExplicitTurns.{explicit_own, explicit_free, explicit_not_spare, explicit_bounded, explicit_turned, explicit_refused, kept_spare}
+use Rattle.rob_simplex.proofs.Places.Views.{positions_told, first_told, none_told}
 use Rattle.rob_simplex.proofs.dictionary.Dictionary.turn_explicit.Goals as goal
 
 pub first_negative-requires-clause-own : goal.first_negative-requires-clause-own

@@ -2,8 +2,8 @@ use Rattle.std.proofs.Common.{◌≡◌, ◌≢◌, ℕ, suc, ◌<◌, ◌+◌, 
 use Rattle.rob_table.specs.Tables.{row_at}
 use Rattle.rob_table.proofs.Places.{read_at}
 use Rattle.rob_simplex.specs.Dictionaries.{Table, positions, columns_of, rows_of, kept_row_of, width_of, IsFree}
-use Rattle.rob_simplex.proofs.RowEdits.{lent_bounds, sound_back}
-use Rattle.rob_simplex.proofs.EditLemmas.{table_with, column_in, unit_auxiliary, unit_objective, unit_else, other_read}
+use Rattle.rob_simplex.proofs.Rows.RowEdits.{lent_bounds, sound_back}
+use Rattle.rob_simplex.proofs.Rows.EditLemmas.{table_with, column_in, unit_auxiliary, unit_objective, unit_else, other_read}
 use Rattle.rob_simplex.proofs.dictionary.Dictionary.write_auxiliary.Goals as goal
 
 pub invariant_of-self : goal.invariant_of-self

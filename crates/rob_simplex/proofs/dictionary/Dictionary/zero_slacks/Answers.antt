@@ -2,7 +2,7 @@ use Rattle.std.proofs.Common.{◌≡◌, ℕ, ◌<◌, ◌≤◌, ◌+◌, sym, 
 use Rattle.rob_table.specs.Tables.{row_at}
 use Rattle.rob_table.proofs.Places.{read_at}
 use Rattle.rob_simplex.specs.Dictionaries.{Table, positions, columns_of, rows_of}
-use Rattle.rob_simplex.proofs.EntryLemmas.{zeros_before}
+use Rattle.rob_simplex.proofs.Places.EntryLemmas.{zeros_before}
 use Rattle.rob_simplex.proofs.dictionary.Dictionary.zero_slacks.Goals as goal
 
 pub returns-clause-few : goal.returns-clause-few

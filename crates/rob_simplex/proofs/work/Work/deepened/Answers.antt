@@ -1,7 +1,7 @@
 use Rattle.std.proofs.Common.{◌∙◌, sym, ap, subst}
 use Rattle.rob_simplex.specs.Dictionaries.{with_limit}
 use Rattle.rob_simplex.specs.Solvers.{Solver, HasWeights}
-use Rattle.rob_simplex.proofs.Deepened.{deepened_sound}
+use Rattle.rob_simplex.proofs.Rows.Deepened.{deepened_sound}
 use Rattle.rob_simplex.proofs.work.Work.deepened.Goals as goal
 
 pub invariant_of-result : goal.invariant_of-result

@@ -1,10 +1,10 @@
 use Rattle.std.proofs.Common.{sym, ap, ◌∙◌, subst}
 use Rattle.rob_simplex.specs.Solvers.{Solver}
-use Rattle.rob_simplex.proofs.JudgingLemmas.{limit_below}
-use Rattle.rob_simplex.proofs.Solving.{sound_untold, untold}
-use Rattle.rob_simplex.proofs.TellLemmas.{is_told}
-use Rattle.rob_simplex.proofs.BegunWork.{begun_here, begun_rows, begun_stopped}
-use Rattle.rob_simplex.proofs.Sizes.{sized_view, sized_after}
+use Rattle.rob_simplex.proofs.Telling.JudgingLemmas.{limit_below}
+use Rattle.rob_simplex.proofs.Telling.Solving.{sound_untold, untold}
+use Rattle.rob_simplex.proofs.Telling.TellLemmas.{is_told}
+use Rattle.rob_simplex.proofs.Pivoting.BegunWork.{begun_here, begun_rows, begun_stopped}
+use Rattle.rob_simplex.proofs.Places.Sizes.{sized_view, sized_after}
 use Rattle.rob_simplex.proofs.work.Work.go_on.Goals as goal
 
 pub cause-cause-requires : goal.cause-cause-requires

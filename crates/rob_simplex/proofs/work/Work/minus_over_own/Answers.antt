@@ -4,7 +4,7 @@ use Rattle.rob_algebra.specs.Fraction.{of_pair}
 use Rattle.rob_algebra.specs.Width.{Fits}
 use Rattle.rob_simplex.specs.Dictionaries.{columns_of, rows_of}
 use Rattle.rob_simplex.specs.Solvers.{Solver, IsSound}
-use Rattle.rob_simplex.proofs.JudgingLemmas.{fits_minus}
+use Rattle.rob_simplex.proofs.Telling.JudgingLemmas.{fits_minus}
 use Rattle.rob_simplex.proofs.work.Work.minus_over_own.Goals as goal
 
 pub quotient-requires-clause-positive : goal.quotient-requires-clause-positive

@@ -2,8 +2,8 @@ use Rattle.std.proofs.Common.{◌≡◌, ◌≢◌, ◌<◌, ◌≤◌, sym, ◌
 use Rattle.rob_algebra.specs.Fraction.{of_pair}
 use Rattle.rob_simplex.specs.Solvers.{Solver, positions, IsSound, column_of, has_point}
 use Rattle.rob_simplex.specs.Solutions.{position_of}
-use Rattle.rob_simplex.proofs.Quotients.{unit_fits}
-use Rattle.rob_simplex.proofs.Told.{fits_ray, ray_none, ray_some, ray_here}
+use Rattle.rob_simplex.proofs.Telling.Quotients.{unit_fits}
+use Rattle.rob_simplex.proofs.Telling.Told.{fits_ray, ray_none, ray_some, ray_here}
 use Rattle.rob_simplex.proofs.work.Work.ray.Goals as goal
 
 pub returns-then-j-column : goal.returns-then-j-column

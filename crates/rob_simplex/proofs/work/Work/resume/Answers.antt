@@ -8,11 +8,11 @@ use Rattle.rob_simplex.specs.declared.state.State.TheVariants.{Optimal, Unbounde
 use Rattle.rob_simplex.specs.declared.state.Cause.TheVariants.{Elsewhere}
 use Rattle.rob_simplex.specs.Dictionaries.{columns_of}
 use Rattle.rob_simplex.specs.PathEnds.{PathStopsFrom}
-use Rattle.rob_simplex.proofs.JudgingLemmas.{limit_below}
+use Rattle.rob_simplex.proofs.Telling.JudgingLemmas.{limit_below}
 use Rattle.rob_simplex.specs.Solvers.{Solver}
-use Rattle.rob_simplex.proofs.Solved.{optimum_from, ray_from}
-use Rattle.rob_simplex.proofs.Solving.{resumed_stands, ends_as, sound_optimal, sound_unbounded, sound_stopped}
-use Rattle.rob_simplex.proofs.Sizes.{sized_view, sized_after}
+use Rattle.rob_simplex.proofs.Telling.Solved.{optimum_from, ray_from}
+use Rattle.rob_simplex.proofs.Telling.Solving.{resumed_stands, ends_as, sound_optimal, sound_unbounded, sound_stopped}
+use Rattle.rob_simplex.proofs.Places.Sizes.{sized_view, sized_after}
 use Rattle.rob_simplex.proofs.work.Work.resume.Goals as goal
 
 pub go_on-requires : goal.go_on-requires

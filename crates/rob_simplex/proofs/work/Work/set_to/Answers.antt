@@ -1,6 +1,6 @@
 use Rattle.std.proofs.Common.{◌∙◌, sym, subst}
 use Rattle.rob_simplex.specs.Solvers.{Solver, IsSound}
-use Rattle.rob_simplex.proofs.CopiedTables.{same_solver}
+use Rattle.rob_simplex.proofs.Rows.CopiedTables.{same_solver}
 use Rattle.rob_simplex.proofs.work.Work.set_to.Goals as goal
 
 pub returns : goal.returns

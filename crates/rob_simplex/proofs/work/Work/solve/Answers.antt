@@ -1,9 +1,9 @@
 use Rattle.std.proofs.Common.{sym, ap, ◌∙◌, subst}
 use Rattle.rob_simplex.specs.Solvers.{Solver}
-use Rattle.rob_simplex.proofs.JudgingLemmas.{limit_below}
-use Rattle.rob_simplex.proofs.Solving.{made_start, sound_untold, untold}
-use Rattle.rob_simplex.proofs.TellLemmas.{is_told}
-use Rattle.rob_simplex.proofs.Sizes.{sized_view, sized_after}
+use Rattle.rob_simplex.proofs.Telling.JudgingLemmas.{limit_below}
+use Rattle.rob_simplex.proofs.Telling.Solving.{made_start, sound_untold, untold}
+use Rattle.rob_simplex.proofs.Telling.TellLemmas.{is_told}
+use Rattle.rob_simplex.proofs.Places.Sizes.{sized_view, sized_after}
 use Rattle.rob_simplex.proofs.work.Work.solve.Goals as goal
 
 pub follow-ended-requires : goal.follow-ended-requires

@@ -2,9 +2,9 @@ use Rattle.std.proofs.Common.{◌<◌, ◌≤◌, refl, ap, ◌∙◌, inl, inr,
 use Rattle.rob_linear.specs.Programs.{Program}
 use Rattle.rob_simplex.specs.declared.state.Cause.TheVariants.{Told}
 use Rattle.rob_simplex.specs.Solvers.{Solver}
-use Rattle.rob_simplex.proofs.TellLemmas.{told_as, told_err, caused_err, position_err, optimum_told, ray_told, optimum_sound, ray_sound, halted_told, limit_seen, weight_stops, weights_told, weights_sound}
-use Rattle.rob_simplex.proofs.Solving.{sound_stopped}
-use Rattle.rob_simplex.proofs.Sizes.{sized_same, sized_view, sized_after}
+use Rattle.rob_simplex.proofs.Telling.TellLemmas.{told_as, told_err, caused_err, position_err, optimum_told, ray_told, optimum_sound, ray_sound, halted_told, limit_seen, weight_stops, weights_told, weights_sound}
+use Rattle.rob_simplex.proofs.Telling.Solving.{sound_stopped}
+use Rattle.rob_simplex.proofs.Places.Sizes.{sized_same, sized_view, sized_after}
 use Rattle.rob_simplex.proofs.work.Work.tell.Goals as goal
 
 -- ---- a point

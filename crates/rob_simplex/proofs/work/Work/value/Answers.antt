@@ -3,7 +3,7 @@ use lib.IntN.{nat_abs}
 use Rattle.rob_algebra.specs.Fraction.{of_pair}
 use Rattle.rob_simplex.specs.Dictionaries.{rows_of}
 use Rattle.rob_simplex.specs.Solvers.{Solver, positions, IsSound, has_point}
-use Rattle.rob_simplex.proofs.Told.{fits_value, value_told}
+use Rattle.rob_simplex.proofs.Telling.Told.{fits_value, value_told}
 use Rattle.rob_simplex.proofs.work.Work.value.Goals as goal
 
 pub returns : goal.returns

@@ -2,8 +2,8 @@ use Rattle.std.proofs.Common.{◌≡◌, ◌+◌, ◌<◌, ◌∙◌, ◌≤◌,
 use Rattle.rob_algebra.specs.Fraction.{of_pair}
 use Rattle.rob_simplex.specs.Solvers.{Solver, positions, IsSound}
 use Rattle.rob_simplex.specs.Solutions.{position_of}
-use Rattle.rob_simplex.proofs.Quotients.{unit_fits}
-use Rattle.rob_simplex.proofs.Told.{fits_point, point_none, point_some}
+use Rattle.rob_simplex.proofs.Telling.Quotients.{unit_fits}
+use Rattle.rob_simplex.proofs.Telling.Told.{fits_point, point_none, point_some}
 use Rattle.rob_simplex.proofs.work.Work.x.Goals as goal
 
 pub returns-in-None : goal.returns-in-None

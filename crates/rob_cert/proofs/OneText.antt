@@ -1,0 +1,11 @@
+-- Each text is that of one certificate, or breaks one rule.
+pub mod ApartLemmas
+pub mod SpellingLaws
+pub mod OneBreach
+pub mod OneCertificate
+pub mod Decisions
+pub mod SomeEntries
+pub mod SomeCovers
+pub mod SomeItems
+pub mod SomeHead
+pub mod SomeCertificate

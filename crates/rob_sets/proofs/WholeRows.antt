@@ -1,0 +1,11 @@
+-- Rows, kind by kind, in whole numbers.
+pub mod BoundLemmas
+pub mod BoundRowLemmas
+pub mod BudgetLemmas
+pub mod BudgetSteps
+pub mod ClearingSteps
+pub mod LiftedLemmas
+pub mod MachineProducts
+pub mod RowLemmas
+pub mod StatementCounts
+pub mod StatementLemmas
