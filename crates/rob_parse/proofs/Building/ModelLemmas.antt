@@ -3,7 +3,7 @@ use Rattle.std.proofs.Common.{Bool, ◌≡◌, ℕ, ◌<◌, ◌≤◌, true, fa
 use Rattle.std.specs.Prelude.{◌&&◌, Option, Some, None}
 use Rattle.std.specs.List.{list_any, flat_map}
 use Rattle.rob_algebra.specs.Fraction.{◌<ℚ◌}
-use Rattle.rob_index.proofs.Names.NamingLemmas.{neither}
+use Rattle.std.proofs.lemmas.Bool.{or_parts}
 use Rattle.rob_meaning.specs.Places.{0ℚ, Each}
 use Rattle.rob_meaning.specs.RobustModel as model
 use Rattle.rob_meaning.specs.RobustModel.{RobustModel, AdaptiveVariable}
@@ -163,7 +163,7 @@ module _ (limit : ℕ) (low : 1 ≤ limit) (m : RobustModel) (f : Earlier)
 
       -- no name of a statement is unknown, and where it is of the set, none is a decision
       pub known_names : Free (is_unknown e.sorts) (statement_leaves s)
-      known_names = (neither (list_any (is_unknown e.sorts) (statement_leaves s)) _ (fault_free 1 (omega arith))).0
+      known_names = (or_parts (list_any (is_unknown e.sorts) (statement_leaves s)) _ (fault_free 1 (omega arith))).0
 
       pub other_names : is_of_set s ≡ true → Free (names_decision e.sorts) (statement_leaves s)
       other_names of_set =

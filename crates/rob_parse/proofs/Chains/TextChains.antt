@@ -3,7 +3,8 @@ use Rattle.std.proofs.Common.{◌≡◌, ℕ, ◌≤◌, false, List, [], ◌∷
 use Rattle.std.specs.List.{flat_map, list_any}
 use Rattle.rob_index.proofs.LinesRead.KeptLemmas.{all_of_lines}
 use Rattle.rob_index.proofs.Names.LineNames.{statement_refs}
-use Rattle.rob_index.proofs.Names.NamingLemmas.{all_short, names_of_refs, none_among, neither}
+use Rattle.std.proofs.lemmas.Bool.{or_parts}
+use Rattle.rob_index.proofs.Names.NamingLemmas.{all_short, names_of_refs, none_among}
 use Rattle.rob_index.specs.Expansion.{expand, word_at}
 use Rattle.rob_index.specs.Kept.{IsOfLine}
 use Rattle.rob_index.specs.Lines.{IsStatement}
@@ -143,7 +144,7 @@ module _ (limit : ℕ) (own : List Name) (v : Version) where
         let fine = seen_free ls free o.symbols o.line in
         let refs = statement_refs (IsFreeNumber own) v o.symbols s o.is fine in
         let out =
-        (neither (list_any has_great_digits (places s)) (list_any is_out (places s)) (o.faultless index_out)).1 in
+        (or_parts (list_any has_great_digits (places s)) (list_any is_out (places s)) (o.faultless index_out)).1 in
         let names = names_of_refs own (λ (r : Ref). IsFreeNumber own r.name) s refs out p o.expanded in
         let is = none_among is_no_statement (expand own s) p (o.faultless no_statement) o.expanded in
         record {

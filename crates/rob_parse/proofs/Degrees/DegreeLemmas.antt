@@ -15,7 +15,8 @@ use Rattle.rob_rules.specs.Faults.{has_two_decisions, has_two_uncertain, has_ran
 use Rattle.rob_parse.specs.Written.{named, expression, terms, factors}
 use Rattle.rob_syntax.specs.Trees.{Tree, number, name, sum, product, Summands, no_summands, summand, Operands, no_operands, operand}
 use Rattle.rob_parse.proofs.Names.SortLemmas.{Names}
-use Rattle.rob_index.proofs.Names.NamingLemmas.{none_both, neither}
+use Rattle.std.proofs.lemmas.Bool.{or_parts}
+use Rattle.rob_index.proofs.Names.NamingLemmas.{none_both}
 
 -- each name of a tree has the property
 module _ (P : ℕ → Type 0) where
@@ -53,14 +54,14 @@ at_most_one : (n : ℕ) → nat_lt 1 n ≡ false → n ≤ 1
 at_most_one n h = grind (arith, nat_tests)
 
 clean_one : (d : Degree) → Clean (d ∷ []) → (d.decision ≤ 1) × (d.uncertain ≤ 1)
-clean_one d c = (at_most_one d.decision (neither _ _ c.decisions).0, go d.recourse refl)
+clean_one d c = (at_most_one d.decision (or_parts _ _ c.decisions).0, go d.recourse refl)
   where
     go : (b : Bool) → d.recourse ≡ b → d.uncertain ≤ 1
     go true is =
-        at_most_one d.uncertain (ap (λ (r : Bool). r && nat_lt 1 d.uncertain) (sym is) ∙ (neither _ _ c.recourse).0)
+        at_most_one d.uncertain (ap (λ (r : Bool). r && nat_lt 1 d.uncertain) (sym is) ∙ (or_parts _ _ c.recourse).0)
     go false is =
         at_most_one d.uncertain (ap (λ (r : Bool). not r && nat_lt 1 d.uncertain) (sym is)
-        ∙ (neither _ _ c.uncertain).0)
+        ∙ (or_parts _ _ c.uncertain).0)
 
 module _ (m : RobustModel) (sorts before : List (Option Sort)) where
   -- a name that may be used stands for the same behind the last line, and names what exists

@@ -5,7 +5,7 @@ use Rattle.std.specs.List.{list_any}
 use Rattle.rob_algebra.specs.Fraction.{◌<ℚ◌}
 use Rattle.rob_algebra.specs.FractionPairs.{is_of_pair, pos_lt}
 use Rattle.rob_algebra.specs.PairOrder.{is_pos_in}
-use Rattle.rob_index.proofs.Names.NamingLemmas.{neither}
+use Rattle.std.proofs.lemmas.Bool.{or_parts}
 use Rattle.rob_meaning.specs.Places.{0ℚ, Each}
 use Rattle.rob_syntax.specs.declared.syntax.Member.{Member}
 use Rattle.rob_parse.specs.Building.{FitsMember}
@@ -27,5 +27,5 @@ pub deviations_positive : (limit : ℕ) (ms : List Member) → list_any is_certa
     → Each (λ (h : Member). 0ℚ <ℚ fraction h.spread.deviation) ms
 deviations_positive limit [] deviate fits = tt
 deviations_positive limit (h ∷ ms) deviate fits =
-    let b = neither (is_certain h) (list_any is_certain ms) deviate in
+    let b = or_parts (is_certain h) (list_any is_certain ms) deviate in
     (deviation_positive limit h b.0 fits.0, deviations_positive limit ms b.1 fits.1)

@@ -22,7 +22,8 @@ use Rattle.rob_rules.specs.Scopes.{Earlier, behind}
 use Rattle.rob_rules.specs.Chains.{Chain}
 use Rattle.rob_syntax.specs.Trees.{Tree, number, name, sum, product, Summands, no_summands, summand, Operands, no_operands, operand, tree_of}
 use Rattle.rob_rules.proofs.Judging.ReadingLemmas.{none_found}
-use Rattle.rob_index.proofs.Names.NamingLemmas.{none_both, neither}
+use Rattle.std.proofs.lemmas.Bool.{or_parts}
+use Rattle.rob_index.proofs.Names.NamingLemmas.{none_both}
 
 -- no number has digits over the limit, and none a divisor of 0
 record Fine (limit : ℕ) (ls : List Leaf) : Type 0 where
@@ -59,9 +60,9 @@ module _ (limit : ℕ) (low : 1 ≤ limit) where
   fits_number : (n : Numeral) → Fine limit (Number n ∷ []) → FitsNumber limit n
   fits_number n fine =
       let w =
-      neither (nat_lt limit n.numerator) (has_divisor_over limit n.divisor)
-      (neither (is_over limit (Number n)) false fine.within).0 in
-      number_fits n.numerator n.divisor w.0 w.1 (neither (is_zero_divisor n.divisor) false fine.divisors).0
+      or_parts (nat_lt limit n.numerator) (has_divisor_over limit n.divisor)
+      (or_parts (is_over limit (Number n)) false fine.within).0 in
+      number_fits n.numerator n.divisor w.0 w.1 (or_parts (is_zero_divisor n.divisor) false fine.divisors).0
 
   fits_bounds : (b : Option Bounds) → Fine limit (bound_leaves b) → FitsBounds limit b
   fits_bounds None fine = tt

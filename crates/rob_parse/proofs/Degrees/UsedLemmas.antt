@@ -8,7 +8,8 @@ use Rattle.rob_rules.specs.Leaves.{leaves, part_leaves, factor_leaves, member_le
 use Rattle.rob_syntax.specs.declared.syntax.Member.{Member}
 use Rattle.rob_syntax.specs.Trees.{Tree, number, name, sum, product, Summands, no_summands, summand, Operands, no_operands, operand}
 use Rattle.rob_parse.proofs.Degrees.DegreeLemmas.{EachName, EachSummand, EachOperand}
-use Rattle.rob_index.proofs.Names.NamingLemmas.{none_both, neither}
+use Rattle.std.proofs.lemmas.Bool.{or_parts}
+use Rattle.rob_index.proofs.Names.NamingLemmas.{none_both}
 
 module _ (test : Leaf → Bool) where
   -- no name and no number passes the test
@@ -26,10 +27,10 @@ module _ (test : Leaf → Bool) where
   right xs ys free = (none_both test xs ys free).1
 
   pub head : (x : Leaf) (xs : List Leaf) → Free (x ∷ xs) → test x ≡ false
-  head x xs free = (neither (test x) (list_any test xs) free).0
+  head x xs free = (or_parts (test x) (list_any test xs) free).0
 
   pub tail : (x : Leaf) (xs : List Leaf) → Free (x ∷ xs) → Free xs
-  tail x xs free = (neither (test x) (list_any test xs) free).1
+  tail x xs free = (or_parts (test x) (list_any test xs) free).1
 
   mutual
     pub free_tree : (t : Tree) → Free (leaves t) → EachName IsFreeName t

@@ -26,7 +26,8 @@ use Rattle.rob_rules.proofs.Judging.ReadingLemmas.{none_found, true_of_not}
 use Rattle.rob_rules.proofs.Joining.GrowingLemmas.{nothing_at}
 use Rattle.rob_parse.proofs.Names.SortLemmas.{Names, set_cases, is_new, kept_behind, AllNamed, named_behind}
 use Rattle.rob_parse.proofs.Degrees.UsedLemmas.{Free, IsFreeName, left, tail, free_list, free_members}
-use Rattle.rob_index.proofs.Names.NamingLemmas.{none_both, neither}
+use Rattle.std.proofs.lemmas.Bool.{or_parts}
+use Rattle.rob_index.proofs.Names.NamingLemmas.{none_both}
 
 -- ---- names that stand once
 abbrev Once : List Leaf → Type 0
@@ -42,7 +43,7 @@ others k (j ∷ js) h = (other k j h.0, others k js h.1)
 list_once : (on : List ℕ) (rest : List Leaf) → Once (map Name on ++ rest) → AreDistinct on
 list_once [] rest h = tt
 list_once (k ∷ on) rest h =
-    let b = neither (list_any (is_name k) (map Name on ++ rest)) (has_twice (map Name on ++ rest)) h in
+    let b = or_parts (list_any (is_name k) (map Name on ++ rest)) (has_twice (map Name on ++ rest)) h in
     (others k on (free_list (is_name k) on (none_both (is_name k) (map Name on) rest b.0).0), list_once on rest b.1)
 
 other_members : (k : ℕ) (ms : List Member) → Each (λ (h : Member). IsFreeName (is_name k) h.name) ms
@@ -53,7 +54,7 @@ other_members k (m ∷ ms) h = (other k m.name h.0, other_members k ms h.1)
 members_once : (ms : List Member) → Once (flat_map member_leaves ms) → AreDistinct (map (λ (h : Member). h.name) ms)
 members_once [] h = tt
 members_once (m ∷ ms) h =
-    let b = neither (list_any (is_name m.name) (flat_map member_leaves ms)) (has_twice (flat_map member_leaves ms)) h in
+    let b = or_parts (list_any (is_name m.name) (flat_map member_leaves ms)) (has_twice (flat_map member_leaves ms)) h in
     (other_members m.name ms (free_members (is_name m.name) ms b.0), members_once ms b.1)
 
 -- ---- two names of parameters have two numbers
@@ -197,7 +198,7 @@ module _ (limit : ℕ) (f : Earlier) (inj : IsInjective f.sorts) where
       free_of i inside = none_found (has_fault limit e now s) in_order i NoObjective clean inside
 
       known_in : Free (is_unknown e.sorts) (statement_leaves s)
-      known_in = (neither (list_any (is_unknown e.sorts) (statement_leaves s)) _ (free_of 1 (omega arith))).0
+      known_in = (or_parts (list_any (is_unknown e.sorts) (statement_leaves s)) _ (free_of 1 (omega arith))).0
 
       undecided_in : is_of_set s ≡ true → Free (names_decision e.sorts) (statement_leaves s)
       undecided_in of_set =
@@ -207,7 +208,7 @@ module _ (limit : ℕ) (f : Earlier) (inj : IsInjective f.sorts) where
       once_in : is_listing s ≡ true → Once (statement_leaves s)
       once_in listing =
           ap (λ (b : Bool). b && has_twice (statement_leaves s)) (sym listing)
-          ∙ (neither (is_declared now.sorts (declared_by now.sizes s)) _ (free_of 0 (omega arith))).1
+          ∙ (or_parts (is_declared now.sorts (declared_by now.sizes s)) _ (free_of 0 (omega arith))).1
 
     once_statement : (now : Earlier) (s : Statement) → first_fault limit e now s ≡ None → IsOnce s
     once_statement now (parsed.Uncertain d) clean = tt

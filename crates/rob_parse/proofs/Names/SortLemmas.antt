@@ -21,7 +21,7 @@ use Rattle.rob_rules.specs.Sizes.{counted}
 use Rattle.rob_rules.proofs.Joining.GrowingLemmas.{nothing_at}
 use Rattle.rob_rules.proofs.Joining.LinkLemmas.{set_kept}
 use Rattle.rob_rules.proofs.Judging.ReadingLemmas.{none_found}
-use Rattle.rob_index.proofs.Names.NamingLemmas.{neither}
+use Rattle.std.proofs.lemmas.Bool.{or_parts}
 use Rattle.rob_meaning.proofs.Scenarios.JointScenarioLemmas.{list_in-left}
 
 -- ---- writing one sort
@@ -44,7 +44,7 @@ module _ (limit : ℕ) where
   pub is_new : (before now : Earlier) (s : Statement) → first_fault limit before now s ≡ None
       → is_declared now.sorts (declared_by now.sizes s) ≡ false
   is_new before now s clean =
-      (neither _ _ (none_found (has_fault limit before now s) in_order 0 NoObjective clean (omega arith))).0
+      (or_parts _ _ (none_found (has_fault limit before now s) in_order 0 NoObjective clean (omega arith))).0
 
   -- so a name keeps what it stands for
   pub stays : (words : List (List ℕ)) (e : Earlier) (list : List Statement) (f : Earlier) → Chain limit words e list f

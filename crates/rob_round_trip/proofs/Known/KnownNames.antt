@@ -40,7 +40,7 @@ use Rattle.rob_rules.proofs.Joining.WidenedLemmas.{declare_length}
 use Rattle.rob_parse.proofs.Names.WordSetLemmas.{in_place, number_found, one_number}
 use Rattle.rob_round_trip.proofs.Written.DeclarableLines.{name_read}
 use Rattle.rob_round_trip.proofs.Known.NamedThings.{IsDeclaredIn, IsThing, things, declared_in, found_at, depends_same}
-use Rattle.rob_index.proofs.Names.NamingLemmas.{neither}
+use Rattle.std.proofs.lemmas.Bool.{or_parts}
 
 -- ---- what is declared stands for the numbers of its kind, in order
 module _ (words : List (List ℕ)) (sorts : List (Option Sort)) where
@@ -228,7 +228,7 @@ module _ (limit : ℕ) (f : Earlier) where
   over_known : (before now : Earlier) (s : Statement) → first_fault limit before now s ≡ None
       → is_over_none before.sorts (over_of s) ≡ false
   over_known before now s clean =
-      (neither _ _ (none_found (has_fault limit before now s) in_order 1 NoObjective clean (omega arith))).1
+      (or_parts _ _ (none_found (has_fault limit before now s) in_order 1 NoObjective clean (omega arith))).1
 
   all_end : (words : List (List ℕ)) (e : Earlier) (list : List Statement) → Chain limit words e list f
       → Each (EndsInSet f.sorts) list

@@ -31,7 +31,7 @@ use Rattle.rob_rules.proofs.Joining.GrowingLemmas.{all_grow, grown_has, sorts_gr
 use Rattle.rob_rules.proofs.Judging.ReadingLemmas.{none_found}
 use Rattle.rob_rules.proofs.Joining.WideLemmas.{fault_same}
 use Rattle.rob_rules.proofs.Joining.WidenedLemmas.{blank, blank_sum, widened_same, IsOfWords, kept_behind, number_is, behind_is}
-use Rattle.rob_index.proofs.Names.NamingLemmas.{neither}
+use Rattle.std.proofs.lemmas.Bool.{or_parts}
 
 -- ---- faults
 -- what passes no test passes no weaker one
@@ -69,7 +69,7 @@ module _ (limit : ℕ) (all : List Name) where
       → Keeps first now → Keeps first (behind now s)
   keeps_behind before now s clean first keeps k x is =
       declare_kept now.sorts (declared_by now.sizes s) k x
-      (neither _ _ (none_found (has_fault limit before now s) in_order 0 NoObjective clean (omega arith))).0
+      (or_parts _ _ (none_found (has_fault limit before now s) in_order 0 NoObjective clean (omega arith))).0
       (keeps k x is)
 
   -- a fault that isn't one with the words of the moment isn't one with all
@@ -130,9 +130,9 @@ module _ (limit : ℕ) (all : List Name) where
         all_is ∙ ap (λ (l : List Name). l ++ more) m.1 ∙ append_assoc (grown now.words p) m.0 more in
         let clean = clean_with_all before now p kept (m.0 ++ more) first_is
         (find_weaker (has_line before now (p ∷ ps)) (has_later limit before now p) in_order
-        (λ x h. (neither (has_later limit before now p x) (has_line before (named_behind now p) ps x) h).0) none) in
+        (λ x h. (or_parts (has_later limit before now p x) (has_line before (named_behind now p) ps x) h).0) none) in
         let other = find_weaker (has_line before now (p ∷ ps)) (has_line before (named_behind now p) ps) in_order
-        (λ x h. (neither (has_later limit before now p x) (has_line before (named_behind now p) ps x) h).1) none in
+        (λ x h. (or_parts (has_later limit before now p x) (has_line before (named_behind now p) ps x) h).1) none in
         let same = behind_is now p kept all (m.0 ++ more) first_is in
         let kept_keeps : Keeps (widened all before.earlier) (widened all (named_behind now p).earlier) =
         subst (λ (e : Earlier). Keeps (widened all before.earlier) e) same

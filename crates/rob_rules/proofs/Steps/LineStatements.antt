@@ -25,7 +25,7 @@ use Rattle.rob_rules.proofs.Joining.LinkLemmas.{find_weaker, stepped_among, step
 use Rattle.rob_rules.proofs.Judging.ReadingLemmas.{kept_note}
 use Rattle.rob_rules.proofs.Joining.WideLemmas.{fault_same}
 use Rattle.rob_rules.proofs.Joining.WidenedLemmas.{widened_same, IsOfWords, kept_behind, number_is, behind_is, declare_length}
-use Rattle.rob_index.proofs.Names.NamingLemmas.{neither}
+use Rattle.std.proofs.lemmas.Bool.{or_parts}
 
 -- ---- the statements of a line
 module _ (limit : ℕ) (own : List Name) (version : Version) where
@@ -119,9 +119,9 @@ pub all_kept : (limit : ℕ) (before now : Earlier) (list : List Statement) → 
 all_kept limit before now [] kept none = kept
 all_kept limit before now (s ∷ list) kept none =
     let one = find_weaker (some_has limit before now (s ∷ list)) (has_fault limit before now s) in_order
-    (λ f h. (neither (has_fault limit before now s f) (some_has limit before (behind now s) list f) h).0) none in
+    (λ f h. (or_parts (has_fault limit before now s f) (some_has limit before (behind now s) list f) h).0) none in
     let rest = find_weaker (some_has limit before now (s ∷ list)) (some_has limit before (behind now s) list) in_order
-    (λ f h. (neither (has_fault limit before now s f) (some_has limit before (behind now s) list f) h).1) none in
+    (λ f h. (or_parts (has_fault limit before now s f) (some_has limit before (behind now s) list f) h).1) none in
     all_kept limit before (behind now s) list (kept_note limit before now s kept one) rest
 
 -- ---- declared names
