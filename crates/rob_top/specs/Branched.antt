@@ -19,6 +19,7 @@ use Rattle.rob_tree.specs.Shape.{HasTreeShape}
 use Rattle.rob_tree.specs.TreeText.{tree_text}
 use Rattle.rob_tree.specs.View.{branch_of}
 use Rattle.rob_tree.specs.declared.tree.Branch.{Branch}
+use Rattle.rob_commands.specs.TreeReport.{IsReport}
 use Rattle.rob_commands.specs.Answers.{whole_fault_text, wide_node_text}
 use Rattle.rob_top.specs.Calls.{Call, WasRaised, limit_of}
 use Rattle.rob_top.specs.Commands.{IsBranching}

@@ -23,7 +23,7 @@ use Rattle.rob_pieces.specs.Pieces.{IsPieceInfeasible, IsPieceOptimal, IsPieceUn
 use Rattle.rob_pieces.specs.SplitModel.{split_model}
 use Rattle.rob_report.specs.Report.{report_of}
 use Rattle.rob_report.specs.Spots.{empty_set_lines, too_wide_line}
-use Rattle.rob_commands.specs.Answers.{fault_text}
+use Rattle.rob_commands.specs.Answers.{cells_line, fault_text}
 use Rattle.rob_top.specs.Calls.{Call, WasRaised, limit_of}
 use Rattle.rob_top.specs.Commands.{IsSplitting}
 use Rattle.rob_top.specs.Files.{word_of}
