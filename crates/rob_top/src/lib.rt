@@ -24,4 +24,5 @@ mod work;
 pub mod worked;
 
 pub use machine::run_here;
+pub use rob_commands::Ended;
 pub use top::run;
