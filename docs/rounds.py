@@ -100,11 +100,13 @@ def drawn(names, far, cuts, plans, answer):
         if len(line) == 2 and line[0] != line[1]:
             (a, b), (c, d) = line
             yield f'<path d="M{a} {b}L{c} {d}" stroke="black"/>'
-            yield f'<text x="{a + 8 if a < c else a + 4}" y="{b - 6 if a < c else b + 14}">{number}</text>'
+            # (below the line, as far as it falls over the label's width)
+            below = b + 16 * (d - b) / (c - a) + 11 if a < c else b + 14
+            yield f'<text x="{a + 7}" y="{below:.1f}">{number}</text>'
     for number, plan in plans.items():
         x, y = place(tuple(plan[it] for it in names), far)
         yield f'<circle cx="{x}" cy="{y}" r="4" fill="white" stroke="black"/>'
-        yield f'<text x="{x + 8}" y="{y - 6}">{number}</text>'
+        yield f'<text x="{x + 4}" y="{y - 9}" text-anchor="middle">{number}</text>'
     x, y = place(answer, far)
     yield f'<circle cx="{x}" cy="{y}" r="4"/>'
     for at, number in enumerate(far):

@@ -96,7 +96,7 @@ def drawn(names, labels, outlines):
         _, y = place((least[0], number))
         yield f'<text x="{MARGIN - 10}" y="{y + 4}" text-anchor="end">{number}</text>'
     yield f'<text x="{WIDTH // 2}" y="{HEIGHT - 10}" text-anchor="middle">{names[0]}</text>'
-    yield f'<text x="16" y="{HEIGHT // 2}" text-anchor="middle">{names[1]}</text>'
+    yield f'<text x="{MARGIN}" y="{MARGIN - 14}" text-anchor="middle">{names[1]}</text>'
     yield "</svg>"
 
 
