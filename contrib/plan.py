@@ -7,22 +7,20 @@ from fractions import Fraction
 
 
 def robust(*words):
-    done = subprocess.run([PROGRAM, *words], capture_output=True, text=True)
-    return done.returncode, done.stdout.splitlines()
+    done = subprocess.run([sys.argv[1], *words], capture_output=True, text=True)
+    if done.returncode != 0:
+        sys.exit(f"{' '.join(words)}: exit code {done.returncode}, {done.stdout.strip()}")
+    return done.stdout
 
 
-PROGRAM, MODEL = sys.argv[1:]
-code, lines = robust("solve", MODEL)
-if code != 0:
-    sys.exit(f"{MODEL}: {lines[0] if lines else code}")
+model = sys.argv[2]
+status, *plan = robust("solve", model).splitlines()
 with tempfile.NamedTemporaryFile("w", suffix=".cert") as file:
-    file.write("\n".join(robust("prove", MODEL)[1]) + "\n")
-    file.flush()
-    code, said = robust("check", MODEL, file.name)
-if code != 0:
-    sys.exit(f"{MODEL}: {said[0] if said else code}")
-value = Fraction(lines[0].split()[1])
-print(f"worst case {value}, about {float(value):.4g}; {said[0]}")
-for word, name, *numbers in map(str.split, lines[1:]):
-    if word == "here":
+    print(robust("prove", model), end="", file=file, flush=True)
+    if robust("check", model, file.name) != f"accepted {status}\n":
+        sys.exit(f"{model}: another answer was checked")
+value = Fraction(status.split()[1])
+print(f"worst case {value}, about {float(value):.4g}; accepted {status}")
+for kind, name, *numbers in map(str.split, plan):
+    if kind == "here":
         print(f"{name}: {float(Fraction(numbers[0])):.4g}")
