@@ -53,7 +53,8 @@ def drawn(parameter, bounds, found):
         return round(float(across), 1), round(float(up), 1)
 
     font = 'font-family="sans-serif" font-size="12"'
-    yield f'<svg xmlns="http://www.w3.org/2000/svg" viewBox="0 0 {WIDTH} {HEIGHT}" {font}>'
+    size = f'width="{WIDTH}" height="{HEIGHT}" viewBox="0 0 {WIDTH} {HEIGHT}"'
+    yield f'<svg xmlns="http://www.w3.org/2000/svg" {size} {font}>'
     yield f'<rect width="{WIDTH}" height="{HEIGHT}" fill="white"/>'
     yield f'<path d="M{MARGIN} {MARGIN - 20}V{HEIGHT - MARGIN}H{WIDTH - MARGIN + 20}" fill="none" stroke="gray"/>'
     x, _ = place(cut, least)

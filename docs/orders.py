@@ -40,7 +40,7 @@ def drawn(parameter, bounds, names, found):
         up = HEIGHT - MARGIN - (number - least) * (HEIGHT - 2 * MARGIN) / ((greatest - least) or 1)
         return round(float(across), 1), round(float(up), 1)
 
-    yield f'<svg xmlns="http://www.w3.org/2000/svg" viewBox="0 0 {WIDTH} {HEIGHT}"'
+    yield f'<svg xmlns="http://www.w3.org/2000/svg" width="{WIDTH}" height="{HEIGHT}" viewBox="0 0 {WIDTH} {HEIGHT}"'
     yield ' font-family="sans-serif" font-size="12">'
     yield f'<rect width="{WIDTH}" height="{HEIGHT}" fill="white"/>'
     yield f'<path d="M{MARGIN} {MARGIN - 20}V{HEIGHT - MARGIN + 10}H{WIDTH - MARGIN + 20}" fill="none" stroke="gray"/>'

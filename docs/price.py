@@ -32,9 +32,11 @@ def drawn(found):
     across = placed([Fraction(budget) for budget, _ in found], MARGIN, WIDTH - MARGIN)
     up = placed([Fraction(value) for _, value in found], HEIGHT - MARGIN, MARGIN)
     font = 'font-family="sans-serif" font-size="12"'
-    yield f'<svg xmlns="http://www.w3.org/2000/svg" viewBox="0 0 {WIDTH} {HEIGHT}" {font}>'
+    size = f'width="{WIDTH}" height="{HEIGHT}" viewBox="0 0 {WIDTH} {HEIGHT}"'
+    yield f'<svg xmlns="http://www.w3.org/2000/svg" {size} {font}>'
     yield f'<rect width="{WIDTH}" height="{HEIGHT}" fill="white"/>'
-    yield f'<path d="M{MARGIN - 15} {MARGIN - 20}V{HEIGHT - MARGIN + 10}H{WIDTH - MARGIN + 20}" fill="none" stroke="gray"/>'
+    axes = f"M{MARGIN - 15} {MARGIN - 20}V{HEIGHT - MARGIN + 10}H{WIDTH - MARGIN + 20}"
+    yield f'<path d="{axes}" fill="none" stroke="gray"/>'
     line = " ".join(f"{x},{y}" for x, y in zip(across, up))
     yield f'<polyline points="{line}" fill="none" stroke="black" stroke-width="2"/>'
     for (budget, value), x, y in zip(found, across, up):

@@ -88,7 +88,7 @@ def kept(cuts, names, far):
 
 def drawn(names, far, cuts, plans, answer):
     """The text of the picture."""
-    yield f'<svg xmlns="http://www.w3.org/2000/svg" viewBox="0 0 {WIDTH} {HEIGHT}"'
+    yield f'<svg xmlns="http://www.w3.org/2000/svg" width="{WIDTH}" height="{HEIGHT}" viewBox="0 0 {WIDTH} {HEIGHT}"'
     yield ' font-family="sans-serif" font-size="12">'
     yield f'<rect width="{WIDTH}" height="{HEIGHT}" fill="white"/>'
     rows = {number: cut for number, cut in cuts.items() if not cut.get("tau")}

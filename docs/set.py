@@ -79,7 +79,7 @@ def drawn(names, labels, outlines):
         up = HEIGHT - MARGIN - (point[1] - least[1]) * (HEIGHT - 2 * MARGIN) / (greatest[1] - least[1])
         return round(float(across), 1), round(float(up), 1)
 
-    yield f'<svg xmlns="http://www.w3.org/2000/svg" viewBox="0 0 {WIDTH} {HEIGHT}"'
+    yield f'<svg xmlns="http://www.w3.org/2000/svg" width="{WIDTH}" height="{HEIGHT}" viewBox="0 0 {WIDTH} {HEIGHT}"'
     yield ' font-family="sans-serif" font-size="12">'
     yield f'<rect width="{WIDTH}" height="{HEIGHT}" fill="white"/>'
     for label, outline in zip(labels, outlines):
