@@ -1,6 +1,6 @@
 -- Solvers that are made for the set's program and for the counterpart.
 use Rattle.std.proofs.Common.{◌≡◌, ℕ, zero, suc, ◌+◌, ◌*◌, ◌<◌, ◌≤◌, List, length, sym, ap, subst, arith, Result, Ok, Err}
-use Rattle.std.specs.Prelude.{IfOk, IfErr}
+use Rattle.std.specs.Prelude.{IfErr}
 use lib.IntN.{pos}
 use Rattle.rob_algebra.specs.Fraction.{Fraction}
 use Rattle.rob_linear.specs.Programs.{Program, system_of}
@@ -34,11 +34,6 @@ use Rattle.rob_dualize.specs.Wholes.{wholes, counterpart_of, IsFew}
 use Rattle.rob_dualize.proofs.Soundness.{wholes_are}
 use Rattle.rob_dualize.proofs.RefusalLemmas.{refused_at}
 use Rattle.rob_dualize.proofs.SolvingLemmas.{last_basis, last_point}
-
--- what an answer is, by what it is known to be
-pub ok_weaker : {A E : Type 0} (P Q : A → Type 0) → ((x : A) → P x → Q x) → (r : Result A E) → IfOk r P → IfOk r Q
-ok_weaker P Q f (Ok x) h = f x h
-ok_weaker P Q f (Err e) h = h
 
 one_block : (n b : ℕ) → 0 < n → b ≤ n * b
 one_block zero b l = absurd (omega arith)

@@ -1,19 +1,10 @@
--- What is said of the answer of a call, of an equal one, and of the stop of a count.
+-- What is said of one count is said of an equal one, and what stops a part stops the whole.
 use Rattle.std.proofs.Common.{◌≡◌, List, Option, Some, None, sym, ap, ◌∙◌, subst}
-use Rattle.std.specs.Prelude.{ℤ, Result, Ok, Err, IfOk, OnOk, MatchResult}
+use Rattle.std.specs.Prelude.{ℤ, Result, Err, MatchResult}
 use Rattle.rob_settings.specs.declared.room.Stop.{Stop}
 use Rattle.rob_settings.specs.declared.room.Stop.TheVariants.{TooMuch, Memory}
 use Rattle.rob_index.specs.Forms.{Form, value_of}
 use Rattle.rob_settings.specs.Room.{HasStop}
-
--- what is said where a call succeeds
-pub moved_on : {T E P Q : Type 0} (r : Result T E) → OnOk r P → (P → Q) → OnOk r Q
-moved_on (Ok x) given to = to given
-moved_on (Err e) given to = tt
-
-pub moved_if : {T E : Type 0} (r : Result T E) (P Q : T → Type 0) → IfOk r P → ((x : T) → P x → Q x) → IfOk r Q
-moved_if (Ok x) P Q given to = to x given
-moved_if (Err e) P Q given to = tt
 
 -- a part that stops the count stops the whole
 pub stopped : {A B : Type 0} (o : Option A) (w : Option B) (e : Stop) → (o ≡ None → w ≡ None) → HasStop o e

@@ -4,7 +4,6 @@ use Rattle.std.proofs.lemmas.List.{length-map}
 use Rattle.std.specs.Prelude.{if◌then◌else◌}
 use Rattle.rob_algebra.specs.Fraction.{Fraction}
 use Rattle.rob_algebra.specs.FractionOrder.{eq_ℚ}
-pub use Rattle.rob_number.proofs.AnswerLaws.{on_ok}
 use Rattle.rob_meaning.specs.Certificates.{Cover, Item}
 use Rattle.rob_meaning.specs.Places.{0ℚ}
 use Rattle.rob_model.proofs.PartLemmas.{drop_at}

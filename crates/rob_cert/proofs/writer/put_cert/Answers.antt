@@ -1,5 +1,6 @@
 use Rattle.std.proofs.Common.{◌∷◌, [], map, ◌++◌, ap, sym, ◌∙◌}
-use Rattle.rob_cert.proofs.Writing.WriterLemmas.{nine, on_ok, pieces_text}
+use Rattle.std.proofs.lemmas.Result.{on_ok_weaker}
+use Rattle.rob_cert.proofs.Writing.WriterLemmas.{nine, pieces_text}
 use Rattle.rob_cert.specs.declared.kind.Multipliers.TheVariants.{Covers, Holds}
 use Rattle.rob_cert.specs.declared.kind.Vector.TheVariants.{Inside, Plan, Move}
 use Rattle.rob_cert.specs.Lines.{bound_lines, cover_lines, entry_lines, item_lines, status_line, end_line}
@@ -22,7 +23,7 @@ returns g c =
     let i = item_lines d.items in
     let value = g.N.Exact.value in
     record {
-      appended = on_ok c.put_end.result
+      appended = on_ok_weaker c.put_end.result
           (λ last. nine c.args.out.now _ _ _ _ _ _ _ _ _ (line_text names (status_line d.status)) (text a) (text b)
           (text p) (text m) (text e) (text f) (text i) (text (end_line ∷ []))
           (c.in_ok-put_status.ensures.appended names) (c.in_ok-put_bounds.ensures.appended names)

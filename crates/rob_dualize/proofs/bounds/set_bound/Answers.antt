@@ -1,7 +1,7 @@
+use Rattle.std.proofs.lemmas.Result.{IfOk-weaker}
 use Rattle.rob_rows.specs.LinearPrograms.{program_of}
 use Rattle.rob_dualize.specs.RowBounds.{TellsBound}
 use Rattle.rob_dualize.specs.SetSolving.{program_of_set}
-use Rattle.rob_dualize.proofs.MakingLemmas.{ok_weaker}
 use Rattle.rob_dualize.proofs.RowBoundLemmas.{told_same}
 use Rattle.rob_dualize.proofs.SetLemmas.{fits_weaker, set_made}
 use Rattle.rob_dualize.proofs.SetProgramLemmas.{has_whole_rows}
@@ -19,8 +19,9 @@ pub returns : goal.returns
 returns g c =
     let Q = program_of_set c.args.set.now in
     record {
-      bound = ok_weaker (TellsBound g.N.Exact.limit (program_of c.in_ok-lp.lp)) (TellsBound g.N.Exact.limit Q)
+      bound = IfOk-weaker c.row_bound.result (TellsBound g.N.Exact.limit (program_of c.in_ok-lp.lp))
+          (TellsBound g.N.Exact.limit Q)
           (λ told. told_same g.N.Exact.limit (program_of c.in_ok-lp.lp) Q told
           (set_made c.args.set.now c.in_ok-lp.lp c.in_ok-lp.ensures.program))
-          c.row_bound.result c.row_bound.ensures.bound;
+          c.row_bound.ensures.bound;
     }

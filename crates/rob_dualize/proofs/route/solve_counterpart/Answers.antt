@@ -1,4 +1,5 @@
 use Rattle.std.proofs.Common.{◌≡◌, length, arith}
+use Rattle.std.proofs.lemmas.Result.{IfOk-weaker}
 use Rattle.rob_linear.specs.Programs.{Program}
 use Rattle.rob_rows.specs.LinearPrograms.{program_of}
 use Rattle.rob_counterpart.proofs.Pairs.TabulateLemmas.{length-tabulate}
@@ -7,7 +8,7 @@ use Rattle.rob_dualize.specs.Ending.{IsSolvedAs}
 use Rattle.rob_dualize.specs.Told.{listed}
 use Rattle.rob_dualize.specs.Wholes.{wholes, counterpart_of}
 use Rattle.rob_dualize.proofs.CounterpartLists.{listed_same, reform_within}
-use Rattle.rob_dualize.proofs.MakingLemmas.{ok_weaker, has_stopped}
+use Rattle.rob_dualize.proofs.MakingLemmas.{has_stopped}
 use Rattle.rob_dualize.proofs.Soundness.{can_be_told, form_fits, left_fits, right_fits, sense_small}
 use Rattle.rob_dualize.proofs.ToldLemmas.{listed_is}
 use Rattle.rob_dualize.proofs.route.solve_counterpart.Goals as goal
@@ -40,9 +41,9 @@ solve-requires-clause-numbers g c =
 pub returns-clause-solved : goal.returns-clause-solved
 returns-clause-solved g c =
     let Q : Program = counterpart_of c.args.model.forms.now c.args.model.set.now in
-    ok_weaker (IsSolved (program_of (listed Q))) (IsSolvedAs Q)
+    IfOk-weaker c.solve.result (IsSolved (program_of (listed Q))) (IsSolvedAs Q)
     (λ s h. record { program = program_of (listed Q); same = listed_same Q (listed Q) (listed_is Q); answer = h })
-    c.solve.result c.solve.ensures.solved
+    c.solve.ensures.solved
 
 pub returns-clause-stopped : goal.returns-clause-stopped
 returns-clause-stopped g c =

@@ -1,7 +1,7 @@
+use Rattle.std.proofs.lemmas.Result.{IfOk-weaker}
 use Rattle.rob_rows.specs.LinearPrograms.{program_of}
 use Rattle.rob_simplex.specs.Solvers.{Solver, IsMadeFor}
 use Rattle.rob_dualize.specs.Ending.{IsMadeAs}
-use Rattle.rob_dualize.proofs.MakingLemmas.{ok_weaker}
 use Rattle.rob_dualize.specs.SetSolving.{program_of_set}
 use Rattle.rob_dualize.proofs.SetLemmas.{fits_weaker, set_is_few, set_made}
 use Rattle.rob_dualize.proofs.SetProgramLemmas.{has_whole_rows}
@@ -22,7 +22,7 @@ alike-requires-clause-numbers g c = c.in_ok-lp.ensures.within g.N.Exact.limit c.
 
 pub returns-clause-made : goal.returns-clause-made
 returns-clause-made g c =
-    ok_weaker (λ (s : Solver). IsMadeFor (program_of c.in_ok-lp.lp) s)
+    IfOk-weaker c.alike.result (λ (s : Solver). IsMadeFor (program_of c.in_ok-lp.lp) s)
     (λ (s : Solver). IsMadeAs (program_of_set c.args.set.now) s)
     (λ s h. record {
       program = program_of c.in_ok-lp.lp;
@@ -30,4 +30,4 @@ returns-clause-made g c =
           c.in_ok-lp.ensures.program;
       made = h;
     })
-    c.alike.result c.alike.ensures.made
+    c.alike.ensures.made

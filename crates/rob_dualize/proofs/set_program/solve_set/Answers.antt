@@ -1,8 +1,9 @@
+use Rattle.std.proofs.lemmas.Result.{IfOk-weaker}
 use Rattle.rob_rows.specs.LinearPrograms.{program_of}
 use Rattle.rob_solver.specs.Solving.{IsSolved}
 use Rattle.rob_dualize.specs.Ending.{IsSolvedAs}
 use Rattle.rob_dualize.specs.SetSolving.{program_of_set}
-use Rattle.rob_dualize.proofs.MakingLemmas.{ok_weaker, has_stopped}
+use Rattle.rob_dualize.proofs.MakingLemmas.{has_stopped}
 use Rattle.rob_dualize.proofs.SetLemmas.{fits_weaker, set_is_few, set_made}
 use Rattle.rob_dualize.proofs.SetProgramLemmas.{has_whole_rows}
 use Rattle.rob_dualize.proofs.set_program.solve_set.Goals as goal
@@ -22,14 +23,14 @@ solve-requires-clause-numbers g c = c.in_ok-lp.ensures.within g.N.Exact.limit c.
 
 pub returns-clause-solved : goal.returns-clause-solved
 returns-clause-solved g c =
-    ok_weaker (IsSolved (program_of c.in_ok-lp.lp)) (IsSolvedAs (program_of_set c.args.set.now))
+    IfOk-weaker c.solve.result (IsSolved (program_of c.in_ok-lp.lp)) (IsSolvedAs (program_of_set c.args.set.now))
     (λ s h. record {
       program = program_of c.in_ok-lp.lp;
       same = set_made c.args.set.now c.in_ok-lp.lp
           c.in_ok-lp.ensures.program;
       answer = h;
     })
-    c.solve.result c.solve.ensures.solved
+    c.solve.ensures.solved
 
 pub returns-clause-stopped : goal.returns-clause-stopped
 returns-clause-stopped g c =

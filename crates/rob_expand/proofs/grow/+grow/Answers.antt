@@ -1,6 +1,7 @@
 use Rattle.std.proofs.Common.{◌≡◌, ap, ◌∙◌}
 use Rattle.std.specs.Prelude.{fold}
 use Rattle.std.specs.List.{list_any}
+use Rattle.std.proofs.lemmas.Result.{IfOk-weaker, on_ok_weaker}
 use Rattle.rob_algebra.proofs.ListLemmas.{drop_at, drop_past}
 use Rattle.rob_index.specs.Forms.{values_of}
 use Rattle.rob_index.specs.Rules.{is_long_name}
@@ -12,7 +13,6 @@ use Rattle.rob_expand.proofs.Counting.StepLemmas.{over_seen}
 use Rattle.rob_expand.proofs.Walks.WalkLemmas.{next_some, next_none, words_more, words_all, long_more, long_all, words_are, long_are}
 use Rattle.rob_expand.proofs.Counting.InmostLemmas.{printed_inside}
 use Rattle.rob_expand.proofs.Expanding.NameLemmas.{part_names_at, factor_names_at, value_names_at, parts_named, factors_named, over_named, words_inside, long_inside}
-use Rattle.rob_settings.proofs.AnswerLemmas.{moved_on, moved_if}
 use Rattle.rob_expand.proofs.grow.+grow.Goals as goal
 
 pub grow_parts-loop-part-preserved : goal.grow_parts-loop-part-preserved
@@ -71,9 +71,9 @@ grow_tree-returns-in-Over t c =
     (over_seen c.in-Over.ends c.in-Over.inner c.args.placed.now c.deref.result.now c.in-Over.is c.deref.ensures) in
     record {
       words =
-          moved_on c.grow_over.result c.grow_over.ensures.words
-          (λ e. e ∙ ap (fold add_name (texts c.args.words.now.keys)) same);
-      long = moved_if c.grow_over.result _ _ c.grow_over.ensures.long (λ b e. e ∙ ap (list_any is_long_name) same);
+          on_ok_weaker c.grow_over.result
+          (λ e. e ∙ ap (fold add_name (texts c.args.words.now.keys)) same) c.grow_over.ensures.words;
+      long = IfOk-weaker c.grow_over.result _ _ (λ b e. e ∙ ap (list_any is_long_name) same) c.grow_over.ensures.long;
     }
 
 pub grow_over-values-preserved : goal.grow_over-values-preserved
@@ -103,7 +103,7 @@ grow_at-returns-in-Over t c =
     (texts c.args.own.now.keys) in
     record {
       words =
-          moved_on c.grow_tree.result c.grow_tree.ensures.words
-          (λ e. words_inside inside (texts c.args.words.now.keys) _ e);
-      long = moved_if c.grow_tree.result _ _ c.grow_tree.ensures.long (λ b e. long_inside inside b e);
+          on_ok_weaker c.grow_tree.result
+          (λ e. words_inside inside (texts c.args.words.now.keys) _ e) c.grow_tree.ensures.words;
+      long = IfOk-weaker c.grow_tree.result _ _ (λ b e. long_inside inside b e) c.grow_tree.ensures.long;
     }

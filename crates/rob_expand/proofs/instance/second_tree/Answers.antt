@@ -1,13 +1,13 @@
 use Rattle.std.proofs.Common.{◌∙◌}
+use Rattle.std.proofs.lemmas.Result.{IfOk-weaker}
 use Rattle.rob_syntax.specs.Known.{texts}
-use Rattle.rob_settings.proofs.AnswerLemmas.{moved_if}
 use Rattle.rob_expand.proofs.Expanding.MakeLemmas.{second_some}
 use Rattle.rob_expand.proofs.instance.second_tree.Goals as goal
 
 pub returns-in-len1-up : goal.returns-in-len1-up
 returns-in-len1-up c = record {
   made =
-      moved_if c.first_tree.result _ _ c.first_tree.ensures.made
+      IfOk-weaker c.first_tree.result _ _
       (λ s e. e ∙ second_some (texts c.args.own.now.keys) (texts c.args.words.now.keys) c.args.values.now
-      c.args.trees.now c.in-len1-up.len_at_least);
+      c.args.trees.now c.in-len1-up.len_at_least) c.first_tree.ensures.made;
 }

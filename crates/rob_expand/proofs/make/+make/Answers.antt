@@ -1,5 +1,6 @@
 use Rattle.std.proofs.Common.{◌≡◌, [], ◌∷◌, ◌++◌, map, false, ap, sym, ◌∙◌}
 use Rattle.std.specs.Prelude.{ℤ}
+use Rattle.std.proofs.lemmas.Result.{IfOk-weaker}
 use Rattle.rob_algebra.proofs.ListLemmas.{drop_at, drop_past}
 use Rattle.rob_index.specs.Forms.{values_of}
 use Rattle.rob_syntax.specs.declared.syntax.Syntax.{Syntax}
@@ -13,7 +14,6 @@ use Rattle.rob_expand.specs.Placed.{Placed, placed_of}
 use Rattle.rob_expand.proofs.Counting.InmostLemmas.{printed_inside}
 use Rattle.rob_expand.proofs.Counting.StepLemmas.{over_seen}
 use Rattle.rob_expand.proofs.Walks.WalkLemmas.{next_some, next_none, made_more, made_all}
-use Rattle.rob_settings.proofs.AnswerLemmas.{moved_if}
 use Rattle.rob_expand.proofs.Expanding.MakeLemmas.{part_made, parts_made, factor_made, factors_made, value_made, each_made, summed_made}
 use Rattle.rob_expand.proofs.make.+make.Goals as goal
 
@@ -72,7 +72,7 @@ make-returns-in-Over t c =
     summed_made words (map (λ v. printed_at own (placed_of c.deref.result.now) (v ∷ vs)) (values_of c.in-Over.ends vs))
     ∙ ap (λ (p : Placed). numbered_tree words (printed_at own p vs))
     (over_seen c.in-Over.ends c.in-Over.inner c.args.placed.now c.deref.result.now c.in-Over.is c.deref.ensures) in
-    record { made = moved_if c.make_over.result _ _ c.make_over.ensures.made (λ s e. e ∙ same) }
+    record { made = IfOk-weaker c.make_over.result _ _ (λ s e. e ∙ same) c.make_over.ensures.made }
 
 pub make_over-values-preserved : goal.make_over-values-preserved
 make_over-values-preserved t c =
@@ -102,9 +102,9 @@ make_over-returns t c = record {
 pub make_at-returns-in-Over : goal.make_at-returns-in-Over
 make_at-returns-in-Over t c = record {
   made =
-      moved_if c.make.result _ _ c.make.ensures.made
+      IfOk-weaker c.make.result _ _
       (λ s e. e
       ∙ ap (numbered_tree (texts c.args.words.now.keys))
       (printed_inside c.in_ok-last-in-Over.ensures.inmost c.in_ok-inside.ensures.values
-      (texts c.args.own.now.keys)));
+      (texts c.args.own.now.keys))) c.make.ensures.made;
 }

@@ -1,5 +1,6 @@
 use Rattle.std.proofs.Common.{◌∙◌, refl, ap}
 use Rattle.std.specs.Prelude.{not}
+use Rattle.std.proofs.lemmas.Result.{IfOk-weaker}
 use Rattle.rob_syntax.specs.declared.syntax.Part.{Part as Given}
 use Rattle.rob_syntax.specs.declared.syntax.Tree.{Tree as GivenTree}
 use Rattle.rob_syntax.specs.Seen.{seen_part, seen_tree}
@@ -8,7 +9,6 @@ use Rattle.rob_expand.specs.declared.placed.Part.{Part as CodePart}
 use Rattle.rob_expand.specs.declared.scope.Binding.{Binding}
 use Rattle.rob_expand.specs.Placed.{part_of}
 use Rattle.rob_expand.specs.Scopes.{IsPart, IsPlaced, outside}
-use Rattle.rob_settings.proofs.AnswerLemmas.{moved_if}
 use Rattle.rob_expand.proofs.Values.PlaceLemmas.{either_way, pairs_none, pairs_more, pairs_all, placed_as, number_placed, ref_placed, sum_placed, product_placed, part_placed, ranged_placed, single_placed, over_is_placed}
 use Rattle.rob_expand.proofs.Values.ScopeLemmas.{outside_is}
 use Rattle.rob_expand.proofs.place.+place.Goals as goal
@@ -40,9 +40,9 @@ place-returns-in_ok-factors-in-Product-clause-placed t c =
 pub place-returns-in-Ranged-clause-placed : goal.place-returns-in-Ranged-clause-placed
 place-returns-in-Ranged-clause-placed t c =
     let scope = c.args.scope.now in
-    moved_if c.place_ranged.result _ _ c.place_ranged.ensures.placed
+    IfOk-weaker c.place_ranged.result _ _
     (λ p h. ranged_placed scope.bound scope.names c.args.tree.now c.in-Ranged.range c.in-Ranged.inner
-    c.deref.result.now p c.in-Ranged.is c.deref.ensures h)
+    c.deref.result.now p c.in-Ranged.is c.deref.ensures h) c.place_ranged.ensures.placed
 
 pub place_ranged-returns-then-single-clause-placed : goal.place_ranged-returns-then-single-clause-placed
 place_ranged-returns-then-single-clause-placed t c =
@@ -63,10 +63,10 @@ pub place_ranged-returns-clause-placed : goal.place_ranged-returns-clause-placed
 place_ranged-returns-clause-placed t c =
     let scope = c.args.scope.now in
     let single = c.is_nothing-single.result in
-    moved_if c.sum_over.result _ _ c.sum_over.ensures.placed
-    (λ p is. over_is_placed scope.bound scope.names c.in_ok-from.from c.in_ok-length.length c.args.range.now
-    c.args.inner.now c.in_ok-from.ensures.form c.in_ok-length.ensures.length (not single) c.enter.new.self
-    c.in_ok-enter.ensures.entered c.in_ok-inner.inner c.in_ok-inner.ensures.placed (ap not c.if-single.false) p is)
+    IfOk-weaker c.sum_over.result _ _ (λ p is. over_is_placed scope.bound scope.names c.in_ok-from.from
+    c.in_ok-length.length c.args.range.now c.args.inner.now c.in_ok-from.ensures.form c.in_ok-length.ensures.length
+    (not single) c.enter.new.self c.in_ok-enter.ensures.entered c.in_ok-inner.inner c.in_ok-inner.ensures.placed
+    (ap not c.if-single.false) p is) c.sum_over.ensures.placed
 
 pub place_ranged-returns-clause-around : goal.place_ranged-returns-clause-around
 place_ranged-returns-clause-around t c =

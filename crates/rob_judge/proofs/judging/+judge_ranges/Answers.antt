@@ -1,8 +1,8 @@
 use Rattle.std.proofs.Common.{◌≡◌, ◌<◌, ◌∷◌, length, ap, sym, ◌∙◌, arith}
+use Rattle.std.proofs.lemmas.Result.{IfOk-weaker}
 use Rattle.rob_index.specs.Forms.{Form, value_of, values_of}
 use Rattle.rob_index.proofs.Faults.NestLemmas.{lt_from, lt_not}
 use Rattle.rob_expand.specs.Judging.{worst, length_found, ranges_found}
-use Rattle.rob_settings.proofs.AnswerLemmas.{moved_if}
 use Rattle.rob_expand.proofs.Walks.FindingLemmas.{worse_both}
 use Rattle.rob_judge.proofs.JudgeLemmas.{long_first, only_range, first_range}
 use Rattle.rob_judge.proofs.PassingLemmas.{values_are, values_ended, values_more, values_none, values_over}
@@ -14,8 +14,9 @@ judge_ranges-returns-in-len1 t c =
     let one : length c.args.ranges.now ≡ 1 = omega (arith, c.in-len1.len_at_least, c.in-len1.len_below) in
     record {
       found =
-          moved_if c.judge_length.result _ _ c.judge_length.ensures.found
-          (λ b e. e ∙ only_range c.args.ranges.now c.args.values.now c.range-item.result one c.range-item.is);
+          IfOk-weaker c.judge_length.result _ _
+          (λ b e. e ∙ only_range c.args.ranges.now c.args.values.now c.range-item.result one c.range-item.is)
+          c.judge_length.ensures.found;
     }
 
 pub judge_ranges-returns-in-len1-up : goal.judge_ranges-returns-in-len1-up
@@ -23,9 +24,10 @@ judge_ranges-returns-in-len1-up t c =
     let some : 0 < length c.args.ranges.now = omega (arith, c.in-len1-up.len_at_least) in
     record {
       found =
-          moved_if c.judge_inner.result _ _ c.judge_inner.ensures.found
+          IfOk-weaker c.judge_inner.result _ _
           (λ b e.
-          e ∙ first_range c.args.ranges.now c.args.values.now c.range-item-2.result some c.range-item-2.is);
+          e ∙ first_range c.args.ranges.now c.args.values.now c.range-item-2.result some c.range-item-2.is)
+          c.judge_inner.ensures.found;
     }
 
 pub judge_inner-returns-then-is_too_long : goal.judge_inner-returns-then-is_too_long

@@ -1,5 +1,6 @@
 use Rattle.std.proofs.Common.{◌≡◌, ◌∷◌, ap, sym, ◌∙◌}
 use Rattle.std.specs.Prelude.{ℤ}
+use Rattle.std.proofs.lemmas.Result.{IfOk-weaker}
 use Rattle.rob_algebra.proofs.ListLemmas.{drop_at, drop_past}
 use Rattle.rob_index.specs.Forms.{values_of}
 use Rattle.rob_expand.specs.Placed.{Placed, over, placed_of}
@@ -7,7 +8,6 @@ use Rattle.rob_expand.specs.Judging.{worst, length_found, range_found, tree_foun
 use Rattle.rob_expand.proofs.Counting.InmostLemmas.{found_inside}
 use Rattle.rob_expand.proofs.Counting.StepLemmas.{over_placed}
 use Rattle.rob_expand.proofs.Walks.WalkLemmas.{next_some, next_none}
-use Rattle.rob_settings.proofs.AnswerLemmas.{moved_if}
 use Rattle.rob_expand.proofs.Walks.FindingLemmas.{worst_more, worst_all}
 use Rattle.rob_judge.proofs.JudgeLemmas.{part_found, factor_found, parts_gathered, factors_gathered, long_first}
 use Rattle.rob_judge.proofs.judging.+judge_tree.Goals as goal
@@ -54,7 +54,7 @@ judge_tree-returns-in-Over t c =
     ≡ tree_found (placed_of c.args.placed.now) vs =
     ap (λ (p : Placed). range_found c.in-Over.ends (tree_found p) vs) there
     ∙ ap (λ (p : Placed). tree_found p vs) (sym whole) in
-    record { found = moved_if c.judge_over.result _ _ c.judge_over.ensures.found (λ b e. e ∙ same) }
+    record { found = IfOk-weaker c.judge_over.result _ _ (λ b e. e ∙ same) c.judge_over.ensures.found }
 
 pub judge_over-returns-then-is_too_long : goal.judge_over-returns-then-is_too_long
 judge_over-returns-then-is_too_long t c =
@@ -83,6 +83,7 @@ judge_over-returns t c =
 pub judge_at-returns-in-Over : goal.judge_at-returns-in-Over
 judge_at-returns-in-Over t c = record {
   found =
-      moved_if c.judge_tree.result _ _ c.judge_tree.ensures.found
-      (λ b e. e ∙ found_inside c.in_ok-last-in-Over.ensures.inmost c.in_ok-inside.ensures.values);
+      IfOk-weaker c.judge_tree.result _ _
+      (λ b e. e ∙ found_inside c.in_ok-last-in-Over.ensures.inmost c.in_ok-inside.ensures.values)
+      c.judge_tree.ensures.found;
 }

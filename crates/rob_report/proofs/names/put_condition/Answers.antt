@@ -1,5 +1,5 @@
 use Rattle.std.proofs.Common.{arith, ◌++◌, ap, ◌∙◌}
-use Rattle.rob_cert.proofs.Writing.WriterLemmas.{on_ok}
+use Rattle.std.proofs.lemmas.Result.{on_ok_weaker}
 use Rattle.rob_meaning.proofs.Naming.NameLemmas.{length-set_condition_names}
 use Rattle.rob_meaning.specs.Names.{set_column_names, set_condition_names}
 use Rattle.rob_model.specs.Naming.{set_place_names}
@@ -16,7 +16,7 @@ pub returns : goal.returns
 returns g c =
     let m = robust g.N.Exact.value c.args.model.now in
     record {
-      appended = on_ok c.put_set_place_name.result
+      appended = on_ok_weaker c.put_set_place_name.result
           (λ h. named_at (set_place_names m) c.args.index _ _ h
           ∙ ap (λ n. c.args.out.now ++ n)
           (at_front (set_condition_names m) (set_column_names m) c.args.index

@@ -1,5 +1,5 @@
 use Rattle.std.proofs.Common.{arith}
-use Rattle.rob_cert.proofs.Writing.WriterLemmas.{on_ok}
+use Rattle.std.proofs.lemmas.Result.{on_ok_weaker}
 use Rattle.rob_meaning.proofs.Naming.NameLemmas.{length-set_row_names}
 use Rattle.rob_meaning.specs.Names.{set_row_names}
 use Rattle.rob_model.specs.View.{robust}
@@ -12,7 +12,7 @@ put_set_row_name-requires-clause-inside g c =
 
 pub returns : goal.returns
 returns g c = record {
-  appended = on_ok c.put_set_row_name.result
+  appended = on_ok_weaker c.put_set_row_name.result
       (named_at (set_row_names (robust g.N.Exact.value c.args.model.now)) c.args.index _ _)
       c.put_set_row_name.ensures.appended;
 }

@@ -1,6 +1,6 @@
 use Rattle.std.proofs.Common.{◌≡◌, ◌+◌, ◌++◌, arith, ap, ◌∙◌, map, length}
 use Rattle.std.proofs.lemmas.List.{length-map}
-use Rattle.rob_cert.proofs.Writing.WriterLemmas.{on_ok}
+use Rattle.std.proofs.lemmas.Result.{on_ok_weaker}
 use Rattle.rob_cert.specs.Spelling.{name_at}
 use Rattle.rob_meaning.specs.Names.{set_condition_names}
 use Rattle.rob_meaning.specs.SetConditions.{bounds_from}
@@ -34,7 +34,7 @@ returns g c =
     ∙ ap (λ ps. length (parameter_bound_names (map (parameter_of value) ps))) c.items.ensures.list
     ∙ length-parameter_bound_names 0 m.parameters in
     record {
-      appended = on_ok c.put_condition.result
+      appended = on_ok_weaker c.put_condition.result
           (λ e. e ∙ ap (λ n. c.args.out.now ++ name_at (set_condition_names m) (n + c.args.index)) bounds)
           c.put_condition.ensures.appended;
     }

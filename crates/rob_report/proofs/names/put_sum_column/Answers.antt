@@ -1,6 +1,6 @@
 use Rattle.std.proofs.Common.{◌++◌, [], ◌∷◌, arith, ap, sym, ◌∙◌}
 use Rattle.std.specs.Prelude.{codes}
-use Rattle.rob_cert.proofs.Writing.WriterLemmas.{on_ok}
+use Rattle.std.proofs.lemmas.Result.{on_ok_weaker}
 use Rattle.rob_meaning.proofs.Naming.NameLemmas.{length-column_names}
 use Rattle.rob_meaning.specs.Names.{column_names}
 use Rattle.rob_model.specs.View.{robust}
@@ -11,7 +11,7 @@ pub returns-else-index-column_count : goal.returns-else-index-column_count
 returns-else-index-column_count g c =
     let m = robust g.N.Exact.value c.args.model.now in
     record {
-      appended = on_ok c.push-else-index-column_count.result
+      appended = on_ok_weaker c.push-else-index-column_count.result
           (λ e. e ∙ ap (λ n. c.args.out.now ++ n)
           (sym (at_back (codes "constant" ∷ column_names m) (codes "tau" ∷ []) c.args.index 0
           (omega (

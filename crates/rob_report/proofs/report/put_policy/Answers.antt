@@ -1,5 +1,5 @@
 use Rattle.std.proofs.Common.{arith, map}
-use Rattle.rob_cert.proofs.Writing.WriterLemmas.{on_ok}
+use Rattle.std.proofs.lemmas.Result.{on_ok_weaker}
 use Rattle.rob_model.proofs.SmallLemmas.{at_map}
 use Rattle.rob_model.specs.View.{adaptive_of, parameter_of}
 use Rattle.rob_report.proofs.ReportLemmas.{policy_written}
@@ -11,7 +11,7 @@ returns g c =
     let plan = map value c.args.plan.now in
     let ps = map (parameter_of value) c.args.params.now in
     record {
-      appended = on_ok c.push-4.result
+      appended = on_ok_weaker c.push-4.result
           (policy_written value plan ps c.args.column (adaptive_of value c.args.rule.now) c.bytes.result.now
           (value c.index-plan-column.result) c.items.result.now
           c.args.out.now _ _ _ _ _ _

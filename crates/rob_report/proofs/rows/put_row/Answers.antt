@@ -1,7 +1,7 @@
 use Rattle.std.proofs.Common.{[], ◌++◌, ap, length, sym, ◌∙◌, rules, SFits, w64}
 use Rattle.std.proofs.lemmas.Int.{to_z-of_z}
 use Rattle.std.specs.Prelude.{codes}
-use Rattle.rob_cert.proofs.Writing.WriterLemmas.{on_ok}
+use Rattle.std.proofs.lemmas.Result.{on_ok_weaker}
 use Rattle.rob_cert.specs.Spelling.{name_at}
 use Rattle.rob_meaning.specs.Names.{set_row_names}
 use Rattle.rob_model.specs.View.{robust}
@@ -17,7 +17,7 @@ returns g c =
     let before = c.push-2.new.self in
     let fits : SFits w64 row.h = search rules in
     record {
-      appended = on_ok c.put_limit.result
+      appended = on_ok_weaker c.put_limit.result
           (λ e. row_written (codes "set ")
           (name_at (set_row_names (robust g.N.Exact.value c.args.model.now)) c.args.index)
           (or_zero (terms_text [] row.g columns)) (limit_text row.h)

@@ -1,5 +1,5 @@
 use Rattle.std.proofs.Common.{List, map, ap, ◌∙◌, ◌++◌}
-use Rattle.rob_cert.proofs.Writing.WriterLemmas.{on_ok}
+use Rattle.std.proofs.lemmas.Result.{on_ok_weaker}
 use Rattle.rob_model.specs.View.{parameter_of, robust}
 use Rattle.rob_model.specs.declared.model.Param.{Param}
 use Rattle.rob_report.specs.Spots.{form_name}
@@ -12,7 +12,7 @@ returns g c =
     let value = g.N.Exact.value in
     let m = robust value c.args.model.now in
     record {
-      appended = on_ok c.put_entries.result
+      appended = on_ok_weaker c.put_entries.result
           (λ e. along_written c.args.out.now _ _ _ _ (form_name m c.args.form)
           (at_lines (map value c.args.ray.now) m.parameters)
           c.in_ok-push.ensures.appended c.in_ok-put_form.ensures.appended c.in_ok-push-2.ensures.appended

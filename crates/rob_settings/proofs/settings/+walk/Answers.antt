@@ -1,7 +1,6 @@
 use Rattle.std.proofs.Common.{◌∷◌, ◌++◌, length, List, ap, sym, ◌∙◌}
 use Rattle.std.specs.Prelude.{ℤ}
-use Rattle.std.proofs.lemmas.Result.{err_from_is_err_and}
-use Rattle.rob_number.proofs.AnswerLaws.{on_ok}
+use Rattle.std.proofs.lemmas.Result.{err_from_is_err_and, on_ok_weaker}
 use Rattle.rob_index.specs.Forms.{extensions}
 use Rattle.rob_index.proofs.Faults.NestLemmas.{lt_from, lt_not}
 use Rattle.rob_settings.specs.Room.{left_of}
@@ -101,7 +100,7 @@ append_at-returns-in_ok-upto-in-len1 t c =
     (value_read inside c.in_ok-upto-in-len1.ensures.value c.upto.ensures.upto) in
     record {
       appended =
-          on_ok c.append_run.result
+          on_ok_weaker c.append_run.result
           (λ made. made ∙ ap (λ (l : List (List ℤ)). c.args.settings.now ++ l) same) c.append_run.ensures.appended;
       left =
           moved c.append_run.result _ _ (ap (λ (l : List (List ℤ)). left_of (length l) c.args.room) same)

@@ -1,6 +1,6 @@
 use Rattle.std.proofs.Common.{◌≡◌, List, length, sym, subst, arith}
 use Rattle.std.specs.Prelude.{ℤ, false}
-use Rattle.rob_number.proofs.AnswerLaws.{on_ok}
+use Rattle.std.proofs.lemmas.Result.{on_ok_weaker}
 use Rattle.rob_ranges.proofs.SpanLemmas.{behind_of, every_at, front_of}
 use Rattle.rob_settings.specs.Spots.{IsThinAt}
 use Rattle.rob_settings.proofs.AppendLemmas.{both_values, one_thin, one_value, spots_none, thin_items}
@@ -51,12 +51,12 @@ returns-in-len1 t c =
     subst (λ (vs : List ℤ). IsThinAt false c.args.items.now c.args.kept.now vs) (sym c.items.ensures.list) here in
     record {
       values =
-          on_ok c.append_spot.result
+          on_ok_weaker c.append_spot.result
           (λ made. one_value c.args.spots.now _ _ c.args.settings.now c.setting-item.result one c.setting-item.is
           c.items.ensures.list made)
           c.append_spot.ensures.appended;
       thin =
-          on_ok c.append_spot.result
+          on_ok_weaker c.append_spot.result
           (λ made. one_thin c.args.items.now c.args.spots.now _ _ made c.requires.done there)
           c.append_spot.ensures.appended;
     }
@@ -64,7 +64,7 @@ returns-in-len1 t c =
 pub returns-in_ok-second-in_default : goal.returns-in_ok-second-in_default
 returns-in_ok-second-in_default t c = record {
   values =
-      on_ok c.append_spots-in_default.result
+      on_ok_weaker c.append_spots-in_default.result
       (λ made. both_values c.args.spots.now _ _ c.args.settings.now c.split_at.result.0.now c.split_at.result.1.now
       c.split_at.ensures.by_index.0 c.in_ok-append_spots-in_default.ensures.values made)
       c.append_spots-in_default.ensures.values;

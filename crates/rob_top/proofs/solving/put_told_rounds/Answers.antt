@@ -1,6 +1,6 @@
 use Rattle.std.proofs.Common.{◌++◌, ap, sym, ◌∙◌, List}
 use Rattle.std.proofs.lemmas.List.Elements.{All-same}
-use Rattle.rob_cert.proofs.Writing.WriterLemmas.{on_ok}
+use Rattle.std.proofs.lemmas.Result.{on_ok_weaker}
 use Rattle.rob_cert.specs.declared.trace.Round.{Round}
 use Rattle.rob_model.specs.View.{robust}
 use Rattle.rob_report.specs.Rounds.{IsRoundOf, rounds_text}
@@ -22,7 +22,7 @@ pub returns-in-Cuts : goal.returns-in-Cuts
 returns-in-Cuts g c =
     let m = robust g.N.Exact.value c.args.model.now in
     record {
-      appended = on_ok c.put_rounds.result
+      appended = on_ok_weaker c.put_rounds.result
           (λ e. e ∙ ap (λ (rounds : List Round). c.args.out.now ++ rounds_text m rounds) c.items.ensures.list
           ∙ sym (ap (λ (w : Route). with_rounds w m c.args.trace.now.rounds c.args.out.now) c.in-Cuts.is))
           c.put_rounds.ensures.appended;

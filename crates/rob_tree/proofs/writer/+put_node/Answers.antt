@@ -1,7 +1,7 @@
 use Rattle.rob_reach.specs.Trees.{Node}
 use Rattle.std.proofs.Common.{◌≡◌, ℕ, List, rules, ◌<◌, ◌^◌, [], ◌∷◌, ◌++◌, codes, nat_abs, ap, sym, ◌∙◌, subst, arith}
 use Rattle.std.specs.Fmt.{signed_decimal}
-use Rattle.rob_cert.proofs.Writing.WriterLemmas.{on_ok}
+use Rattle.std.proofs.lemmas.Result.{on_ok_weaker}
 use Rattle.rob_cert.specs.Spelling.{name_at, naming_of, spaced}
 use Rattle.rob_cert.specs.View.{certificate_of}
 use Rattle.rob_meaning.specs.Names.{column_names}
@@ -17,7 +17,7 @@ returns-in-Leaf g t c =
     let value = g.N.Exact.value in
     let m = robust value c.args.model.now in
     record {
-      appended = on_ok c.put_leaf.result
+      appended = on_ok_weaker c.put_leaf.result
           (λ last. last ∙ ap (λ l. c.args.out.now ++ l) (leaf_text m (certificate_of value c.in-Leaf.cert)
           ∙ ap (λ n. pieces_text (naming_of m) (pieces (node_of value n))) (sym c.in-Leaf.is)))
           c.put_leaf.ensures.appended;
@@ -34,7 +34,7 @@ returns-in_ok-put_node-in-Split g t c =
     let first : c.deref.result.now ≡ c.in-Split.below.value = search rules in
     let second : c.deref-in-Split.result.now ≡ c.in-Split.above.value = search rules in
     record {
-      appended = on_ok c.put_node-in-Split.result
+      appended = on_ok_weaker c.put_node-in-Split.result
           (λ last. split_text m c.in-Split.column c.in-Split.k (node_of value c.in-Split.below.value)
           (node_of value c.in-Split.above.value)
           c.args.out.now _ _ _

@@ -1,9 +1,9 @@
 use Rattle.std.proofs.Common.{◌≡◌, ◌*◌, map, length, ◌∙◌, arith}
+use Rattle.std.proofs.lemmas.Result.{IfOk-weaker}
 use Rattle.rob_simplex.specs.Solutions.{ray_of}
 use Rattle.rob_counterpart.specs.ReadNumbers.{differences}
 use Rattle.rob_dualize.specs.Numbers.{told}
 use Rattle.rob_dualize.proofs.CertificateLemmas.{are_told, count_told, pairs_told, differences_read}
-use Rattle.rob_dualize.proofs.MakingLemmas.{ok_weaker}
 use Rattle.rob_worst.proofs.reading.direction.Goals as goal
 
 pub ray-requires-clause-inside : goal.ray-requires-clause-inside
@@ -24,9 +24,10 @@ pub returns : goal.returns
 returns g c =
     let value = g.N.Exact.value in
     record {
-      parameters = ok_weaker (λ list. map value list ≡ differences c.args.count (told value c.items.result.now))
+      parameters = IfOk-weaker c.pair_differences.result
+          (λ list. map value list ≡ differences c.args.count (told value c.items.result.now))
           (λ list. map value list ≡ differences c.args.count (ray_of c.args.solver.now))
           (λ list h. h ∙ differences_read (are_told value c.items.ensures.list c.in_ok-numbers.ensures.numbers)
           c.args.count (omega arith))
-          c.pair_differences.result c.pair_differences.ensures.differences;
+          c.pair_differences.ensures.differences;
     }
