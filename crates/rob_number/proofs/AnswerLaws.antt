@@ -1,11 +1,16 @@
 -- What an answer tells, where it stands for what is kept of a fraction.
-use Rattle.std.specs.Prelude.{◌≡◌, ℕ, ◌≤◌, ℤ, nat_abs, Some, None, Result, Ok, Err, IsOk, refl}
+use Rattle.std.specs.Prelude.{◌≡◌, ℕ, ◌≤◌, ℤ, nat_abs, Some, None, Result, Ok, Err, IsOk, refl, OnOk}
 use Rattle.std.proofs.Common.{sym, ap, ◌∙◌}
 use Rattle.rob_algebra.specs.Fraction.{Fraction, of_pair, of_int}
 use Rattle.rob_algebra.specs.Width.{Fits, IsWide, kept}
 use Rattle.rob_algebra.proofs.WidthLaws.{kept-fits, kept-of_int, fits_of_kept, wide_of_kept}
 use Rattle.rob_algebra.proofs.Parts.{of_int-one}
 use Rattle.rob_number.specs.Answer.{answer}
+
+-- what holds whether a call answers Ok or not
+pub on_ok_any : {T E P : Type 0} (r : Result T E) → P → OnOk r P
+on_ok_any (Ok x) p = p
+on_ok_any (Err e) p = tt
 
 module _ (limit : ℕ) (x : Fraction) where
   -- a number that was answered is the fraction, which fits: of `answer value (Ok y) ≡ kept limit x`

@@ -1,6 +1,5 @@
 -- What is placed of the code's trees, level by level; lists that are placed item by item.
 use Rattle.std.proofs.Common.{◌≡◌, ℕ, Bool, true, false, ◌+◌, ◌<◌, ◌≤◌, List, [], ◌∷◌, ◌++◌, length, map, take, get_or, rules, sym, ap, ◌∙◌, subst}
-use Rattle.std.specs.Prelude.{Result, Ok, Err, OnOk}
 use Rattle.std.specs.declared.alloc.Global.{Global}
 use Rattle.std.specs.declared.boxed.Box.{Box}
 use Rattle.std.proofs.lemmas.List.{take_all, take_more}
@@ -26,11 +25,6 @@ use Rattle.rob_expand.specs.Placing.{placed_tree}
 use Rattle.rob_expand.specs.Scopes.{Scope, IsAlike, IsIndex, IsNothing, IsPart, IsPlaced, IsPutIn, Pairwise}
 use Rattle.rob_expand.proofs.Values.AlikeLemmas.{number_alike, name_alike, sum_alike, product_alike, over_alike, single_alike}
 use Rattle.rob_expand.proofs.Counting.StepLemmas.{part_is}
-
--- ---- what holds whether a call succeeds or not
-pub either_way : {T E P : Type 0} (r : Result T E) → P → OnOk r P
-either_way (Ok x) h = h
-either_way (Err e) h = tt
 
 -- ---- names that another place shows
 pub placed_as : {shown : Scope} (names : Scope) (p : Code) (t : stated.Tree) → shown ≡ names

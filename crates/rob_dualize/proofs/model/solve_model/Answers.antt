@@ -1,6 +1,6 @@
 use Rattle.std.proofs.Common.{arith}
 use Rattle.rob_model.specs.View.{robust}
-use Rattle.rob_rows.proofs.Reductions.{on_ok}
+use Rattle.rob_number.proofs.AnswerLaws.{on_ok_any}
 use Rattle.rob_dualize.proofs.ModelLemmas.{cause_of_route, refused_counted_behind, refused_written, route_counted_behind}
 use Rattle.rob_dualize.proofs.SizeLemmas.{few_within_limits}
 use Rattle.rob_dualize.proofs.model.solve_model.Goals as goal
@@ -24,7 +24,7 @@ returns-in-Ok g c =
     c.in-Ok.ensures.elaborated.is_set in
     let whole = c.in-Ok.ensures.written in
     record {
-      written = on_ok c.solve_dual.result whole;
+      written = on_ok_any c.solve_dual.result whole;
       solved = solves.solved;
       cause = cause_of_route limit m c.solve_dual.result whole solves.stopped;
       counted = record {

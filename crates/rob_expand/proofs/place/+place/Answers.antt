@@ -1,6 +1,7 @@
 use Rattle.std.proofs.Common.{◌∙◌, refl, ap}
 use Rattle.std.specs.Prelude.{not}
 use Rattle.std.proofs.lemmas.Result.{IfOk-weaker}
+use Rattle.rob_number.proofs.AnswerLaws.{on_ok_any}
 use Rattle.rob_syntax.specs.declared.syntax.Part.{Part as Given}
 use Rattle.rob_syntax.specs.declared.syntax.Tree.{Tree as GivenTree}
 use Rattle.rob_syntax.specs.Seen.{seen_part, seen_tree}
@@ -9,7 +10,7 @@ use Rattle.rob_expand.specs.declared.placed.Part.{Part as CodePart}
 use Rattle.rob_expand.specs.declared.scope.Binding.{Binding}
 use Rattle.rob_expand.specs.Placed.{part_of}
 use Rattle.rob_expand.specs.Scopes.{IsPart, IsPlaced, outside}
-use Rattle.rob_expand.proofs.Values.PlaceLemmas.{either_way, pairs_none, pairs_more, pairs_all, placed_as, number_placed, ref_placed, sum_placed, product_placed, part_placed, ranged_placed, single_placed, over_is_placed}
+use Rattle.rob_expand.proofs.Values.PlaceLemmas.{pairs_none, pairs_more, pairs_all, placed_as, number_placed, ref_placed, sum_placed, product_placed, part_placed, ranged_placed, single_placed, over_is_placed}
 use Rattle.rob_expand.proofs.Values.ScopeLemmas.{outside_is}
 use Rattle.rob_expand.proofs.place.+place.Goals as goal
 
@@ -71,9 +72,8 @@ place_ranged-returns-clause-placed t c =
 pub place_ranged-returns-clause-around : goal.place_ranged-returns-clause-around
 place_ranged-returns-clause-around t c =
     let start : Binding = record { moves = not c.is_nothing-single.result; start = c.in_ok-from.from } in
-    either_way c.sum_over.result
-    (c.leave.ensures.left ∙ ap outside (c.in_ok-inner.ensures.around ∙ c.in_ok-enter.ensures.entered)
-    ∙ outside_is c.args.scope.now c.args.range.now.name start)
+    on_ok_any c.sum_over.result (c.leave.ensures.left ∙ ap outside (c.in_ok-inner.ensures.around
+    ∙ c.in_ok-enter.ensures.entered) ∙ outside_is c.args.scope.now c.args.range.now.name start)
 
 pub place_parts-loop-part-init : goal.place_parts-loop-part-init
 place_parts-loop-part-init t c =
