@@ -18,6 +18,7 @@ use Rattle.rob_rows.specs.PrimitiveParts.{combination, content, IsPrimitivePart,
 use Rattle.rob_rows.proofs.Combinations.{combination-at, length-combination}
 use Rattle.rob_rows.proofs.Contents.{content_zero}
 use Rattle.rob_rows.proofs.Pivots.{pivot_row}
+use Rattle.rob_rows.proofs.SizeLemmas.{within_up}
 use Rattle.rob_entries.specs.Entries.{ArePartsOf}
 use Rattle.rob_entries.specs.Updates.{Clearing, CanApply, CanClearRow, IsNarrowBy, IsBounded, IsWideCleared}
 use Rattle.rob_entries.proofs.MappedRows.{number_read}
@@ -203,10 +204,6 @@ pub entry_low : (row : List ℤ) (place bound limit most : ℕ) → place < leng
 entry_low row place bound limit most inside h low high =
     let l : nat_abs (at row place) ≤ bound = h place (pos 0) inside in omega arith
 
--- a row is within a limit that is over its bound
-pub within_up : (row : List ℤ) (bound limit : ℕ) → IsWithin bound row → bound ≤ limit → IsWithin limit row
-within_up row bound limit h low = λ j d jl. let l : nat_abs (get_or row j d) ≤ bound = h j d jl in omega arith
-
 -- a row in lowest terms that is not 0 everywhere has the content 1
 pub content_one : (row : List ℤ) (k : ℕ) → k < length row → at row k ≢ pos 0 → content row ≤ 1 → content row ≡ 1
 content_one row k l some low = elim (cases_eq (content row) 0) [
@@ -239,8 +236,8 @@ module _ {top limit : ℕ} {row : List ℤ} {by : Clearing} {bound place width s
     factors = (first_in, second_in);
     lowest = lowest;
     within = (
-      within_up row bound limit a.bounded.within a.bounded.low,
-      within_up by.entries by.bound limit within a.self_low,
+      within_up bound limit row a.bounded.low a.bounded.within,
+      within_up by.bound limit by.entries a.self_low within,
     );
     some = (place, a.place_in, λ z. absurd (let h = a.positive in omega (arith, ints)));
     own = a.own;

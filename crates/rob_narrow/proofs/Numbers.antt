@@ -1,5 +1,5 @@
 -- The numbers of a program as data, and as mathematics.
-use Rattle.std.proofs.Common.{◌≡◌, ℕ, ◌+◌, ◌<◌, ◌≤◌, suc, sym, subst, arith, inl, inr, refl, zero, List, [], ◌∷◌, All, length, get_or, nat_abs, slice_index_or}
+use Rattle.std.proofs.Common.{◌≡◌, ℕ, ◌+◌, ◌<◌, ◌≤◌, suc, sym, subst, arith, inl, inr, refl, zero, List, [], ◌∷◌, All, length, nat_abs, slice_index_or}
 use Rattle.std.proofs.lemmas.Int.{ints}
 use Rattle.std.proofs.lemmas.Bool.{cases_eq, cases_lt}
 use Rattle.std.proofs.lemmas.List.{get_or_default}
@@ -13,6 +13,7 @@ use Rattle.rob_bounds.proofs.NarrowPaths.{narrow_path}
 use Rattle.rob_rows.specs.declared.program.Lp.{Lp}
 use Rattle.rob_rows.specs.LinearPrograms.{HasNumbersWithin, IsShaped, program_of}
 use Rattle.rob_rows.specs.PrimitiveParts.{IsWithin}
+use Rattle.rob_rows.proofs.SizeLemmas.{within_up}
 use Rattle.rob_narrow.specs.NarrowPrograms.{IsGreatest}
 
 -- an entry of a list, or 0 past its end
@@ -35,10 +36,6 @@ row_within a rows i j h =
       | inl l ↦ at_within a (slice_index_or rows i []) j (h i [] l)
       | inr l ↦ subst (λ r. unsigned_abs (at r j) ≤ a) (sym (missing rows i (omega arith))) (omega (arith, ints))
     ]
-
--- a greater limit
-pub within_up : (a b : ℕ) (row : List ℤ) → a ≤ b → IsWithin a row → IsWithin b row
-within_up a b row l h k d kl = let x : nat_abs (get_or row k d) ≤ a = h k d kl in omega arith
 
 -- the program's numbers are those of the data
 pub program_sized : (a : ℕ) (lp : Lp) → HasNumbersWithin a lp → IsOfSize a (program_of lp)

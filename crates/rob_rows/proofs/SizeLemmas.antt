@@ -1,11 +1,15 @@
--- The greatest size of a row's first entries.
+-- The greatest size of a row's first entries; and rows within a limit.
 use Rattle.std.proofs.Common.{◌≡◌, ℕ, ◌+◌, ◌<◌, ◌≤◌, max, sym, ◌∙◌, subst, arith, inl, inr, ◌⊎◌, List, length, get_or, nat_abs, pos, Any}
 use Rattle.std.proofs.lemmas.Bool.{cases_lt}
 use Rattle.std.proofs.lemmas.List.{get_or_default}
 use lib.IntN.{ℤ}
-use Rattle.rob_rows.specs.PrimitiveParts.{HasWideEntry}
+use Rattle.rob_rows.specs.PrimitiveParts.{HasWideEntry, IsWithin}
 
--- it is 0, or the size of one of them
+-- a row is within a limit that is over its bound
+pub within_up : (low high : ℕ) (row : List ℤ) → low ≤ high → IsWithin low row → IsWithin high row
+within_up low high row l h k d kl = let x : nat_abs (get_or row k d) ≤ low = h k d kl in omega arith
+
+-- the greatest size is 0, or that of one of the first entries
 abbrev pub IsReached : List ℤ → ℕ → ℕ → Type 0
 IsReached row i size = (size ≡ 0) ⊎ ((k : ℕ) × (k < i) × (nat_abs (get_or row k (pos 0)) ≡ size))
 

@@ -1,5 +1,5 @@
 -- A number that is told and is wide: the row that tells it is wide. What is over a limit is over a lower one.
-use Rattle.std.proofs.Common.{◌≡◌, ◌≢◌, ℕ, zero, suc, ◌+◌, ◌-◌, ◌/◌, ◌^◌, ◌<◌, ◌≤◌, sym, ap, ◌∙◌, subst, arith, inl, inr, List, [], get_or, Option, Some, None, IfSome}
+use Rattle.std.proofs.Common.{◌≡◌, ◌≢◌, ℕ, zero, suc, ◌+◌, ◌-◌, ◌/◌, ◌^◌, ◌<◌, ◌≤◌, sym, ap, ◌∙◌, subst, arith, inl, inr, List, [], Option, Some, None, IfSome}
 use Rattle.std.proofs.lemmas.Bool.{cases_eq, cases_lt}
 use Rattle.std.proofs.lemmas.Int.{ints}
 use Rattle.std.specs.Int.RustNames.{unsigned_abs}
@@ -18,7 +18,6 @@ use Rattle.rob_linear.specs.WideRows.{HasWideEntry, IsWideIn, IsWideStage, IsWid
 use Rattle.rob_linear.proofs.KeptOut.BesideLoops.{beside_needs}
 use Rattle.rob_linear.proofs.RowForms.Multiples.{parallel_positive}
 use Rattle.rob_linear.proofs.CostChange.WideRows.{rows_wide_in}
-use Rattle.rob_rows.specs.PrimitiveParts.{IsWithin}
 use Rattle.rob_simplex.specs.declared.state.State.TheVariants.{New}
 use Rattle.rob_simplex.specs.LowestTerms.{lowest_terms}
 use Rattle.rob_simplex.specs.Dictionaries.{Table, positions, columns_of, rows_of, right_column, spare_column}
@@ -69,10 +68,6 @@ module _ (low high : ℕ) (l : low ≤ high) where
   pub wide_below_from : (P : Program) (start basis : Columns) (i : ℕ) → HasWideRowFrom high P start basis i
       → HasWideRowFrom low P start basis i
   wide_below_from P start basis i h = record { reached = h.reached; wide = own_below P basis i h.wide }
-
-  -- ---- what is within a limit is within a greater one
-  pub within_above : (row : List ℤ) → IsWithin low row → IsWithin high row
-  within_above row h i d k = let a : nat_abs (get_or row i d) ≤ low = h i d k in omega arith
 
 -- ---- a quotient that is wide is one of two entries of which one is wide in lowest terms
 told_is_wide : (limit n : ℕ) (r : Vector) (j k : ℕ) → j < n → k < n → pos 0 <ℤ r k

@@ -3,11 +3,12 @@ use Rattle.std.specs.Prelude.{IfErr, MatchResult}
 use Rattle.rob_linear.specs.Vectors.{at}
 use Rattle.rob_linear.specs.Programs.{with_cost}
 use Rattle.rob_linear.specs.WideRows.{HasWideRowFrom}
+use Rattle.rob_rows.proofs.SizeLemmas.{within_up}
 use Rattle.rob_simplex.specs.Dictionaries.{positions, columns_of}
 use Rattle.rob_simplex.specs.Judging.{Tells}
 use Rattle.rob_simplex.specs.PathEnds.{PathStopsFrom}
 use Rattle.rob_simplex.specs.Phases.{EndsFrom}
-use Rattle.rob_simplex.proofs.Telling.JudgingLemmas.{wide_below_from, within_above}
+use Rattle.rob_simplex.proofs.Telling.JudgingLemmas.{wide_below_from}
 use Rattle.rob_simplex.proofs.CostChange.NewCosts.{cost_refused}
 use Rattle.rob_simplex.proofs.dictionary.Dictionary.go_on.Goals as goal
 
@@ -15,7 +16,7 @@ pub put_on-requires-clause-cost : goal.put_on-requires-clause-cost
 put_on-requires-clause-cost g c = record {
   size = c.requires.cost.size;
   within =
-      within_above g.N.Exact.limit (2 ^ 62 - 1) g.met.N.Exact.limit_high c.args.cost.now c.requires.cost.within;
+      within_up g.N.Exact.limit (2 ^ 62 - 1) c.args.cost.now g.met.N.Exact.limit_high c.requires.cost.within;
 }
 
 pub improve_and_judge-requires : goal.improve_and_judge-requires
