@@ -1,16 +1,16 @@
 -- The certificates of the three endings are read off where the run is finished, and have their shape.
 use Rattle.std.proofs.Common.{◌≡◌, ◌≢◌, ℕ, ◌<◌, ◌≤◌, ◌^◌, List, [], length, refl, sym, ap, ◌∙◌, subst, arith}
-use Rattle.std.proofs.lemmas.List.{length-map}
 use Rattle.rob_algebra.specs.Fraction.{Fraction, ◌*ℚ◌}
 use Rattle.rob_linear.specs.Vectors.{Matrix}
 use Rattle.rob_meaning.specs.Certificates.{Cover, Item}
-use Rattle.rob_meaning.specs.Forms.{forms, matrices, matrix_of}
+use Rattle.rob_meaning.specs.Forms.{matrices}
 use Rattle.rob_meaning.specs.Places.{0ℚ, Each}
 use Rattle.rob_meaning.specs.RobustModel.{RobustModel}
 use Rattle.rob_meaning.specs.SetRows.{set_rows}
 use Rattle.rob_meaning.specs.UncertaintySet.{Admits}
 use Rattle.rob_meaning.specs.Vectors.{scale}
 use Rattle.rob_meaning.proofs.Lists.EachLemmas.{each_map}
+use Rattle.rob_meaning.proofs.Tables.MatrixLemmas.{length-matrices}
 use Rattle.rob_cert.specs.Shape.{IsCoverOf, IsItemOf, AreCoversOf, AreItemsOf}
 use Rattle.rob_cert.specs.declared.trace.Round.{Round as Told}
 use Rattle.rob_counterpart.specs.ReadCertificates.{plan_read, bound_read, weight_of}
@@ -30,15 +30,12 @@ use Rattle.rob_cuts.specs.Outcomes.{IsEnd}
 use Rattle.rob_cuts.proofs.RunLemmas.{are_cuts_told, items_are, length-cuts}
 
 module _ (m : RobustModel) where
-  forms_count : length (matrices m) ≡ length (forms m)
-  forms_count = length-map (forms m) (matrix_of m)
-
   -- ---- shapes
   covers_shape : (amounts : ℕ → List Fraction) → AreCoversOf m (covers_of_amounts m amounts)
   covers_shape amounts = record {
     each = each_map (λ (c : Cover). (c.form < length (matrices m)) × (c.set_row < length (set_rows m))
         × (c.amount ≢ 0ℚ)) (IsCoverOf m)
-        (λ c h. record { form = subst (λ n. c.form < n) forms_count h.0; set_row = h.1; amount = h.2 })
+        (λ c h. record { form = subst (λ n. c.form < n) (length-matrices m) h.0; set_row = h.1; amount = h.2 })
         (covers_of_amounts m amounts) (covers_in m amounts);
     ordered = covers_in_order m amounts;
   }
@@ -48,7 +45,7 @@ module _ (m : RobustModel) where
   items_shape cuts weight h few = record {
     each = each_map (λ (i : Item). (i.form < length (matrices m)) × (length i.vector ≡ length m.parameters))
         (IsItemOf m)
-        (λ i k. record { form = subst (λ n. i.form < n) forms_count k.0; numbers = k.1 })
+        (λ i k. record { form = subst (λ n. i.form < n) (length-matrices m) k.0; numbers = k.1 })
         (run_items m cuts weight) (items_in m cuts weight h);
     ordered = items_in_order m cuts weight;
     few = let l : length (run_items m cuts weight) ≤ length cuts = items_count m cuts weight in omega arith;

@@ -1,18 +1,18 @@
 -- How a solver ends on a program with the numbers of the counterpart, and the solution that is read there.
 use Rattle.std.proofs.Common.{◌≡◌, ◌≢◌, ℕ, zero, suc, ◌+◌, ◌*◌, ◌<◌, ◌≤◌, ◌^◌, List, [], length, refl, sym, ap, ◌∙◌, subst, arith}
-use Rattle.std.proofs.lemmas.List.{length-map}
 use Rattle.rob_algebra.specs.Fraction.{Fraction, of_int}
 use Rattle.rob_linear.specs.Vectors.{Matrix, Columns}
 use Rattle.rob_linear.specs.Systems.{System}
 use Rattle.rob_linear.specs.Programs.{Program, system_of, auxiliary_of}
 use Rattle.rob_linear.specs.Turns.{own_of, Enters}
 use Rattle.rob_meaning.specs.Certificates.{infeasible, Cover, Item, Certificate}
-use Rattle.rob_meaning.specs.Forms.{matrices, matrix_of, forms}
+use Rattle.rob_meaning.specs.Forms.{matrices}
 use Rattle.rob_meaning.specs.Places.{0ℚ, 1ℚ}
 use Rattle.rob_meaning.specs.RobustModel.{RobustModel, column_count}
 use Rattle.rob_meaning.specs.UncertaintySet.{Admits}
 use Rattle.rob_meaning.specs.WellFormed.{IsModel}
 use Rattle.rob_meaning.proofs.Lists.EachLemmas.{each_map, each_both}
+use Rattle.rob_meaning.proofs.Tables.MatrixLemmas.{length-matrices}
 use Rattle.rob_number.specs.declared.lp_kind.LpKind.{LpKind}
 use Rattle.rob_number.specs.declared.lp_kind.LpKind.TheVariants as kind
 use Rattle.rob_simplex.specs.Dictionaries.{columns_of}
@@ -87,14 +87,11 @@ at_least (suc n) k = let h : n ≤ n * suc k = at_least n k in let e : suc n * s
     grind arith in omega arith
 
 module _ (m : RobustModel) where
-  forms_count : length (matrices m) ≡ length (forms m)
-  forms_count = length-map (forms m) (matrix_of m)
-
   covers_shape : (x : ℕ → Fraction) → AreCoversOf m (covers_to (robust_of m) (length (matrices m)) x)
   covers_shape x = record {
     each = each_both (λ (c : Cover). (c.form < length (matrices m)) × (c.set_row < (robust_of m).set_rows))
         (λ (c : Cover). c.amount ≢ 0ℚ) (IsCoverOf m)
-        (λ c h z. record { form = subst (λ n. c.form < n) forms_count h.0; set_row = h.1; amount = z })
+        (λ c h z. record { form = subst (λ n. c.form < n) (length-matrices m) h.0; set_row = h.1; amount = z })
         (covers_to (robust_of m) (length (matrices m)) x)
         (covers_inside (robust_of m) x (length (matrices m))) (covers_nonzero (robust_of m) x (length (matrices m)));
     ordered = covers_ordered (robust_of m) x (length (matrices m));
@@ -111,7 +108,7 @@ module _ (m : RobustModel) where
   items_shape y few = record {
     each = each_map (λ (i : Item). (i.form < length (matrices m)) × (length i.vector ≡ (robust_of m).parameters))
         (IsItemOf m)
-        (λ i h. record { form = subst (λ n. i.form < n) forms_count h.0; numbers = h.1 })
+        (λ i h. record { form = subst (λ n. i.form < n) (length-matrices m) h.0; numbers = h.1 })
         (items_to (robust_of m) (length (matrices m)) y) (items_inside (robust_of m) y (length (matrices m)));
     ordered = items_in_order (robust_of m) y (length (matrices m));
     few = let h : length (items_to (robust_of m) (length (matrices m)) y) ≤ length (matrices m) =

@@ -133,6 +133,10 @@ rows-tabulate zero n g = tt
 rows-tabulate (suc h) n g = (length-tabulate n (g zero), rows-tabulate h n (λ k. g (suc k)))
 
 module _ (m : RobustModel) where
+  -- each form has a matrix
+  pub length-matrices : length (matrices m) ≡ length (forms m)
+  length-matrices = length-map (forms m) (matrix_of m)
+
   pub matrix_height : (i : ℕ) → i < length (matrices m) → length (fractions (matrix_at (matrices m) i)) ≡ form_rows m
   matrix_height i h =
       matrix_some (matrix_of m) (λ a. length (fractions a) ≡ form_rows m)

@@ -17,7 +17,8 @@ use Rattle.rob_dualize.specs.Solving as dual
 use Rattle.rob_elab.specs.Forms.{IsForms}
 use Rattle.rob_elab.specs.declared.forms.Forms.{Forms}
 use Rattle.rob_meaning.specs.Certificates.{Certificate}
-use Rattle.rob_meaning.specs.Forms.{forms, matrices, matrix_of}
+use Rattle.rob_meaning.specs.Forms.{forms}
+use Rattle.rob_meaning.proofs.Tables.MatrixLemmas.{length-matrices}
 use Rattle.rob_meaning.specs.Places.{Each}
 use Rattle.rob_meaning.specs.RobustModel.{RobustModel}
 use Rattle.rob_meaning.specs.UncertaintySet.{IsEmptySet}
@@ -43,14 +44,11 @@ use Rattle.rob_words.specs.declared.route.Route.TheVariants.{Dual, Cuts}
 
 -- ---- rounds of a run
 module _ (m : RobustModel) where
-  forms_count : length (matrices m) ≡ length (forms m)
-  forms_count = length-map (forms m) (matrix_of m)
-
   rounds_named : (trace : List RunRound) → Each (IsCut m) (trace_cuts trace) → All (IsRoundOf m) (map round_told trace)
   rounds_named [] h = All-nil (IsRoundOf m)
   rounds_named (r ∷ trace) h =
       All-cons (IsRoundOf m) (round_told r) (map round_told trace)
-      (record { form = omega (arith, h.0.form_in, forms_count); count = h.0.numbers })
+      (record { form = omega (arith, h.0.form_in, length-matrices m); count = h.0.numbers })
       (rounds_named trace h.1)
 
   pub run_named : (told : List Round) (trace : List RunRound) → IsRun m trace → told ≡ map round_told trace
@@ -84,17 +82,17 @@ module _ (m : RobustModel) where
   path_spot limit (spot.Replay number) h = tt
 
   cut_in : (r : RunRound) (f : ℕ) → IsCut m r.cut → r.cut.form ≡ f → f < length (forms m)
-  cut_in r f h is = omega (arith, h.form_in, is, forms_count)
+  cut_in r f h is = omega (arith, h.form_in, is, length-matrices m)
 
   run_spot : (limit : ℕ) (told : List RunRound) (place : RunSpot) → IsWideAfter limit m (trace_cuts told) place
       → IsSpotOf m (spot_told place)
   run_spot limit told (set_row basis i) h = tt
   run_spot limit told (master_row basis i) h = tt
-  run_spot limit told (search_row true f basis i) h = omega (arith, h.2.form_in, forms_count)
-  run_spot limit told (search_row false f basis i) h = omega (arith, h.2.form_in, forms_count)
+  run_spot limit told (search_row true f basis i) h = omega (arith, h.2.form_in, length-matrices m)
+  run_spot limit told (search_row false f basis i) h = omega (arith, h.2.form_in, length-matrices m)
   run_spot limit told (clearing true) h = tt
   run_spot limit told (clearing false) h = tt
-  run_spot limit told (cost f k) h = omega (arith, h.3.form_in, forms_count)
+  run_spot limit told (cost f k) h = omega (arith, h.3.form_in, length-matrices m)
   run_spot limit told (cut_clearing f) h = cut_in h.0 f (round_cut m (trace_cuts told) h.0 h.1) h.2
   run_spot limit told (cut_sum f j) h = cut_in h.0 f (round_cut m (trace_cuts told) h.0 h.1) h.2
 
