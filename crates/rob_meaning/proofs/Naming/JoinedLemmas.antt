@@ -17,7 +17,7 @@ tail_of_list : {A : Type 0} → List A → List A
 tail_of_list [] = []
 tail_of_list (x ∷ xs) = xs
 
-tail_same : {A : Type 0} (x y : A) (xs ys : List A) → x ∷ xs ≡ y ∷ ys → xs ≡ ys
+pub tail_same : {A : Type 0} (x y : A) (xs ys : List A) → x ∷ xs ≡ y ∷ ys → xs ≡ ys
 unfolding tail_of_list
 tail_same x y xs ys e = ap tail_of_list e
 

@@ -19,10 +19,7 @@ use Rattle.rob_reach.specs.Ranges.{KeepsNames}
 use Rattle.rob_reach.specs.Trees.{IsIn}
 use Rattle.rob_top.specs.Inputs.{AreVariables}
 use Rattle.rob_words.specs.Names.{parts_behind, parts_of}
-use Rattle.rob_meaning.proofs.Naming.JoinedLemmas.{head_same}
-
-rest_is : {A : Type 0} (x y : A) (xs ys : List A) → x ∷ xs ≡ y ∷ ys → xs ≡ ys
-rest_is x y xs ys e = cc
+use Rattle.rob_meaning.proofs.Naming.JoinedLemmas.{head_same, tail_same}
 
 -- how many bytes are left of a list of names, and one more where a name is left
 abbrev pub left : Option (List ℕ) → ℕ
@@ -198,7 +195,7 @@ module _ (m : RobustModel) where
         (head_same (name_of i) (name_of j) (map name_of a) (map name_of b) e)
         in
         let more : a ≡ b =
-        same_numbers a b (rest_is (name_of i) (name_of j) (map name_of a) (map name_of b) e) h.1 k.1 in
+        same_numbers a b (tail_same (name_of i) (name_of j) (map name_of a) (map name_of b) e) h.1 k.1 in
         ap (λ n. n ∷ a) one ∙ ap (λ list. j ∷ list) more
 
     pub one_numbering : (names : List Name) (a b : List ℕ) → AreVariables m names a → AreVariables m names b → a ≡ b
