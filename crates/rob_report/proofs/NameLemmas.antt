@@ -1,9 +1,9 @@
 -- The names of a model's parts by their numbers, and how many conditions and columns the set has.
 use Rattle.std.proofs.Common.{◌≡◌, ℕ, zero, suc, ◌+◌, ◌<◌, List, [], ◌∷◌, ◌++◌, length, arith, refl, ap, ap₂, sym, ◌∙◌, length-append}
-use Rattle.std.specs.Prelude.{Option, Some, None, codes}
+use Rattle.std.specs.Prelude.{codes}
 use Rattle.std.proofs.lemmas.Option.{get_or_from_slice_get}
-use Rattle.rob_algebra.specs.Fraction.{Fraction}
 use Rattle.rob_cert.specs.Spelling.{name_at}
+use Rattle.rob_meaning.proofs.Naming.NameLemmas.{both_declared}
 use Rattle.rob_meaning.specs.Names.{Name, set_column_names, set_condition_names}
 use Rattle.rob_meaning.specs.RobustModel.{Parameter, SetLine, RobustModel}
 use Rattle.rob_meaning.specs.SetConditions.{if_declared, all_stated, bounds_from, lower_bound, upper_bound, set_conditions}
@@ -27,11 +27,6 @@ at_back (x ∷ xs) ys zero k e = absurd (omega (arith, e))
 at_back (x ∷ xs) ys (suc i) k e = at_back xs ys i k (omega (arith, e))
 
 -- ---- how many
-length-if_declared : {A B : Type 0} (f : Fraction → A) (g : Fraction → B) (o : Option Fraction)
-    → length (if_declared f o) ≡ length (if_declared g o)
-length-if_declared f g None = refl
-length-if_declared f g (Some b) = refl
-
 pub length-parameter_bound_names : (k : ℕ) (ps : List Parameter)
     → length (parameter_bound_names ps) ≡ length (bounds_from k ps)
 length-parameter_bound_names k [] = refl
@@ -40,8 +35,8 @@ length-parameter_bound_names k (p ∷ ps) =
     ∙ ap₂ ◌+◌
     (length-append (if_declared (λ l. dotted p.name (codes "lower")) p.lower)
     (if_declared (λ b. dotted p.name (codes "upper")) p.upper)
-    ∙ ap₂ ◌+◌ (length-if_declared (λ l. dotted p.name (codes "lower")) (lower_bound k) p.lower)
-    (length-if_declared (λ b. dotted p.name (codes "upper")) (upper_bound k) p.upper)
+    ∙ ap₂ ◌+◌ (both_declared (λ l. dotted p.name (codes "lower")) (lower_bound k) p.lower)
+    (both_declared (λ b. dotted p.name (codes "upper")) (upper_bound k) p.upper)
     ∙ sym (length-append (if_declared (lower_bound k) p.lower) (if_declared (upper_bound k) p.upper)))
     (length-parameter_bound_names (suc k) ps)
     ∙ sym (length-append (if_declared (lower_bound k) p.lower ++ if_declared (upper_bound k) p.upper)
