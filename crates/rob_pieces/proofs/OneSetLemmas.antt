@@ -2,20 +2,18 @@
 use Rattle.std.specs.Prelude.{◌≡◌, ℕ, suc, ◌<◌, List, [], ◌∷◌, length}
 use Rattle.std.proofs.Common.{ap, arith}
 use Rattle.rob_algebra.specs.Fraction.{Fraction}
+use Rattle.rob_meaning.proofs.Scenarios.AloneLemmas.{set_count-alone}
 use Rattle.rob_meaning.specs.Places.{Each, EachFrom}
 use Rattle.rob_meaning.specs.RobustModel.{RobustModel, Row, SetLine, line_set, row_set, set_count}
 use Rattle.rob_meaning.specs.UncertaintySet.{in_each_set, joined_scenarios}
 use Rattle.rob_meaning.specs.WellFormed.{IsLineOf, IsModel, IsOf}
 
 module _ (m : RobustModel) (alone : m.sets ≡ []) where
-  one_set : set_count m ≡ 1
-  one_set = ap (λ (sets : List (List ℕ)). suc (length sets)) alone
-
   pub is_default : (S : ℕ) → S < set_count m → S ≡ 0
-  is_default S some = let one = one_set in omega arith
+  is_default S some = let one = set_count-alone m alone in omega arith
 
   pub not_named : (S : ℕ) → 0 < S → S < set_count m → ⊥
-  not_named S some small = let one = one_set in omega arith
+  not_named S some small = let one = set_count-alone m alone in omega arith
 
   pub in_one_set : (u : List Fraction) → in_each_set m u ≡ u
   in_one_set u = ap (λ (sets : List (List ℕ)). joined_scenarios (length sets) (λ S. u)) alone

@@ -5,12 +5,12 @@ use Rattle.std.proofs.lemmas.List.{length-map}
 use Rattle.rob_algebra.specs.Fraction.{Fraction, neg_ℚ}
 use Rattle.rob_algebra.specs.Width.{Fits}
 use Rattle.rob_algebra.proofs.Parts.{neg_parts}
-use Rattle.rob_meaning.proofs.Scenarios.AloneLemmas.{all_taken}
+use Rattle.rob_meaning.proofs.Scenarios.AloneLemmas.{all_taken, set_count-alone}
 use Rattle.rob_meaning.proofs.Lists.EachLemmas.{each_append, each_map}
 use Rattle.rob_meaning.specs.Expressions.{Expression, Terms, Factors, number, parameter, variable, adaptive, adaptive_in, sum, product, no_terms, term, no_factors, factor}
 use Rattle.rob_meaning.specs.Places.{Each}
 use Rattle.rob_meaning.specs.RobustModel as model
-use Rattle.rob_meaning.specs.RobustModel.{AdaptiveVariable, Member, RobustModel, Row, SetLine, Variable, budget, line, set_count, written_parameters}
+use Rattle.rob_meaning.specs.RobustModel.{AdaptiveVariable, Member, RobustModel, Row, SetLine, Variable, budget, line, written_parameters}
 use Rattle.rob_meaning.specs.SetConditions.{if_declared}
 use Rattle.rob_parse.specs.Models.{in_sets}
 use Rattle.rob_pieces.proofs.BlockLemmas.{each_cell, each_flat, each_mapped}
@@ -85,9 +85,6 @@ module _ (m : RobustModel) (c limit : ℕ) (a b : Naming)
 
 -- ---- a model of one set has written itself
 module _ (m : RobustModel) (alone : m.sets ≡ []) (placed : IsPlaced m) where
-  one_set : set_count m ≡ 1
-  one_set = ap (λ (l : List (List ℕ)). suc (length l)) alone
-
   pub own_written : record (written_model m) {
     sets =
         [];
@@ -97,9 +94,9 @@ module _ (m : RobustModel) (alone : m.sets ≡ []) (placed : IsPlaced m) where
   } ≡ m
   own_written =
       sym (in_no_sets (written_model m) m.line_sets m.row_sets m.objective_set
-      (subst (λ (n : ℕ). Each (λ S. S < n) m.line_sets) one_set placed.of_lines)
-      (subst (λ (n : ℕ). m.objective_set < n) one_set placed.of_objective)
-      (subst (λ (n : ℕ). Each (λ S. S < n) m.row_sets) one_set placed.of_rows))
+      (subst (λ (n : ℕ). Each (λ S. S < n) m.line_sets) (set_count-alone m alone) placed.of_lines)
+      (subst (λ (n : ℕ). m.objective_set < n) (set_count-alone m alone) placed.of_objective)
+      (subst (λ (n : ℕ). Each (λ S. S < n) m.row_sets) (set_count-alone m alone) placed.of_rows))
       ∙ (λ i. in_sets (written_model m) (sym alone i) m.line_sets m.objective_set m.row_sets) ∙ placed.taken_is
 
 -- a model's own parts are readable

@@ -6,6 +6,7 @@ use Rattle.std.proofs.lemmas.List.{length-map}
 use Rattle.rob_algebra.specs.Fraction.{Fraction}
 use Rattle.rob_meaning.proofs.Conditions.AdmissionLemmas.{jointly_meets, meets_jointly}
 use Rattle.rob_meaning.proofs.Lists.ListLemmas.{same_by_places}
+use Rattle.rob_meaning.proofs.Scenarios.AloneLemmas.{set_count-alone, all_written}
 use Rattle.rob_meaning.proofs.Scenarios.JointScenarioLemmas.{agree_part, at-part_of, length-joined, length-part_of, line_same, part_of_joined}
 use Rattle.rob_meaning.specs.JointMeaning.{AdmitsJointly}
 use Rattle.rob_meaning.specs.Places.{1ℚ, at, Each, EachFrom}
@@ -250,14 +251,6 @@ module _ (m : RobustModel) (model : IsModel m) where
 
 -- ---- one set alone
 module _ (m : RobustModel) (model : IsModel m) (alone : m.sets ≡ []) where
-  one_set : set_count m ≡ 1
-  one_set = ap (λ (sets : List (List ℕ)). suc (length sets)) alone
-
-  all_written : written_count m ≡ length m.parameters
-  all_written =
-      sym (length-parameters m model ∙ ap (λ n. n * written_count m) one_set
-      ∙ omega (arith, suc-mul 0 (written_count m)))
-
   own_part : (u : List Fraction) → length u ≡ written_count m → part_of m 0 u ≡ u
   own_part u fits =
       same_by_places (part_of m 0 u) u (length-part_of m 0 u ∙ sym fits)
@@ -269,16 +262,16 @@ module _ (m : RobustModel) (model : IsModel m) (alone : m.sets ≡ []) where
   only_part : (u : List Fraction) → AdmitsIn m 0 (part_of m 0 u) → (S : ℕ) → S < set_count m
       → AdmitsIn m S (part_of m S u)
   only_part u h zero some = h
-  only_part u h (suc S) some = absurd (let one = one_set in omega arith)
+  only_part u h (suc S) some = absurd (let one = set_count-alone m alone in omega arith)
 
   pub one_set_law : (u : List Fraction) → AdmitsIn m 0 u ↔ AdmitsJointly m u
   one_set_law u = (
     λ h. admits_jointly m model u
         (record {
-          numbers = h.numbers ∙ all_written;
+          numbers = h.numbers ∙ all_written m alone;
           parts = only_part u (subst (λ (v : List Fraction). AdmitsIn m 0 v) (sym (own_part u h.numbers)) h);
         }),
-    λ h. subst (λ (v : List Fraction). AdmitsIn m 0 v) (own_part u (h.numbers ∙ sym all_written))
+    λ h. subst (λ (v : List Fraction). AdmitsIn m 0 v) (own_part u (h.numbers ∙ sym (all_written m alone)))
         ((jointly_admits m model u h).parts 0 (omega arith)),
   )
 

@@ -9,11 +9,11 @@ use Rattle.rob_meaning.specs.RobustModel.{AdaptiveVariable, Member, RobustModel,
 use Rattle.rob_meaning.specs.WellFormed.{FactorsInside, FactorsOf, IsExpression, IsInside, IsLineOf, IsMember, IsModel, IsOf, IsParameterOf, IsSetLine, TermsInside, TermsOf}
 
 module _ (m : RobustModel) (alone : m.sets ≡ []) where
-  one_set : set_count m ≡ 1
-  one_set = ap (λ (sets : List (List ℕ)). suc (length sets)) alone
+  pub set_count-alone : set_count m ≡ 1
+  set_count-alone = ap (λ (sets : List (List ℕ)). suc (length sets)) alone
 
   pub all_written : written_count m ≡ length m.parameters
-  all_written = ap (λ n. length m.parameters / n) one_set ∙ div-one (length m.parameters)
+  all_written = ap (λ n. length m.parameters / n) set_count-alone ∙ div-one (length m.parameters)
 
   pub all_taken : written_parameters m ≡ m.parameters
   all_taken = ap (λ n. take n m.parameters) all_written ∙ take_all (length m.parameters) m.parameters (omega arith)
@@ -31,7 +31,7 @@ module _ (m : RobustModel) (alone : m.sets ≡ []) where
   )
 
   not_named : (S : ℕ) → 0 < S → S < set_count m → S ≡ 0
-  not_named S some small = let one = one_set in absurd (omega arith)
+  not_named S some small = let one = set_count-alone in absurd (omega arith)
 
   mutual
     pub own : (e : Expression) → IsInside m e → IsOf m 0 e

@@ -1,12 +1,13 @@
 -- A text without the word `over`, and a model without named sets: nothing is taken in a set, and no line ends in one.
-use Rattle.std.proofs.Common.{◌≡◌, ℕ, suc, ◌+◌, ◌*◌, ◌/◌, ◌<◌, List, [], ◌∷◌, ◌++◌, length, map, take, refl, sym, ap, ◌∙◌, subst, arith, append-nil, zero-mul, div-one}
+use Rattle.std.proofs.Common.{◌≡◌, ℕ, ◌+◌, ◌*◌, ◌<◌, List, [], ◌∷◌, ◌++◌, length, map, refl, sym, ap, ◌∙◌, subst, arith, append-nil, zero-mul}
 use Rattle.std.specs.Prelude.{Option, None}
 use Rattle.std.specs.List.{flat_map}
 use Rattle.rob_meaning.specs.Expressions.{Expression, Terms, Factors, number, parameter, variable, adaptive, adaptive_in, sum, product, no_terms, term, no_factors, factor}
 use Rattle.rob_meaning.specs.JointMeaning.{HasOneSet}
+use Rattle.rob_meaning.proofs.Scenarios.AloneLemmas.{all_taken, set_count-alone}
 use Rattle.rob_meaning.specs.Places.{Each}
 use Rattle.rob_meaning.specs.RobustModel as model
-use Rattle.rob_meaning.specs.RobustModel.{AdaptiveVariable, Member, Parameter, RobustModel, Row, SetLine, budget, line, set_count, written_count, written_parameters}
+use Rattle.rob_meaning.specs.RobustModel.{AdaptiveVariable, Member, Parameter, RobustModel, Row, SetLine, budget, line}
 use Rattle.rob_rules.specs.declared.sort.Sort.{Sort}
 use Rattle.rob_syntax.specs.declared.syntax.Statement.{Statement}
 use Rattle.rob_syntax.specs.declared.syntax.Statement.TheVariants as parsed
@@ -181,31 +182,18 @@ lines_end words sets (x ∷ xs) (S ∷ Ss) h =
     let none : S ≡ 0 = omega (arith, h.0) in
     λ i. (ap (λ (T : ℕ). words x ++ over_words sets T) none ∙ append-nil (words x)) i ∷ lines_end words sets xs Ss h.1 i
 
-take_all : {A : Type 0} (xs : List A) → take (length xs) xs ≡ xs
-take_all [] = refl
-take_all (x ∷ xs) = λ i. x ∷ take_all xs i
-
 module _ (m : RobustModel) (alone : m.sets ≡ []) (placed : IsPlaced m) where
   abbrev w : RobustModel
   w = written_model m
 
-  count_one : set_count m ≡ 1
-  count_one = ap (λ (l : List (List ℕ)). suc (length l)) alone
-
-  count_all : written_count m ≡ length m.parameters
-  count_all = ap (λ (n : ℕ). length m.parameters / n) count_one ∙ div-one (length m.parameters)
-
-  parameters_all : written_parameters m ≡ m.parameters
-  parameters_all = ap (λ (n : ℕ). take n m.parameters) count_all ∙ take_all m.parameters
-
   of_lines : Each (λ S. S < 1) m.line_sets
-  of_lines = subst (λ (n : ℕ). Each (λ S. S < n) m.line_sets) count_one placed.of_lines
+  of_lines = subst (λ (n : ℕ). Each (λ S. S < n) m.line_sets) (set_count-alone m alone) placed.of_lines
 
   of_objective : m.objective_set < 1
-  of_objective = subst (λ (n : ℕ). m.objective_set < n) count_one placed.of_objective
+  of_objective = subst (λ (n : ℕ). m.objective_set < n) (set_count-alone m alone) placed.of_objective
 
   of_rows : Each (λ S. S < 1) m.row_sets
-  of_rows = subst (λ (n : ℕ). Each (λ S. S < n) m.row_sets) count_one placed.of_rows
+  of_rows = subst (λ (n : ℕ). Each (λ S. S < n) m.row_sets) (set_count-alone m alone) placed.of_rows
 
   -- what it has written is what it is
   same : record w { sets = []; line_sets = m.line_sets; objective_set = m.objective_set; row_sets = m.row_sets } ≡ m
@@ -215,7 +203,7 @@ module _ (m : RobustModel) (alone : m.sets ≡ []) (placed : IsPlaced m) where
 
   naming : naming_of m ≡ naming_alone m
   naming = λ i. record {
-    parameters = map (λ (p : Parameter). p.name) (parameters_all i);
+    parameters = map (λ (p : Parameter). p.name) (all_taken m alone i);
     sets = alone i;
     variables = map (λ (x : model.Variable). x.name) m.variables;
     adaptives = map (λ (y : AdaptiveVariable). y.name) m.adaptives;
@@ -242,7 +230,7 @@ module _ (m : RobustModel) (alone : m.sets ≡ []) (placed : IsPlaced m) where
   -- the law: its lines are those of the model itself
   pub lines_are_alone : lines_of m ≡ lines_alone m
   lines_are_alone = λ i.
-      map parameter_words (parameters_all i)
+      map parameter_words (all_taken m alone i)
       ++ (no_names i
       ++ (sets_alone i
       ++ (map variable_words m.variables
