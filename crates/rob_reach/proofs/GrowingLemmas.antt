@@ -11,7 +11,7 @@ use Rattle.rob_meaning.specs.Proves.{Proves, ProvesAs}
 use Rattle.rob_meaning.specs.RobustModel.{RobustModel, Sense}
 use Rattle.rob_meaning.specs.WellFormed.{IsModel}
 use Rattle.rob_reach.proofs.BoxLemmas.{model_behind}
-use Rattle.rob_reach.proofs.CertificateLemmas.{optimal_bound, unbounded_bound}
+use Rattle.rob_meaning.proofs.Proving.ProvesLemmas.{optimal_bound, unbounded_bound}
 use Rattle.rob_reach.proofs.RangeLemmas.{bounded_in, number_between, lower_at, upper_at, changes_bounded}
 use Rattle.rob_reach.proofs.SplitLemmas.{products_split, product_positive}
 use Rattle.rob_reach.specs.Boxes.{Branch, behind, box_below, box_above, at_most_branch, at_least_branch}

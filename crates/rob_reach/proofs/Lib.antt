@@ -2,7 +2,7 @@ pub mod WholeNumberLemmas
 pub mod SameColumns
 pub mod BoxLemmas
 pub mod StatusLemmas
-pub mod CertificateLemmas
+pub mod DirectionLemmas
 pub mod RangeLemmas
 pub mod TreeLemmas
 pub mod SplitLemmas

@@ -135,8 +135,14 @@ module _ (m : RobustModel) (model : IsModel m) where
       subst (λ y. y ≤ℚ 0ℚ) (sym (combination-sum m (plan_vector 1ℚ plan tau) items))
       (weighted_nonpositive m (plan_vector 1ℚ plan tau) items h (items_at inside admitted plan tau b items h))
 
-  optimal_bound : (c : Certificate) → ProvesOptimal m c → HasBound m c.plan c.value
+  -- so the plan of a certificate has its value as a bound
+  pub optimal_bound : (c : Certificate) → ProvesOptimal m c → HasBound m c.plan c.value
   optimal_bound c h =
+      at_bound m model c.plan c.value c.inside h.inside h.columns (covered c.covers c.scale
+      (plan_vector 1ℚ c.plan c.value) h.scale h.covered)
+
+  pub unbounded_bound : (c : Certificate) → ProvesUnbounded m c → HasBound m c.plan c.value
+  unbounded_bound c h =
       at_bound m model c.plan c.value c.inside h.inside h.columns (covered c.covers c.scale
       (plan_vector 1ℚ c.plan c.value) h.scale h.covered)
 
@@ -172,7 +178,7 @@ module _ (m : RobustModel) (model : IsModel m) where
       (le_refl_ℚ 0ℚ))
 
   -- the plan moved along the step, any number of times
-  moved_bound : (c : Certificate) → ProvesUnbounded m c → (times : Fraction) → 0ℚ ≤ℚ times →
+  pub moved_bound : (c : Certificate) → ProvesUnbounded m c → (times : Fraction) → 0ℚ ≤ℚ times →
       HasBound m (plus_all ℚ_ring c.plan (scale ℚ_ring times c.step)) (c.value +ℚ times *ℚ c.step_bound)
   moved_bound c h times some =
       at_bound m model (plus_all ℚ_ring c.plan (scale ℚ_ring times c.step)) (c.value +ℚ times *ℚ c.step_bound)
@@ -210,8 +216,7 @@ module _ (m : RobustModel) (model : IsModel m) where
           (plan : List Fraction) × HasBound m plan t
       by (inl k) = (
         c.plan,
-        bound_weakens m c.plan c.value t k (at_bound m model c.plan c.value c.inside h.inside h.columns
-            (covered c.covers c.scale (plan_vector 1ℚ c.plan c.value) h.scale h.covered)),
+        bound_weakens m c.plan c.value t k (unbounded_bound c h),
       )
       by (inr k) = (
         plus_all ℚ_ring c.plan (scale ℚ_ring k.0 c.step),
