@@ -7,7 +7,7 @@ use Rattle.rob_algebra.specs.FractionLaws.{ℚ_ring}
 use Rattle.rob_algebra.specs.Lists.{scale, plus_all, length-scale}
 use Rattle.rob_algebra.specs.Polynomials.{lit, ◌:+◌, ◌:*◌, v0, v1}
 use Rattle.rob_meaning.proofs.Lists.PlaceLemmas.{at-scale, at-plus_all}
-use Rattle.rob_meaning.proofs.Proving.ProvesLemmas.{certificate_true, moved_bound, optimal_bound}
+use Rattle.rob_meaning.proofs.Proving.ProvesLemmas.{certificate_true, moved_bound, optimal_bound, reached}
 use Rattle.rob_meaning.proofs.Proving.StatusLemmas.{no_worse_trans, bound_weakens}
 use Rattle.rob_meaning.specs.Certificates.{Certificate, Status, optimal, infeasible, unbounded}
 use Rattle.rob_meaning.specs.Guarantee.{HasBound, IsNoWorse}
@@ -16,7 +16,7 @@ use Rattle.rob_meaning.specs.Proves.{Proves, ProvesAs, ProvesUnbounded, HasStatu
 use Rattle.rob_meaning.specs.RobustModel.{RobustModel}
 use Rattle.rob_meaning.specs.WellFormed.{IsModel}
 use Rattle.rob_reach.proofs.BoxLemmas.{whole_at, split_covers, bound_out, model_behind}
-use Rattle.rob_reach.proofs.DirectionLemmas.{reached, stands_still}
+use Rattle.rob_reach.proofs.DirectionLemmas.{stands_still}
 use Rattle.rob_reach.proofs.RangeLemmas.{both_right, bounded_in, number_between, lower_at, upper_at, changes_bounded}
 use Rattle.rob_reach.specs.Boxes.{Branch, behind, box_below, box_above, at_most_branch, at_least_branch}
 use Rattle.rob_reach.specs.Ranges.{is_bounded, are_bounded}

@@ -72,43 +72,44 @@ moved plan step v d c e =
     (ap (λ (xs : List Fraction). plus_all ℚ_ring (plan ++ v ∷ []) xs) (scale-append c step d)
     ∙ plus_all-append plan (scale ℚ_ring c step) v (c *ℚ d) (e ∙ sym (length-scale ℚ_ring c step)))
 
--- far enough along a direction that improves: the number itself is worse than t, or some multiple reaches t
-Reach : Sense → Fraction → Fraction → Fraction → Type 0
-Reach sense v d t = IsNoWorse sense v t ⊎ ((c : Fraction) × ((0ℚ ≤ℚ c) × (v +ℚ c *ℚ d ≡ t)))
+-- along a direction that improves, any number is reached: the bound is no worse
+-- than it from the start, or at some multiple
+abbrev pub Reaches : Sense → Fraction → Fraction → Fraction → Type 0
+Reaches sense v d t = (c : Fraction) × ((0ℚ ≤ℚ c) × IsNoWorse sense (v +ℚ c *ℚ d) t)
 
-reach : (sense : Sense) (v d t : Fraction) → Improves sense d → Reach sense v d t
-unfolding Reach
-reach minimise v d t h = by (le_total_ℚ v t)
+pub reached : (sense : Sense) (v d t : Fraction) → Improves sense d → Reaches sense v d t
+reached minimise v d t h = by (le_total_ℚ v t)
   where
-    by : (v ≤ℚ t) ⊎ (t <ℚ v) → Reach minimise v d t
-    by (inl k) = inl k
-    by (inr k) =
-        inr (
-          (v -ℚ t) *ℚ inv_ℚ (neg_ℚ d),
-          (
-            mul_nonneg_ℚ (v -ℚ t) (inv_ℚ (neg_ℚ d)) (nonneg_sub_ℚ t v (le_of_lt_ℚ t v k))
-                (le_of_lt_ℚ 0ℚ (inv_ℚ (neg_ℚ d)) (inv_pos (neg_ℚ d) some)),
-            Solver.from_one ℚ_ring (v ∷ t ∷ d ∷ inv_ℚ (neg_ℚ d) ∷ []) (v0 :+ (v0 :- v1) :* v3 :* v2) v1 (v1 :- v0)
-                (minus v2 :* v3) (lit (pos 1)) refl (Q.mul_inv (neg_ℚ d) (pos_some (neg_ℚ d) some)),
-          ),
-        )
-      where
-        some : 0ℚ <ℚ neg_ℚ d
-        some = lt_from (d ∷ []) (lit (pos 0)) (minus v0) (lit (pos 0) :- v0) refl (pos_sub_ℚ d 0ℚ h)
-reach maximise v d t h = by (le_total_ℚ t v)
+    some : 0ℚ <ℚ neg_ℚ d
+    some = lt_from (d ∷ []) (lit (pos 0)) (minus v0) (lit (pos 0) :- v0) refl (pos_sub_ℚ d 0ℚ h)
+
+    by : (v ≤ℚ t) ⊎ (t <ℚ v) → Reaches minimise v d t
+    by (inl k) = (0ℚ, (le_refl_ℚ 0ℚ, subst (λ x. x ≤ℚ t) (Q.ring (v ∷ d ∷ []) v0 (v0 :+ lit (pos 0) :* v1) refl) k))
+    by (inr k) = (
+      (v -ℚ t) *ℚ inv_ℚ (neg_ℚ d),
+      (
+        mul_nonneg_ℚ (v -ℚ t) (inv_ℚ (neg_ℚ d)) (nonneg_sub_ℚ t v (le_of_lt_ℚ t v k))
+            (le_of_lt_ℚ 0ℚ (inv_ℚ (neg_ℚ d)) (inv_pos (neg_ℚ d) some)),
+        subst (λ x. x ≤ℚ t)
+            (sym (Solver.from_one ℚ_ring (v ∷ t ∷ d ∷ inv_ℚ (neg_ℚ d) ∷ []) (v0 :+ (v0 :- v1) :* v3 :* v2) v1 (v1 :- v0)
+            (minus v2 :* v3) (lit (pos 1)) refl (Q.mul_inv (neg_ℚ d) (pos_some (neg_ℚ d) some)))) (le_refl_ℚ t),
+      ),
+    )
+reached maximise v d t h = by (le_total_ℚ t v)
   where
-    by : (t ≤ℚ v) ⊎ (v <ℚ t) → Reach maximise v d t
-    by (inl k) = inl k
-    by (inr k) =
-        inr (
-          (t -ℚ v) *ℚ inv_ℚ d,
-          (
-            mul_nonneg_ℚ (t -ℚ v) (inv_ℚ d) (nonneg_sub_ℚ v t (le_of_lt_ℚ v t k))
-                (le_of_lt_ℚ 0ℚ (inv_ℚ d) (inv_pos d h)),
-            Solver.from_one ℚ_ring (v ∷ t ∷ d ∷ inv_ℚ d ∷ []) (v0 :+ (v1 :- v0) :* v3 :* v2) v1 (v1 :- v0) (v2 :* v3)
-                (lit (pos 1)) refl (Q.mul_inv d (pos_some d h)),
-          ),
-        )
+    by : (t ≤ℚ v) ⊎ (v <ℚ t) → Reaches maximise v d t
+    by (inl k) = (0ℚ, (le_refl_ℚ 0ℚ, subst (λ x. t ≤ℚ x) (Q.ring (v ∷ d ∷ []) v0 (v0 :+ lit (pos 0) :* v1) refl) k))
+    by (inr k) = (
+      (t -ℚ v) *ℚ inv_ℚ d,
+      (
+        mul_nonneg_ℚ (t -ℚ v) (inv_ℚ d) (nonneg_sub_ℚ v t (le_of_lt_ℚ v t k))
+            (le_of_lt_ℚ 0ℚ (inv_ℚ d) (inv_pos d h)),
+        subst (λ x. t ≤ℚ x)
+            (sym (Solver.from_one ℚ_ring (v ∷ t ∷ d ∷ inv_ℚ d ∷ []) (v0 :+ (v1 :- v0) :* v3 :* v2)
+            v1 (v1 :- v0) (v2 :* v3)
+            (lit (pos 1)) refl (Q.mul_inv d (pos_some d h)))) (le_refl_ℚ t),
+      ),
+    )
 
 module _ (m : RobustModel) (model : IsModel m) where
   -- every form is at most 0 at what is covered
@@ -208,20 +209,11 @@ module _ (m : RobustModel) (model : IsModel m) where
           ∙ sym (length-scale ℚ_ring times (plan_vector 0ℚ c.step c.step_bound))
 
   pub proves_unbounded : (c : Certificate) → ProvesUnbounded m c → IsUnbounded m
-  unfolding Reach
-  proves_unbounded c h t = by (reach m.sense c.value c.step_bound t h.improves)
-    where
-      by : IsNoWorse m.sense c.value t
-          ⊎ ((times : Fraction) × ((0ℚ ≤ℚ times) × (c.value +ℚ times *ℚ c.step_bound ≡ t))) →
-          (plan : List Fraction) × HasBound m plan t
-      by (inl k) = (
-        c.plan,
-        bound_weakens m c.plan c.value t k (unbounded_bound c h),
-      )
-      by (inr k) = (
-        plus_all ℚ_ring c.plan (scale ℚ_ring k.0 c.step),
-        subst
-            (λ v. HasBound m (plus_all ℚ_ring c.plan (scale ℚ_ring k.0 c.step)) v) k.1.1 (moved_bound c h k.0 k.1.0),
+  proves_unbounded c h t =
+      let r = reached m.sense c.value c.step_bound t h.improves in (
+        plus_all ℚ_ring c.plan (scale ℚ_ring r.0 c.step),
+        bound_weakens m (plus_all ℚ_ring c.plan (scale ℚ_ring r.0 c.step)) (c.value +ℚ r.0 *ℚ c.step_bound) t r.1.1
+            (moved_bound c h r.0 r.1.0),
       )
 
   pub certificate_true : (c : Certificate) → Proves m c → HasStatus m c.status c.value
