@@ -12,11 +12,7 @@ use Rattle.rob_meaning.specs.UncertaintySet.{Relates, KeepsBounds, KeepsLine, to
 use Rattle.rob_meaning.specs.Values.{value, sum_value, product_value, signed, rule_part, rule_value, rule_value_in}
 use Rattle.rob_meaning.specs.WellFormed.{IsInside, TermsInside, FactorsInside, IsExpression, IsSetLine, IsOf, TermsOf, FactorsOf, IsLineOf, IsModel}
 use Rattle.rob_meaning.proofs.Lists.EachLemmas.{each_map}
-
-pub each_from_map : {A : Type 0} (P Q : ℕ → A → Type 0) → ((k : ℕ) (x : A) → P k x → Q k x) → (k : ℕ) (xs : List A) →
-    EachFrom k P xs → EachFrom k Q xs
-each_from_map P Q f k [] h = tt
-each_from_map P Q f k (x ∷ xs) h = (f k x h.0, each_from_map P Q f (suc k) xs h.1)
+use Rattle.rob_meaning.proofs.Scenarios.JointBoundLemmas.{each_from_same}
 
 module _ (m : RobustModel) (lines : List SetLine) (variables : List Variable)
     (fits : length variables ≡ length m.variables) where
@@ -97,19 +93,20 @@ module _ (m : RobustModel) (lines : List SetLine) (variables : List Variable)
           objective =
               λ e. subst (λ v. IsNoWorse m.sense v tau)
               (sym (value-other plan (in_each_set m u) m.objective)) (h.objective e);
-          rows = each_from_map
+          rows = each_from_same
               (λ i (r : Row). row_set m i ≡ S
               → Relates r.relation (value m plan (in_each_set m u) r.left) (value m plan (in_each_set m u) r.right))
               (λ i (r : Row). row_set m i ≡ S
               → Relates r.relation (value other plan (in_each_set m u) r.left)
               (value other plan (in_each_set m u) r.right))
-              (λ i r g e. row_in plan (in_each_set m u) r (g e)) zero m.rows h.rows;
+              zero m.rows (λ i r g e. row_in plan (in_each_set m u) r (g e)) h.rows;
           adaptives = λ e.
-              each_from_map
+              each_from_same
               (λ k (y : AdaptiveVariable). KeepsBounds y.lower y.upper (rule_value m plan (in_each_set m u) k))
               (λ k (y : AdaptiveVariable). KeepsBounds y.lower y.upper (rule_value other plan (in_each_set m u) k))
+              zero m.adaptives
               (λ k y g. subst (λ v. KeepsBounds y.lower y.upper v) (sym (rule_value-other plan (in_each_set m u) k)) g)
-              zero m.adaptives (h.adaptives e);
+              (h.adaptives e);
         }
 
     pub keeps_out : KeepsIn other plan tau S u → KeepsIn m plan tau S u
@@ -118,19 +115,20 @@ module _ (m : RobustModel) (lines : List SetLine) (variables : List Variable)
           objective =
               λ e. subst (λ v. IsNoWorse m.sense v tau)
               (value-other plan (in_each_set m u) m.objective) (h.objective e);
-          rows = each_from_map
+          rows = each_from_same
               (λ i (r : Row). row_set m i ≡ S
               → Relates r.relation (value other plan (in_each_set m u) r.left)
               (value other plan (in_each_set m u) r.right))
               (λ i (r : Row). row_set m i ≡ S
               → Relates r.relation (value m plan (in_each_set m u) r.left) (value m plan (in_each_set m u) r.right))
-              (λ i r g e. row_out plan (in_each_set m u) r (g e)) zero m.rows h.rows;
+              zero m.rows (λ i r g e. row_out plan (in_each_set m u) r (g e)) h.rows;
           adaptives = λ e.
-              each_from_map
+              each_from_same
               (λ k (y : AdaptiveVariable). KeepsBounds y.lower y.upper (rule_value other plan (in_each_set m u) k))
               (λ k (y : AdaptiveVariable). KeepsBounds y.lower y.upper (rule_value m plan (in_each_set m u) k))
-              (λ k y g. subst (λ v. KeepsBounds y.lower y.upper v) (rule_value-other plan (in_each_set m u) k) g) zero
-              m.adaptives (h.adaptives e);
+              zero m.adaptives
+              (λ k y g. subst (λ v. KeepsBounds y.lower y.upper v) (rule_value-other plan (in_each_set m u) k) g)
+              (h.adaptives e);
         }
 
   -- ---- statements on the set
@@ -158,17 +156,17 @@ module _ (m : RobustModel) (lines : List SetLine) (variables : List Variable)
         → EachFrom k (λ i c. line_set m i ≡ S → KeepsLine m (in_each_set m u) c) cs →
         EachFrom k (λ i c. line_set m i ≡ S → KeepsLine other (in_each_set m u) c) cs
     set_lines_in k cs h =
-        each_from_map (λ i c. line_set m i ≡ S → KeepsLine m (in_each_set m u) c)
+        each_from_same (λ i c. line_set m i ≡ S → KeepsLine m (in_each_set m u) c)
         (λ i c. line_set m i ≡ S → KeepsLine other (in_each_set m u) c)
-        (λ i c g e. keeps_line_in (in_each_set m u) c (g e)) k cs h
+        k cs (λ i c g e. keeps_line_in (in_each_set m u) c (g e)) h
 
     pub set_lines_out : (k : ℕ) (cs : List SetLine) →
         EachFrom k (λ i c. line_set m i ≡ S → KeepsLine other (in_each_set m u) c) cs →
         EachFrom k (λ i c. line_set m i ≡ S → KeepsLine m (in_each_set m u) c) cs
     set_lines_out k cs h =
-        each_from_map (λ i c. line_set m i ≡ S → KeepsLine other (in_each_set m u) c)
+        each_from_same (λ i c. line_set m i ≡ S → KeepsLine other (in_each_set m u) c)
         (λ i c. line_set m i ≡ S → KeepsLine m (in_each_set m u) c)
-        (λ i c g e. keeps_line_out (in_each_set m u) c (g e)) k cs h
+        k cs (λ i c g e. keeps_line_out (in_each_set m u) c (g e)) h
 
   -- ---- well-formed expressions
   mutual
@@ -250,14 +248,14 @@ module _ (m : RobustModel) (lines : List SetLine) (variables : List Variable)
         rows = each_map (λ (r : Row). IsExpression m r.left × IsExpression m r.right)
             (λ (r : Row). IsExpression other r.left × IsExpression other r.right)
             (λ r g. (expression-other r.left g.0, expression-other r.right g.1)) m.rows h.rows;
-        own_lines = each_from_map (λ i c. (line_set m i < set_count m) × IsLineOf m (line_set m i) c)
+        own_lines = each_from_same (λ i c. (line_set m i < set_count m) × IsLineOf m (line_set m i) c)
             (λ i c. (line_set m i < set_count m) × IsLineOf other (line_set m i) c)
-            (λ i c g. (g.0, line_of-other (line_set m i) c g.1)) zero lines own;
+            zero lines (λ i c g. (g.0, line_of-other (line_set m i) c g.1)) own;
         own_objective = (h.own_objective.0, of-other m.objective_set m.objective h.own_objective.1);
-        own_rows = each_from_map
+        own_rows = each_from_same
             (λ i (r : Row). (row_set m i < set_count m) × (IsOf m (row_set m i) r.left × IsOf m (row_set m i) r.right))
             (λ i (r : Row). (row_set m i < set_count m)
             × (IsOf other (row_set m i) r.left × IsOf other (row_set m i) r.right))
-            (λ i r g. (g.0, (of-other (row_set m i) r.left g.1.0, of-other (row_set m i) r.right g.1.1))) zero m.rows
-            h.own_rows;
+            zero m.rows
+            (λ i r g. (g.0, (of-other (row_set m i) r.left g.1.0, of-other (row_set m i) r.right g.1.1))) h.own_rows;
       }

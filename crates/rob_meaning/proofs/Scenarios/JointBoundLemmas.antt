@@ -15,7 +15,8 @@ use Rattle.rob_meaning.specs.UncertaintySet.{Admits, AdmitsIn, EachSetAdmits, Ke
 use Rattle.rob_meaning.specs.Values.{rule_value, value}
 use Rattle.rob_meaning.specs.WellFormed.{IsModel, IsOf}
 
-each_from_same : {A : Type 0} (P Q : ℕ → A → Type 0) (k : ℕ) (xs : List A) → ((i : ℕ) (x : A) → P i x → Q i x) →
+-- what follows item by item, at the same numbers
+pub each_from_same : {A : Type 0} (P Q : ℕ → A → Type 0) (k : ℕ) (xs : List A) → ((i : ℕ) (x : A) → P i x → Q i x) →
     EachFrom k P xs → EachFrom k Q xs
 each_from_same P Q k [] f h = tt
 each_from_same P Q k (x ∷ xs) f h = (f k x h.0, each_from_same P Q (suc k) xs f h.1)
