@@ -120,11 +120,6 @@ module _ {A : Type 0} where
 
 -- ---- over mapped lists
 module _ {A B : Type 0} (f : A → B) where
-  pub each_mapped : (P : A → Type 0) (Q : B → Type 0) → ((x : A) → P x → Q (f x)) → (xs : List A)
-      → Each P xs → Each Q (map f xs)
-  each_mapped P Q h [] e = tt
-  each_mapped P Q h (x ∷ xs) e = (h x e.0, each_mapped P Q h xs e.1)
-
   pub mapped_each : (P R : A → Type 0) (Q : B → Type 0) → ((x : A) → P x → Q (f x) → R x) → (xs : List A) → Each P xs →
       Each Q (map f xs) → Each R xs
   mapped_each P R Q h [] e d = tt

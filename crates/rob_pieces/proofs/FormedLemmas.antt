@@ -4,13 +4,14 @@ use Rattle.std.proofs.Common.{sym, ap, subst, arith}
 use Rattle.rob_algebra.specs.Fraction.{Fraction}
 use Rattle.rob_meaning.proofs.Scenarios.AloneLemmas.{all_written}
 use Rattle.rob_meaning.proofs.Lists.EachLemmas.{each_append, each_map}
+use Rattle.rob_meaning.proofs.Naming.NamedLemmas.{each_mapped}
 use Rattle.rob_meaning.specs.Expressions.{adaptive}
 use Rattle.rob_meaning.specs.Names.{Name}
 use Rattle.rob_meaning.specs.Places.{Each}
 use Rattle.rob_meaning.specs.RobustModel.{AdaptiveVariable, Relation, RobustModel, Row, SetLine, at_least, at_most, joint_parameters, set_count, written_count}
 use Rattle.rob_meaning.specs.SetConditions.{if_declared}
 use Rattle.rob_meaning.specs.WellFormed.{IsExpression, IsLineOf, IsModel, IsOf, IsSetLine}
-use Rattle.rob_pieces.proofs.BlockLemmas.{by_cells, each_cell, each_flat, each_mapped}
+use Rattle.rob_pieces.proofs.BlockLemmas.{by_cells, each_cell, each_flat}
 use Rattle.rob_pieces.proofs.ColumnLemmas.{variables_count, written_parameters_split, written_split}
 use Rattle.rob_pieces.proofs.OverCellLemmas.{expression_over, is_set, number_side, own_line_over, own_number_side, own_over, own_parameter_side, parameter_side, set_line_over}
 use Rattle.rob_pieces.specs.Cuts.{AreCuts, Cut, IsCell, cell_numbers}
@@ -65,14 +66,14 @@ module _ (m : RobustModel) (model : IsModel m) (alone : m.sets ≡ []) (cuts : L
     lines_set : Each (IsSetLine s) (cell_lines m c cuts)
     lines_set =
         each_append (IsSetLine s) (map (line_over m c) m.set_lines) (side_lines m c cuts)
-        (each_mapped (line_over m c) (IsSetLine m) (IsSetLine s) (set_line_over m alone cuts c cell)
+        (each_mapped (IsSetLine s) (line_over m c) (IsSetLine m) (set_line_over m alone cuts c cell)
         m.set_lines model.set_lines)
         (sides_set cuts are)
 
     lines_own : Each (IsLineOf s c) (cell_lines m c cuts)
     lines_own =
         each_append (IsLineOf s c) (map (line_over m c) m.set_lines) (side_lines m c cuts)
-        (each_mapped (line_over m c) (IsSetLine m) (IsLineOf s c) (own_line_over m alone cuts c cell)
+        (each_mapped (IsLineOf s c) (line_over m c) (IsSetLine m) (own_line_over m alone cuts c cell)
         m.set_lines model.set_lines)
         (sides_own cuts are)
 
@@ -90,7 +91,7 @@ module _ (m : RobustModel) (model : IsModel m) (alone : m.sets ≡ []) (cuts : L
     rows_formed = (
       (worst_is, expression_over m alone cuts c cell m.objective model.objective),
       each_append RowFormed (map (row_over m c) m.rows) (bound_rows m c 0 m.adaptives)
-          (each_mapped (row_over m c) (λ (r : Row). IsExpression m r.left × IsExpression m r.right) RowFormed
+          (each_mapped RowFormed (row_over m c) (λ (r : Row). IsExpression m r.left × IsExpression m r.right)
           (λ r h. (expression_over m alone cuts c cell r.left h.0, expression_over m alone cuts c cell r.right h.1))
           m.rows model.rows)
           (each_bound_row m c RowFormed 0 m.adaptives
@@ -104,7 +105,7 @@ module _ (m : RobustModel) (model : IsModel m) (alone : m.sets ≡ []) (cuts : L
     rows_own = (
       (tt, own_over m alone cuts c cell m.objective model.objective.0),
       each_append RowOwn (map (row_over m c) m.rows) (bound_rows m c 0 m.adaptives)
-          (each_mapped (row_over m c) (λ (r : Row). IsExpression m r.left × IsExpression m r.right) RowOwn
+          (each_mapped RowOwn (row_over m c) (λ (r : Row). IsExpression m r.left × IsExpression m r.right)
           (λ r h. (own_over m alone cuts c cell r.left h.0.0, own_over m alone cuts c cell r.right h.1.0)) m.rows
           model.rows)
           (each_bound_row m c RowOwn 0 m.adaptives
@@ -123,8 +124,8 @@ module _ (m : RobustModel) (model : IsModel m) (alone : m.sets ≡ []) (cuts : L
         (each_cell cuts
         (λ c. Each (λ (y : AdaptiveVariable). Each (λ k. k < written_count s) y.on) (map (copy_in m c) m.adaptives))
         (λ c cell.
-        each_mapped (copy_in m c) (λ (y : AdaptiveVariable). Each (λ k. k < length m.parameters) y.on)
-        (λ (y : AdaptiveVariable). Each (λ k. k < written_count s) y.on)
+        each_mapped (λ (y : AdaptiveVariable). Each (λ k. k < written_count s) y.on) (copy_in m c)
+        (λ (y : AdaptiveVariable). Each (λ k. k < length m.parameters) y.on)
         (λ y h. subst (λ n. Each (λ k. k < n) y.on) (sym (written_split m cuts)) h) m.adaptives lists_within));
     objective = (subst (λ n. length m.variables < n) (sym (variables_count m cuts)) (omega arith), tt);
     rows =

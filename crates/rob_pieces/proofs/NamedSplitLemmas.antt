@@ -8,13 +8,13 @@ use Rattle.rob_algebra.specs.Fraction.{Fraction}
 use Rattle.rob_meaning.proofs.Scenarios.AloneLemmas.{all_taken}
 use Rattle.rob_meaning.proofs.Lists.EachLemmas.{each_append, each_left, each_right}
 use Rattle.rob_meaning.proofs.Naming.JoinedLemmas.{decimal_plain}
-use Rattle.rob_meaning.proofs.Naming.NamedLemmas.{each_unmapped, plain_word}
+use Rattle.rob_meaning.proofs.Naming.NamedLemmas.{each_unmapped, plain_word, each_mapped}
 use Rattle.rob_meaning.specs.Named.{AreDistinct, HasDistinctMembers, IsFree, IsNamed, IsPlain, adaptive_names, declared_names, row_names, variable_names, written_names}
 use Rattle.rob_meaning.specs.Names.{Name}
 use Rattle.rob_meaning.specs.Places.{Each}
 use Rattle.rob_meaning.specs.RobustModel.{AdaptiveVariable, Member, Parameter, Relation, RobustModel, Row, SetLine, Variable, at_least, at_most, budget, line}
 use Rattle.rob_meaning.specs.SetConditions.{if_declared}
-use Rattle.rob_pieces.proofs.BlockLemmas.{each_cell, each_flat, each_mapped}
+use Rattle.rob_pieces.proofs.BlockLemmas.{each_cell, each_flat}
 use Rattle.rob_pieces.proofs.ColumnLemmas.{written_parameters_split}
 use Rattle.rob_pieces.specs.Cuts.{Cut, IsCell, bit, cell_numbers}
 use Rattle.rob_pieces.specs.SplitModel.{bound_row, bound_rows, cell_lines, cell_names, cell_rows, cells_worst, copy_in, line_over, member_over, numbered, parameter_in, row_over, side_line, side_lines, split_model}
@@ -101,7 +101,7 @@ module _ (m : RobustModel) (alone : m.sets ≡ []) (cuts : List Cut) where
     row_names_kept c cell = (
       made (codes "cost") c cell (plain_word (codes "cost") refl),
       each_append (λ (r : Row). P r.name) (map (row_over m c) m.rows) (bound_rows m c 0 m.adaptives)
-          (each_mapped (row_over m c) (λ (r : Row). IsPlain r.name) (λ (r : Row). P r.name)
+          (each_mapped (λ (r : Row). P r.name) (row_over m c) (λ (r : Row). IsPlain r.name)
           (λ r h. made r.name c cell h) m.rows
           (each_unmapped IsPlain (λ (r : Row). r.name) m.rows
           (each_left IsPlain (row_names m) _ (behind_sets IsPlain plain))))
@@ -113,7 +113,7 @@ module _ (m : RobustModel) (alone : m.sets ≡ []) (cuts : List Cut) where
     adaptive_names_kept : (c : ℕ) → IsCell cuts c
         → Each (λ (y : AdaptiveVariable). P y.name) (map (copy_in m c) m.adaptives)
     adaptive_names_kept c cell =
-        each_mapped (copy_in m c) (λ (y : AdaptiveVariable). IsPlain y.name) (λ (y : AdaptiveVariable). P y.name)
+        each_mapped (λ (y : AdaptiveVariable). P y.name) (copy_in m c) (λ (y : AdaptiveVariable). IsPlain y.name)
         (λ y h. made y.name c cell h) m.adaptives
         (each_unmapped IsPlain (λ (y : AdaptiveVariable). y.name) m.adaptives
         (each_right IsPlain (variable_names m) _ (behind_rows IsPlain plain)))
@@ -181,7 +181,7 @@ module _ (m : RobustModel) (alone : m.sets ≡ []) (cuts : List Cut) where
         each_flat (λ (y : AdaptiveVariable). AreDistinct y.on) (λ c. map (copy_in m c) m.adaptives) (cell_numbers cuts)
         (each_cell cuts (λ c. Each (λ (y : AdaptiveVariable). AreDistinct y.on) (map (copy_in m c) m.adaptives))
         (λ c cell.
-        each_mapped (copy_in m c) (λ (y : AdaptiveVariable). AreDistinct y.on)
+        each_mapped (λ (y : AdaptiveVariable). AreDistinct y.on) (copy_in m c)
         (λ (y : AdaptiveVariable). AreDistinct y.on) (λ y h. h)
         m.adaptives named.lists));
     members =
@@ -189,7 +189,7 @@ module _ (m : RobustModel) (alone : m.sets ≡ []) (cuts : List Cut) where
         (each_cell cuts (λ c. Each HasDistinctMembers (cell_lines m c cuts))
         (λ c cell.
         each_append HasDistinctMembers (map (line_over m c) m.set_lines) (side_lines m c cuts)
-        (each_mapped (line_over m c) HasDistinctMembers HasDistinctMembers (line_members c) m.set_lines named.members)
+        (each_mapped HasDistinctMembers (line_over m c) HasDistinctMembers (line_members c) m.set_lines named.members)
         (side_members c cuts)));
     few = short;
   }

@@ -3,6 +3,7 @@ use Rattle.std.proofs.Common.{◌≡◌, ℕ, zero, suc, ◌+◌, ◌<◌, ◌�
 use Rattle.rob_algebra.specs.Fraction.{Fraction}
 use Rattle.rob_meaning.proofs.Scenarios.AloneLemmas.{model_alone}
 use Rattle.rob_meaning.proofs.Lists.EachLemmas.{each_append}
+use Rattle.rob_meaning.proofs.Naming.NamedLemmas.{each_mapped}
 use Rattle.rob_meaning.specs.Degrees.{AreLinear, FactorsLinear, IsLinear, degree, one_if_some, product_degree, sum_degree}
 use Rattle.rob_meaning.specs.Expressions.{Expression, Terms, Factors, number, parameter, variable, adaptive, adaptive_in, sum, product, no_terms, term, no_factors, factor}
 use Rattle.rob_meaning.specs.Names.{Name}
@@ -11,7 +12,7 @@ use Rattle.rob_meaning.specs.RobustModel.{AdaptiveVariable, Relation, RobustMode
 use Rattle.rob_meaning.specs.SetConditions.{if_declared}
 use Rattle.rob_meaning.specs.WellFormed.{FactorsInside, IsExpression, IsInside, IsModel, IsSetLine, IsSetSide, TermsInside}
 use Rattle.std.specs.Prelude.{Option, Some, None, codes}
-use Rattle.rob_pieces.proofs.BlockLemmas.{each_cell, each_flat, each_mapped}
+use Rattle.rob_pieces.proofs.BlockLemmas.{each_cell, each_flat}
 use Rattle.rob_pieces.proofs.ColumnLemmas.{list_in_cell, rule_is_some, variables_count}
 use Rattle.rob_pieces.proofs.FormedLemmas.{lists_within}
 use Rattle.rob_pieces.proofs.OneSetLemmas.{not_named}
@@ -152,7 +153,7 @@ module _ (m : RobustModel) (model : IsModel m) (alone : m.sets ≡ []) (cuts : L
     lines_formed : Each (IsSetLine w) (lines_written m c cuts)
     lines_formed =
         each_append (IsSetLine w) (map (line_renamed m c) m.set_lines) (sides_written m c cuts)
-        (each_mapped (line_renamed m c) (IsSetLine m) (IsSetLine w) set_line_formed m.set_lines model.set_lines)
+        (each_mapped (IsSetLine w) (line_renamed m c) (IsSetLine m) set_line_formed m.set_lines model.set_lines)
         (sides_formed cuts are)
 
     abbrev RowFormed : Row → Type 0
@@ -162,7 +163,7 @@ module _ (m : RobustModel) (model : IsModel m) (alone : m.sets ≡ []) (cuts : L
     rows_formed = (
       ((worst_inside, tt), expression_formed m.objective model.objective),
       each_append RowFormed (map (row_renamed m c) m.rows) (bounds_written m c 0 m.adaptives)
-          (each_mapped (row_renamed m c) (λ (r : Row). IsExpression m r.left × IsExpression m r.right) RowFormed
+          (each_mapped RowFormed (row_renamed m c) (λ (r : Row). IsExpression m r.left × IsExpression m r.right)
           (λ r h. (expression_formed r.left h.0, expression_formed r.right h.1)) m.rows model.rows)
           (each_bound_written m c RowFormed (λ x. Unit {0}) 0 m.adaptives (no_condition m.adaptives)
           (λ name j relation bound small q. (
@@ -182,7 +183,7 @@ module _ (m : RobustModel) (model : IsModel m) (alone : m.sets ≡ []) (cuts : L
       (λ c. Each (λ (y : AdaptiveVariable). Each (λ k. k < length m.parameters) y.on)
       (map (copy_in m c) m.adaptives))
       (λ c cell.
-      each_mapped (copy_in m c) (λ (y : AdaptiveVariable). Each (λ k. k < length m.parameters) y.on)
+      each_mapped (λ (y : AdaptiveVariable). Each (λ k. k < length m.parameters) y.on) (copy_in m c)
       (λ (y : AdaptiveVariable). Each (λ k. k < length m.parameters) y.on) (λ y h. h) m.adaptives
       (lists_within m model alone cuts are))))
       (worst_inside, tt)

@@ -7,13 +7,14 @@ use Rattle.rob_algebra.specs.Width.{Fits}
 use Rattle.rob_algebra.proofs.Parts.{neg_parts}
 use Rattle.rob_meaning.proofs.Scenarios.AloneLemmas.{all_taken, set_count-alone}
 use Rattle.rob_meaning.proofs.Lists.EachLemmas.{each_append, each_map}
+use Rattle.rob_meaning.proofs.Naming.NamedLemmas.{each_mapped}
 use Rattle.rob_meaning.specs.Expressions.{Expression, Terms, Factors, number, parameter, variable, adaptive, adaptive_in, sum, product, no_terms, term, no_factors, factor}
 use Rattle.rob_meaning.specs.Places.{Each}
 use Rattle.rob_meaning.specs.RobustModel as model
 use Rattle.rob_meaning.specs.RobustModel.{AdaptiveVariable, Member, RobustModel, Row, SetLine, Variable, budget, line, written_parameters}
 use Rattle.rob_meaning.specs.SetConditions.{if_declared}
 use Rattle.rob_parse.specs.Models.{in_sets}
-use Rattle.rob_pieces.proofs.BlockLemmas.{each_cell, each_flat, each_mapped}
+use Rattle.rob_pieces.proofs.BlockLemmas.{each_cell, each_flat}
 use Rattle.rob_pieces.proofs.ColumnLemmas.{rule_is_some, variables_count, written_parameters_split}
 use Rattle.rob_pieces.specs.Cuts.{Cut, IsCell, cell_numbers}
 use Rattle.rob_pieces.specs.SplitModel.{as_side, cells_worst, copy_in, rule_in, side_of_sign, split_model}
@@ -203,7 +204,7 @@ module _ (limit : ℕ) (m : RobustModel) (alone : m.sets ≡ []) (cuts : List Cu
     lines_readable : Each (IsReadableSetLine limit b) (lines_written m c cuts)
     lines_readable =
         each_append (IsReadableSetLine limit b) (map (line_renamed m c) m.set_lines) (sides_written m c cuts)
-        (each_mapped (line_renamed m c) (IsReadableSetLine limit a) (IsReadableSetLine limit b)
+        (each_mapped (IsReadableSetLine limit b) (line_renamed m c) (IsReadableSetLine limit a)
         (line_readable m c limit a b known_parameter known_variable (known_copy c cell)) m.set_lines own.set_lines)
         (sides_of_cuts cuts levels inside)
 
@@ -226,8 +227,8 @@ module _ (limit : ℕ) (m : RobustModel) (alone : m.sets ≡ []) (cuts : List Cu
     rows_readable = (
       (worst_known, over m.objective own.objective),
       each_append RowReadable (map (row_renamed m c) m.rows) (bounds_written m c 0 m.adaptives)
-          (each_mapped (row_renamed m c) (λ (r : Row). IsReadable limit a r.left
-          × IsReadable limit a r.right) RowReadable
+          (each_mapped RowReadable (row_renamed m c) (λ (r : Row). IsReadable limit a r.left
+          × IsReadable limit a r.right)
           (λ r h. (over r.left h.0, over r.right h.1)) m.rows own.rows)
           (each_bound_written m c RowReadable (Fits limit) 0 m.adaptives (bounds_fit m.adaptives own.adaptives)
           (λ name j relation bound small fits. (
@@ -239,10 +240,10 @@ module _ (limit : ℕ) (m : RobustModel) (alone : m.sets ≡ []) (cuts : List Cu
     copies_readable : Each (λ (y : AdaptiveVariable). Each (λ k. k < length b.parameters) y.on
         × (IsBound limit y.lower × IsBound limit y.upper)) (map (copy_in m c) m.adaptives)
     copies_readable =
-        each_mapped (copy_in m c)
-        (λ (y : AdaptiveVariable). Each (λ k. k < length a.parameters) y.on
+        each_mapped (λ (y : AdaptiveVariable). Each (λ k. k < length b.parameters) y.on
         × (IsBound limit y.lower × IsBound limit y.upper))
-        (λ (y : AdaptiveVariable). Each (λ k. k < length b.parameters) y.on
+        (copy_in m c)
+        (λ (y : AdaptiveVariable). Each (λ k. k < length a.parameters) y.on
         × (IsBound limit y.lower × IsBound limit y.upper))
         (λ y h. (
           each_map (λ k. k < length a.parameters) (λ k. k < length b.parameters) known_parameter y.on h.0,

@@ -3,11 +3,12 @@ use Rattle.std.proofs.Common.{◌≡◌, ℕ, zero, suc, ◌<◌, Bool, true, fa
 use Rattle.std.proofs.lemmas.List.{map-append}
 use Rattle.rob_lex.specs.Offences.{most_open}
 use Rattle.rob_meaning.proofs.Lists.EachLemmas.{each_all, each_append, each_both, each_left, each_right}
+use Rattle.rob_meaning.proofs.Naming.NamedLemmas.{each_mapped}
 use Rattle.rob_meaning.specs.Expressions.{Expression, Terms, Factors, number, parameter, variable, adaptive, adaptive_in, sum, product, no_terms, term, no_factors, factor}
 use Rattle.rob_meaning.specs.Names.{Name}
 use Rattle.rob_meaning.specs.Places.{Each}
 use Rattle.rob_meaning.specs.RobustModel.{AdaptiveVariable, Member, Parameter, Relation, RobustModel, Row, Sense, SetLine, Variable, budget, line, maximise, minimise}
-use Rattle.rob_pieces.proofs.BlockLemmas.{each_flat, each_mapped}
+use Rattle.rob_pieces.proofs.BlockLemmas.{each_flat}
 use Rattle.rob_pieces.specs.Cuts.{Cut, bit, cell_numbers}
 use Rattle.rob_pieces.specs.SplitModel.{copy_in, cost_relation}
 use Rattle.rob_round_trip.proofs.Lengths.DepthSteps.{MayStep, Shallow, Step, deeper, stays, step_of_mark, step_of_word, words_shallow}
@@ -242,8 +243,8 @@ module _ (m : RobustModel) (cuts : List Cut) (lines : Each (IsLow 0) (lines_alon
       cell_lines_low =
           each_append (λ (l : SetLine). IsLow 0 (set_words b l)) (map (line_renamed m c) m.set_lines)
           (sides_written m c cuts)
-          (each_mapped (line_renamed m c) (λ (l : SetLine). IsLow 0 (set_words a l))
-          (λ (l : SetLine). IsLow 0 (set_words b l))
+          (each_mapped (λ (l : SetLine). IsLow 0 (set_words b l)) (line_renamed m c)
+          (λ (l : SetLine). IsLow 0 (set_words a l))
           (λ l h. same_low 0 (set_words a l) (set_words b (line_renamed m c l)) (line_steps m c a b l) h) m.set_lines
           of_sets)
           (sides_low cuts)
@@ -272,7 +273,7 @@ module _ (m : RobustModel) (cuts : List Cut) (lines : Each (IsLow 0) (lines_alon
         cost_low,
         each_append (λ (r : Row). IsLow 0 (row_words b r)) (map (row_renamed m c) m.rows)
             (bounds_written m c 0 m.adaptives)
-            (each_mapped (row_renamed m c) (λ (r : Row). IsLow 0 (row_words a r)) (λ (r : Row). IsLow 0 (row_words b r))
+            (each_mapped (λ (r : Row). IsLow 0 (row_words b r)) (row_renamed m c) (λ (r : Row). IsLow 0 (row_words a r))
             (λ r h. same_low 0 (row_words a r) (row_words b (row_renamed m c r)) (row_steps m c a b r) h) m.rows
             of_rows)
             (each_bound_written m c (λ (r : Row). IsLow 0 (row_words b r)) (λ x. Unit {0}) 0 m.adaptives
@@ -297,8 +298,8 @@ module _ (m : RobustModel) (cuts : List Cut) (lines : Each (IsLow 0) (lines_alon
 
       copies_low : Each (λ (y : AdaptiveVariable). IsLow 0 (adaptive_words b y)) (map (copy_in m c) m.adaptives)
       copies_low =
-          each_mapped (copy_in m c) (λ (y : AdaptiveVariable). Unit {0})
-          (λ (y : AdaptiveVariable). IsLow 0 (adaptive_words b y))
+          each_mapped (λ (y : AdaptiveVariable). IsLow 0 (adaptive_words b y)) (copy_in m c)
+          (λ (y : AdaptiveVariable). Unit {0})
           (λ y h. copy_low y) m.adaptives (each_all (λ (y : AdaptiveVariable). Unit {0}) (λ y. tt) m.adaptives)
 
     -- the canonical lines of what is written, with sets of these names, are shallow

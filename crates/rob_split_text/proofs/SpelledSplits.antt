@@ -5,13 +5,13 @@ use Rattle.std.specs.Prelude.{Option, Some, None, codes}
 use Rattle.rob_algebra.specs.Fraction.{Fraction}
 use Rattle.rob_meaning.proofs.Scenarios.AloneLemmas.{all_taken}
 use Rattle.rob_meaning.proofs.Lists.EachLemmas.{each_append, each_both, each_left, each_map, each_right}
-use Rattle.rob_meaning.proofs.Naming.NamedLemmas.{each_unmapped}
+use Rattle.rob_meaning.proofs.Naming.NamedLemmas.{each_unmapped, each_mapped}
 use Rattle.rob_meaning.specs.Named.{adaptive_names, declared_names, row_names, variable_names, written_names}
 use Rattle.rob_meaning.specs.Names.{Name}
 use Rattle.rob_meaning.specs.Places.{Each}
 use Rattle.rob_meaning.specs.RobustModel.{AdaptiveVariable, Parameter, Relation, RobustModel, Row, Variable, at_least, at_most}
 use Rattle.rob_meaning.specs.SetConditions.{if_declared}
-use Rattle.rob_pieces.proofs.BlockLemmas.{each_cell, each_flat, each_mapped}
+use Rattle.rob_pieces.proofs.BlockLemmas.{each_cell, each_flat}
 use Rattle.rob_pieces.proofs.ColumnLemmas.{written_parameters_split}
 use Rattle.rob_pieces.proofs.NamedSplitLemmas.{to_names}
 use Rattle.rob_pieces.specs.Cuts.{Cut, IsCell, cell_numbers}
@@ -90,7 +90,7 @@ module _ (m : RobustModel) (alone : m.sets ≡ []) (cuts : List Cut) (few : leng
   row_names_free c cell = (
     made (codes "cost") c cell (refl, (refl, (refl, (refl, tt)))),
     each_append (λ (r : Row). IsFreeWord r.name) (map (row_over m c) m.rows) (bound_rows m c 0 m.adaptives)
-        (each_mapped (row_over m c) (λ (r : Row). IsFreeWord r.name) (λ (r : Row). IsFreeWord r.name)
+        (each_mapped (λ (r : Row). IsFreeWord r.name) (row_over m c) (λ (r : Row). IsFreeWord r.name)
         (λ r h. made r.name c cell h.0) m.rows of_rows)
         (bound_names c 0 cell m.adaptives of_adaptives),
   )
@@ -98,7 +98,7 @@ module _ (m : RobustModel) (alone : m.sets ≡ []) (cuts : List Cut) (few : leng
   adaptive_names_free : (c : ℕ) → IsCell cuts c
       → Each (λ (y : AdaptiveVariable). IsFreeWord y.name) (map (copy_in m c) m.adaptives)
   adaptive_names_free c cell =
-      each_mapped (copy_in m c) (λ (y : AdaptiveVariable). IsFreeWord y.name)
+      each_mapped (λ (y : AdaptiveVariable). IsFreeWord y.name) (copy_in m c)
       (λ (y : AdaptiveVariable). IsFreeWord y.name)
       (λ y h. made y.name c cell h.0) m.adaptives of_adaptives
 

@@ -1,6 +1,7 @@
 -- The canonical text of the split model of a model that a text reads as is read as that split model.
 use Rattle.std.proofs.Common.{◌≡◌, ℕ, zero, suc, ◌^◌, ◌<◌, ◌≤◌, List, [], ◌∷◌, ◌++◌, length, map, refl, sym, ap, ◌∙◌, subst, arith}
 use Rattle.rob_meaning.proofs.Lists.EachLemmas.{each_append}
+use Rattle.rob_meaning.proofs.Naming.NamedLemmas.{each_mapped}
 use Rattle.rob_meaning.specs.Named.{HasDistinctMembers, IsNamed, declared_names}
 use Rattle.rob_meaning.specs.Places.{Each}
 use Rattle.rob_meaning.specs.RobustModel.{RobustModel, SetLine, budget, line, set_count}
@@ -11,7 +12,7 @@ use Rattle.rob_parse.proofs.Names.WellNamed.{well_named, well_spelled}
 use Rattle.rob_parse.proofs.Sets.InSets.{length-each_taken}
 use Rattle.rob_parse.specs.Modelled.{ReadsModel}
 use Rattle.rob_parse.specs.Models.{in_sets, line_taken, row_taken}
-use Rattle.rob_pieces.proofs.BlockLemmas.{each_cell, each_flat, each_mapped}
+use Rattle.rob_pieces.proofs.BlockLemmas.{each_cell, each_flat}
 use Rattle.rob_pieces.proofs.ColumnLemmas.{sets_count}
 use Rattle.rob_pieces.proofs.NamedSplitLemmas.{split_is_named}
 use Rattle.rob_pieces.specs.Cuts.{AreCuts, Cut, IsCell, bit, cell_numbers}
@@ -112,7 +113,7 @@ module _ (limit : ℕ) (text : List ℕ) (m : RobustModel) (cuts : List Cut) (ab
   cell_once : (c : ℕ) → IsCell cuts c → Each HasDistinctMembers (lines_written m c cuts)
   cell_once c cell =
       each_append HasDistinctMembers (map (line_renamed m c) m.set_lines) (sides_written m c cuts)
-      (each_mapped (line_renamed m c) HasDistinctMembers HasDistinctMembers (renamed_once c) m.set_lines
+      (each_mapped HasDistinctMembers (line_renamed m c) HasDistinctMembers (renamed_once c) m.set_lines
       (well_named limit text m read).members)
       (sides_once c cuts)
 
