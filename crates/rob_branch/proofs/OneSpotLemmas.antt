@@ -20,13 +20,7 @@ use Rattle.rob_branch.specs.Verdicts.{HasVerdict, IsPassed, IsWideInLeaf, checki
 use Rattle.rob_elab.specs.Written.{judged}
 
 -- ---- places in a list
--- the leaf of a number has what holds of each leaf; or of each of the first few, where it is one of them
-pub at_place : (P : Leaf → Type 0) (ls : List Leaf) (i : ℕ) (l : Leaf) → leaf_at ls i ≡ Some l → Each P ls → P l
-at_place P [] i l e h = cc
-at_place P (x ∷ xs) zero l e h = cc
-at_place P (x ∷ xs) (suc zero) l e h = let same : x ≡ l = cc in subst P same h.0
-at_place P (x ∷ xs) (suc (suc i)) l e h = at_place P xs (suc i) l e h.1
-
+-- the leaf of a number has what holds of each of the first few leaves, where it is one of them
 pub at_taken : (P : Leaf → Type 0) (ls : List Leaf) (i k : ℕ) (l : Leaf) → leaf_at ls i ≡ Some l → i ≤ k
     → Each P (take k ls) → P l
 at_taken P [] i k l e most h = cc

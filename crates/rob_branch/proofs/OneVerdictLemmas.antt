@@ -9,7 +9,7 @@ use Rattle.rob_meaning.specs.Proves.{Proves}
 use Rattle.rob_meaning.specs.RobustModel.{RobustModel}
 use Rattle.rob_meaning.specs.WellFormed.{IsModel}
 use Rattle.rob_model.specs.declared.place.Spot.{Spot}
-use Rattle.rob_reach.proofs.VerdictLemmas.{conditions_law, one_fault}
+use Rattle.rob_reach.proofs.VerdictLemmas.{conditions_law, one_fault, at_place}
 use Rattle.rob_reach.specs.Boxes as boxes
 use Rattle.rob_reach.specs.Trees.{Leaf, Tree, IsProved, leaves}
 use Rattle.rob_reach.specs.Verdicts.{Condition, Holds, HoldsOf, IsFirstFault, best_conditions, last_conditions, leaf_at, leaf_conditions, tree_conditions, proof, status, value, best, whole}
@@ -22,7 +22,7 @@ use Rattle.rob_tree.specs.declared.verdict.LeafFault.TheVariants as fault
 use Rattle.rob_tree.specs.declared.verdict.TreeVerdict.{TreeVerdict}
 use Rattle.rob_tree.specs.declared.verdict.TreeVerdict.TheVariants.{Accepted, Rejected, TooWide, Memory}
 use Rattle.rob_branch.proofs.LeafLemmas.{leaf_at_front}
-use Rattle.rob_branch.proofs.OneSpotLemmas.{at_place, at_taken, one_leaf, one_path, one_place, one_spot, passed_narrow, rejected_narrow}
+use Rattle.rob_branch.proofs.OneSpotLemmas.{at_taken, one_leaf, one_path, one_place, one_spot, passed_narrow, rejected_narrow}
 use Rattle.rob_branch.proofs.VerdictLemmas.{all_leaves, proved, IsLeafOf}
 use Rattle.rob_branch.specs.Verdicts.{IsAccepted, IsKept, IsPassed, IsRejectedAt, IsTooWideAt, IsVerdict, IsWideInLeaf, TellsFault, checked_before, path_at, paths}
 

@@ -9,6 +9,7 @@ use Rattle.rob_meaning.specs.RobustModel.{RobustModel}
 use Rattle.rob_meaning.specs.WellFormed.{IsModel}
 use Rattle.rob_reach.proofs.GrowingLemmas.{length-leaves}
 use Rattle.rob_reach.proofs.TreeLemmas.{IsBoxOf, leaves_boxed}
+use Rattle.rob_reach.proofs.VerdictLemmas.{at_place}
 use Rattle.rob_reach.specs.Boxes.{box_above, box_below}
 use Rattle.rob_reach.specs.Trees.{HasLeaf, IsBestLeaf, IsEndlessLeaf, IsProved, Leaf, Node, ProvesTree, ShowsStatus, Tree, branch_count, leaf, leaf_count, node_count, leaves, left_open, split}
 use Rattle.rob_reach.specs.Verdicts.{Shows, leaf_at}
@@ -29,12 +30,6 @@ leaf_map P Q f (l ∷ ls) zero h = absurd h
 leaf_map P Q f (l ∷ ls) (suc zero) h = f l h
 leaf_map P Q f (l ∷ ls) (suc (suc i)) h = leaf_map P Q f ls (suc i) h
 
-leaf_each : (P : Leaf → Type 0) (ls : List Leaf) (i : ℕ) (l : Leaf) → Each P ls → leaf_at ls i ≡ Some l → P l
-leaf_each P [] i l all e = absurd (let no : None ≡ Some l = e in cc)
-leaf_each P (x ∷ ls) zero l all e = absurd (let no : None ≡ Some l = e in cc)
-leaf_each P (x ∷ ls) (suc zero) l all e = let same : x ≡ l = cc in subst P same all.0
-leaf_each P (x ∷ ls) (suc (suc i)) l all e = leaf_each P ls (suc i) l all.1 e
-
 -- each certificate of a tree has the shape of the model
 spelled_leaves : (limit : ℕ) (m box : RobustModel) (node : Node) → IsSpelledWith limit m node
     → Each (λ l. IfSome l.certificate (HasShape m)) (leaves box node)
@@ -49,8 +44,8 @@ pub shown_shape : (limit : ℕ) (m : RobustModel) (t : Tree) → IsTreeOf limit 
     → leaf_at (leaves m t.root) i ≡ Some l → l.certificate ≡ Some c → HasShape m c
 shown_shape limit m t is i l c here has =
     subst (λ (o : Option Certificate). IfSome o (HasShape m)) has
-    (leaf_each (λ x. IfSome x.certificate (HasShape m)) (leaves m t.root) i l
-    (spelled_leaves limit m m t.root (tree_spelled limit m t is)) here)
+    (at_place (λ x. IfSome x.certificate (HasShape m)) (leaves m t.root) i l here
+    (spelled_leaves limit m m t.root (tree_spelled limit m t is)))
 
 -- what such a leaf shows
 abbrev Showing : List ℕ → Tree → Status → Leaf → Type 0
@@ -109,12 +104,12 @@ module _ (m : RobustModel) (names : List ℕ) (t : Tree) (proves : ProvesTree m 
         by unbounded e h d = let no : unbounded ≡ infeasible = sym h ∙ d in cc
 
     box_of : IsBoxOf m l
-    box_of = leaf_each (IsBoxOf m) (leaves m t.root) t.best l (leaves_boxed m t.root) here
+    box_of = at_place (IsBoxOf m) (leaves m t.root) t.best l here (leaves_boxed m t.root)
 
     proved : Proves l.box c
     proved =
         subst (λ (o : Option Certificate). IfSome o (λ d. Proves l.box d)) has
-        (leaf_each IsProved (leaves m t.root) t.best l proves.proved here)
+        (at_place IsProved (leaves m t.root) t.best l here proves.proved)
 
     pub shown : IsShownBy m names t c
     shown = record {

@@ -24,6 +24,13 @@ closed_leaves m (split j k below above) h =
     each_append HasCertificate (leaves (box_below m j k) below) (leaves (box_above m j k) above)
     (closed_leaves (box_below m j k) below h.0) (closed_leaves (box_above m j k) above h.1)
 
+-- the leaf of a number has what holds of each leaf
+pub at_place : (P : Leaf → Type 0) (ls : List Leaf) (i : ℕ) (l : Leaf) → leaf_at ls i ≡ Some l → Each P ls → P l
+at_place P [] i l e h = cc
+at_place P (x ∷ xs) zero l e h = cc
+at_place P (x ∷ xs) (suc zero) l e h = let same : x ≡ l = cc in subst P same h.0
+at_place P (x ∷ xs) (suc (suc i)) l e h = at_place P xs (suc i) l e h.1
+
 module _ (sense : Sense) (names : List ℕ) (v : Fraction) where
   -- a leaf's three conditions, as those of a list
   abbrev parts : Status → Condition → Type 0

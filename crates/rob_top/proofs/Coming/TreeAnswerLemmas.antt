@@ -1,11 +1,12 @@
 -- Which answer has to come at `checktree`, where what is known of the files decides.
 use Rattle.std.proofs.Common.{◌≡◌, ℕ, List, inl, inr, refl, ◌∙◌, ap, subst, ◌⊎◌}
-use Rattle.rob_branch.proofs.OneSpotLemmas.{at_place, passed_narrow}
+use Rattle.rob_branch.proofs.OneSpotLemmas.{passed_narrow}
 use Rattle.rob_branch.specs.Verdicts.{IsAccepted, IsPassed, IsWideInLeaf, NoneWide}
 use Rattle.rob_meaning.specs.RobustModel.{RobustModel}
 use Rattle.rob_model.specs.declared.place.Spot.{Spot}
 use Rattle.rob_reach.specs.Ranges.{KeepsBothBounds}
 use Rattle.rob_reach.specs.Trees.{ProvesTree, Tree, leaves}
+use Rattle.rob_reach.proofs.VerdictLemmas.{at_place}
 use Rattle.rob_tree.proofs.OneText.TreeLaws as laws
 use Rattle.rob_tree.specs.Reading.{Breaks, TreeFits}
 use Rattle.rob_tree.specs.TreeText.{IsTextOfTree}

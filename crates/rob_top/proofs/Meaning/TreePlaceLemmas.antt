@@ -1,7 +1,6 @@
 -- What a verdict on a tree names is the model's: the box of a leaf has as many
 -- forms, set rows and columns, and the same set.
 use Rattle.std.proofs.Common.{◌≡◌, ◌<◌, ◌≤◌, ℕ, zero, suc, ◌+◌, List, [], ◌∷◌, ◌++◌, length, map, Some, None, Option, IfSome, refl, sym, ap, subst, ◌∙◌}
-use Rattle.rob_branch.proofs.OneSpotLemmas.{at_place}
 use Rattle.rob_branch.specs.Verdicts.{HasVerdict, IsRejectedAt, IsTooWideAt, IsVerdict, IsWideInLeaf, TellsFault, checking, path_at, paths, writing}
 use Rattle.rob_cert.specs.Shape.{HasShape}
 use Rattle.rob_check.specs.Conditions.{verdict_of}
@@ -22,6 +21,7 @@ use Rattle.rob_reach.specs.Boxes.{Branch, at_least_branch, at_most_branch, behin
 use Rattle.rob_reach.specs.Ranges.{KeepsBothBounds}
 use Rattle.rob_reach.specs.Trees.{BranchesOn, IsIn, Leaf, Node, Tree, leaf, leaves, left_open, split}
 use Rattle.rob_reach.specs.Verdicts.{LeafFault as ReachFault, Condition, HoldsOf, IsFirstFault, best, proof, status, value, whole, best_conditions, last_conditions, leaf_at, leaf_conditions}
+use Rattle.rob_reach.proofs.VerdictLemmas.{at_place}
 use Rattle.rob_report.specs.Places.{IsPlaceOf, IsSignOf, IsSpotOf, IsSumOf}
 use Rattle.rob_tree.proofs.BoxShapes.MovedShapes.{HasCountsOf, flipped, same_behind, same_self, same_through}
 use Rattle.rob_tree.proofs.BoxShapes.SpelledLemmas.{column_inside}
