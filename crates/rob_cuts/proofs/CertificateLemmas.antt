@@ -1,5 +1,5 @@
 -- The certificates of the three endings are read off where the run is finished, and have their shape.
-use Rattle.std.proofs.Common.{◌≡◌, ◌≢◌, ℕ, ◌<◌, ◌≤◌, ◌^◌, List, [], length, refl, sym, ap, ◌∙◌, subst, arith}
+use Rattle.std.proofs.Common.{◌≡◌, ◌≢◌, ℕ, ◌<◌, ◌≤◌, ◌^◌, List, length, refl, sym, ap, ◌∙◌, subst, arith}
 use Rattle.rob_algebra.specs.Fraction.{Fraction, ◌*ℚ◌}
 use Rattle.rob_linear.specs.Vectors.{Matrix}
 use Rattle.rob_meaning.specs.Certificates.{Cover, Item}
@@ -13,6 +13,7 @@ use Rattle.rob_meaning.proofs.Lists.EachLemmas.{each_map}
 use Rattle.rob_meaning.proofs.Tables.MatrixLemmas.{length-matrices}
 use Rattle.rob_cert.specs.Shape.{IsCoverOf, IsItemOf, AreCoversOf, AreItemsOf}
 use Rattle.rob_cert.specs.declared.trace.Round.{Round as Told}
+use Rattle.rob_cert.proofs.Writing.ShapeLemmas.{no_covers, no_items}
 use Rattle.rob_counterpart.specs.ReadCertificates.{plan_read, bound_read, weight_of}
 use Rattle.rob_dualize.specs.Solving.{IsLastScenario}
 use Rattle.rob_runs.specs.Cuts.{Cut, IsCut, master_over}
@@ -50,12 +51,6 @@ module _ (m : RobustModel) where
     ordered = items_in_order m cuts weight;
     few = let l : length (run_items m cuts weight) ≤ length cuts = items_count m cuts weight in omega arith;
   }
-
-  no_covers : AreCoversOf m []
-  no_covers = record { each = tt; ordered = tt }
-
-  no_items : AreItemsOf m []
-  no_items = record { each = tt; ordered = tt; few = omega arith }
 
   gives : (covers : List Cover) (amounts : ℕ → List Fraction) → covers ≡ covers_of_amounts m amounts
       → GivesAmounts m amounts covers
@@ -98,7 +93,7 @@ module _ (m : RobustModel) where
         inside = admitted.numbers;
         parts = record { plan = ap length k.plan ∙ length-plan m x; step = refl; step_bound = refl; holds = refl };
         covers = subst (AreCoversOf m) (sym k.covers) (covers_shape amounts);
-        holds = no_covers;
+        holds = no_covers m;
         items = items_shape (cuts_told rounds) y (are_cuts_told m rounds t) few_cuts;
       };
       admitted = admitted;
@@ -134,8 +129,8 @@ module _ (m : RobustModel) where
               covers = refl;
               holds = refl;
             };
-            covers = no_covers;
-            holds = no_covers;
+            covers = no_covers m;
+            holds = no_covers m;
             items = items_shape (cuts_told rounds) (weight_of (master_over m (cuts_told rounds)) rows)
                 (are_cuts_told m rounds t) few_cuts;
           };
@@ -182,7 +177,7 @@ module _ (m : RobustModel) where
         };
         covers = subst (AreCoversOf m) (sym k.covers) (covers_shape amounts);
         holds = subst (AreCoversOf m) (sym hh) (covers_shape step_amounts);
-        items = no_items;
+        items = no_items m;
       };
       admitted = admitted;
       inside = last;

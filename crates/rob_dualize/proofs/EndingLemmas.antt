@@ -20,6 +20,7 @@ use Rattle.rob_simplex.specs.Solvers.{Solver, entries, column_of}
 use Rattle.rob_simplex.specs.Solutions.{point_of, dual_of, ray_of, weights_of}
 use Rattle.rob_simplex.specs.Endings.{IsOptimumOf, IsRayOf, HasWeightsFor}
 use Rattle.rob_cert.specs.Shape.{IsCoverOf, IsItemOf, AreCoversOf, AreItemsOf}
+use Rattle.rob_cert.proofs.Writing.ShapeLemmas.{no_covers, no_items}
 use Rattle.rob_counterpart.specs.Reform.{block}
 use Rattle.rob_counterpart.specs.Counterpart.{robust_of, counterpart}
 use Rattle.rob_counterpart.specs.Endings.{OptimalEnding, InfeasibleEnding, UnboundedEnding}
@@ -115,12 +116,6 @@ module _ (m : RobustModel) where
         items_count (robust_of m) y (length (matrices m)) in
         let f : length (matrices m) < 2 ^ 32 = few_forms few in omega arith;
   }
-
-  no_covers : AreCoversOf m []
-  no_covers = record { each = tt; ordered = tt }
-
-  no_items : AreItemsOf m []
-  no_items = record { each = tt; ordered = tt; few = omega arith }
 
 -- ---- solutions
 module _ (m : RobustModel) (model : IsModel m) (few : IsFew (counterpart m)) (inside : List Fraction)

@@ -1,4 +1,4 @@
--- What is read has its shape.
+-- What is read has its shape, and so have no covers and no items.
 use Rattle.std.proofs.Common.{◌≡◌, ℕ, ◌^◌, ◌<◌, ◌≤◌, List, [], ◌∷◌, ◌++◌, length, arith, refl, sym, subst, length-append}
 use Rattle.std.specs.Prelude.{codes, Result, Ok, Err, IfOk}
 use Rattle.rob_algebra.specs.Fraction.{Fraction}
@@ -15,12 +15,20 @@ use Rattle.rob_cert.specs.declared.kind.Vector.TheVariants.{Inside, Plan, Move, 
 use Rattle.rob_cert.specs.Lines.{Line, status_line, item_line, bound_lines, entry_lines, cover_lines, item_lines, end_line, lines_of}
 use Rattle.rob_cert.specs.Covers.{IsGoodCover}
 use Rattle.rob_cert.specs.Items.{IsGoodItem}
-use Rattle.rob_cert.specs.Shape.{HasParts, IsCoverOf, IsItemOf}
+use Rattle.rob_cert.specs.Shape.{AreCoversOf, AreItemsOf, HasParts, IsCoverOf, IsItemOf}
 use Rattle.rob_cert.specs.Spelling.{Naming, naming_of, line_text, lines_text, spaced, behind_spaces, words_of, spelled}
 use Rattle.rob_cert.specs.Whole.{HasSizes, AreGoodLists, IsMoved, IsWellRead, IsTextOf}
 use Rattle.rob_meaning.proofs.Lists.EachLemmas.{each_map}
 use Rattle.rob_cert.proofs.Words.NameListLemmas.{length-parameter_names}
 
+-- ---- no covers and no items are a model's
+pub no_covers : (m : RobustModel) → AreCoversOf m []
+no_covers m = record { each = tt; ordered = tt }
+
+pub no_items : (m : RobustModel) → AreItemsOf m []
+no_items m = record { each = tt; ordered = tt; few = omega arith }
+
+-- ---- lists
 none_of : {A : Type 0} (xs : List A) → length xs ≡ 0 → xs ≡ []
 none_of [] e = refl
 none_of (x ∷ xs) e = absurd (omega arith)
