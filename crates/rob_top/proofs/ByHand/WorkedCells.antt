@@ -6,16 +6,16 @@ use Rattle.std.specs.Prelude.{codes}
 use Rattle.rob_algebra.specs.Fraction.{Fraction, ratio}
 use Rattle.rob_cells.proofs.DistinctLemmas.{distinct_decides}
 use Rattle.rob_cells.specs.Rules.{KeepsRules}
+use Rattle.rob_dualize.proofs.NarrowModels.{one_demand_model}
 use Rattle.rob_dualize.specs.SmallestModel.{one_demand}
 use Rattle.rob_meaning.proofs.Conditions.EmptyLemmas.{shows_empty}
 use Rattle.rob_meaning.proofs.ByHand.WorkedNotation.{best, cover, int, item}
-use Rattle.rob_meaning.proofs.ByHand.WorkedTests.{found, test_admits, test_certificate, test_empty, test_model}
+use Rattle.rob_meaning.proofs.ByHand.WorkedTests.{found, test_admits, test_certificate, test_empty}
 use Rattle.rob_meaning.specs.Named.{declared_names}
 use Rattle.rob_meaning.specs.Places.{0ℚ, 1ℚ, Each}
 use Rattle.rob_meaning.specs.RobustModel.{RobustModel}
 use Rattle.rob_meaning.specs.Status.{IsOptimal}
 use Rattle.rob_meaning.specs.UncertaintySet.{Admits, IsEmptySet}
-use Rattle.rob_meaning.specs.WellFormed.{IsModel}
 use Rattle.rob_model.specs.Limits.{IsWithinLimits}
 use Rattle.rob_parse.specs.Modelled.{ReadsModel}
 use Rattle.rob_pieces.proofs.PieceLemmas.{optimal_agree}
@@ -131,10 +131,6 @@ module _ (name : Word) (verb : Verb) (named : name ≡ verb_word verb) (kinds : 
           record { has_cuts = record { word = word; has_word = word_on; alone = alone; are = are }; keeps = kept }
 
 -- ---- the smallest model in two cells
-pub its_model : IsModel one_demand
-unfolding ratio
-its_model = found (test_model one_demand) tt
-
 abbrev cut_at : Fraction → List Cut
 cut_at g = record { parameter = 0; level = g } ∷ []
 
@@ -185,12 +181,14 @@ admitted_9 : Admits (split_model one_demand at_9) (int 9 ∷ int 9 ∷ int 9 ∷
 unfolding ratio digits
 admitted_9 =
     found
-    (test_admits (split_model one_demand at_9) (split_model_is one_demand its_model at_9 keeps_9 (omega arith, tt))
+    (test_admits (split_model one_demand at_9)
+    (split_model_is one_demand one_demand_model at_9 keeps_9 (omega arith, tt))
     (int 9 ∷ int 9 ∷ int 9 ∷ [])) tt
 
 -- 9 is in both cells
 each_holds_9 : EachCellAdmits one_demand at_9
-each_holds_9 = each_admits one_demand its_model at_9 keeps_9 (omega arith, tt) (int 9 ∷ int 9 ∷ int 9 ∷ []) admitted_9
+each_holds_9 =
+    each_admits one_demand one_demand_model at_9 keeps_9 (omega arith, tt) (int 9 ∷ int 9 ∷ int 9 ∷ []) admitted_9
 
 -- the greatest demand is 12, in cell 2
 abbrev peak : List Fraction
@@ -207,7 +205,7 @@ split_costs_12 =
     tt
 
 pieces_cost_12 : IsPieceOptimal one_demand at_9 (int 12)
-pieces_cost_12 = (optimal_agree one_demand its_model refl at_9 (omega arith, tt) (int 12)).0 split_costs_12
+pieces_cost_12 = (optimal_agree one_demand one_demand_model refl at_9 (omega arith, tt) (int 12)).0 split_costs_12
 
 -- `cells` has to answer `optimal`, or name a number of the split model that is wide
 pub a_demand_is_split : (result : Ended) → MustEnd (cells_call (codes "cells") (codes "d=9") one_demand) result
@@ -223,12 +221,14 @@ apart = 0ℚ ∷ 0ℚ ∷ 0ℚ ∷ 0ℚ ∷ 0ℚ ∷ 1ℚ ∷ 0ℚ ∷ 1ℚ ∷ 
 none_beyond_13 : IsEmptySet (split_model one_demand at_13)
 unfolding ratio digits
 none_beyond_13 =
-    shows_empty (split_model one_demand at_13) (split_model_is one_demand its_model at_13 keeps_13 (omega arith, tt))
+    shows_empty (split_model one_demand at_13)
+    (split_model_is one_demand one_demand_model at_13 keeps_13 (omega arith, tt))
     apart
     (found (test_empty (split_model one_demand at_13) apart) tt)
 
 not_each : EachCellAdmits one_demand at_13 → ⊥
-not_each each = let w = admits_each one_demand its_model at_13 keeps_13 (omega arith, tt) each in none_beyond_13 w.0 w.1
+not_each each =
+    let w = admits_each one_demand one_demand_model at_13 keeps_13 (omega arith, tt) each in none_beyond_13 w.0 w.1
 
 -- so `cells` has to answer an empty set, with weights that show it, or a number that is wide before that is known
 pub a_cell_is_empty : (result : Ended) → MustEnd (cells_call (codes "cells") (codes "d=13") one_demand) result

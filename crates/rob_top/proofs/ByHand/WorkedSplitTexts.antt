@@ -5,6 +5,7 @@ use Rattle.std.specs.Fmt.{digits}
 use Rattle.std.specs.Prelude.{codes}
 use Rattle.rob_algebra.specs.Fraction.{ratio}
 use Rattle.rob_cells.proofs.MeaningLemmas.{cell_sets, piece_status}
+use Rattle.rob_dualize.proofs.NarrowModels.{one_demand_model}
 use Rattle.rob_dualize.specs.SmallestModel.{one_demand}
 use Rattle.rob_meaning.specs.RobustModel.{RobustModel}
 use Rattle.rob_pieces.specs.Cuts.{AreCuts}
@@ -13,7 +14,7 @@ use Rattle.rob_split_text.specs.SplitTexts.{HasFewTokens}
 use Rattle.rob_top.proofs.ByHand.WorkedCalls.{Comes, line_spelled}
 use Rattle.rob_top.proofs.ByHand.WorkedCalls as solving
 use Rattle.rob_top.proofs.ByHand.WorkedCells as cutting
-use Rattle.rob_top.proofs.ByHand.WorkedCells.{its_model, keeps_9, text_at_9}
+use Rattle.rob_top.proofs.ByHand.WorkedCells.{keeps_9, text_at_9}
 use Rattle.rob_top.specs.Split.{IsSplitText}
 use Rattle.rob_top.specs.SplitTexts.{TakesSplit}
 use Rattle.rob_top.specs.WorkedCalls.{cells_call, model_request, solve_call}
@@ -35,8 +36,8 @@ printed = record {
   cuts = at_9;
   has = text_at_9;
   is_text = refl;
-  pieces = piece_status one_demand at_9 keeps_9 its_model at_its_parameter;
-  sets = cell_sets one_demand at_9 keeps_9 its_model at_its_parameter;
+  pieces = piece_status one_demand at_9 keeps_9 one_demand_model at_its_parameter;
+  sets = cell_sets one_demand at_9 keeps_9 one_demand_model at_its_parameter;
   printed = refl;
 }
 
