@@ -1,6 +1,6 @@
 -- The forms that a loop has left, and how many forms a model has.
 use Rattle.std.specs.Prelude.{◌≡◌, ℕ, suc, ◌+◌, ◌*◌, ◌≤◌, List, [], ◌∷◌, ◌++◌, length, map, drop, Option, option_map, refl}
-use Rattle.std.proofs.Common.{sym, ◌∙◌, ap, ap₂, arith, add-one}
+use Rattle.std.proofs.Common.{sym, ◌∙◌, ap, ap₂, arith, add-one, length-append}
 use Rattle.rob_algebra.specs.Fraction.{Fraction}
 use Rattle.rob_meaning.specs.Expressions.{Expression, number, variable, adaptive}
 use Rattle.rob_meaning.specs.Forms.{adaptive_forms, bound_forms, difference, row_forms, sides, variable_forms}
@@ -14,7 +14,6 @@ use Rattle.rob_model.specs.declared.expr.Expr.TheVariants as Is
 use Rattle.rob_sets.proofs.WholeRows.BoundRowLemmas.{length-declared}
 use Rattle.rob_sets.proofs.Cells.PartedLemmas.{Parted}
 use Rattle.rob_sets.proofs.Expressions.LeafLemmas.{adaptive_is, variable_is}
-use Rattle.rob_sets.proofs.Cells.ListLemmas.{length-both}
 use Rattle.rob_model.proofs.NameCountLemmas.{columns_many}
 
 -- ---- how many
@@ -28,7 +27,7 @@ rows_many [] = omega arith
 rows_many (r ∷ rs) =
     omega (
       arith,
-      length-both (sides r.relation r.left r.right) (row_forms rs),
+      length-append (sides r.relation r.left r.right) (row_forms rs),
       sides_many r.relation r.left r.right,
       rows_many rs,
     )
@@ -37,7 +36,8 @@ bounds_many : (e : Expression) (lower upper : Option Fraction) → length (bound
 bounds_many e lower upper =
     omega (
       arith,
-      length-both (if_declared (λ l. difference (number l) e) lower) (if_declared (λ b. difference e (number b)) upper),
+      length-append (if_declared (λ l. difference (number l) e) lower)
+          (if_declared (λ b. difference e (number b)) upper),
       length-declared (λ l. difference (number l) e) lower,
       length-declared (λ b. difference e (number b)) upper,
     )
@@ -47,7 +47,7 @@ variables_many k [] = omega arith
 variables_many k (x ∷ xs) =
     omega (
       arith,
-      length-both (bound_forms (variable k) x.lower x.upper) (variable_forms (suc k) xs),
+      length-append (bound_forms (variable k) x.lower x.upper) (variable_forms (suc k) xs),
       bounds_many (variable k) x.lower x.upper,
       variables_many (suc k) xs,
     )
@@ -57,7 +57,7 @@ adaptives_many k [] = omega arith
 adaptives_many k (y ∷ ys) =
     omega (
       arith,
-      length-both (bound_forms (adaptive k) y.lower y.upper) (adaptive_forms (suc k) ys),
+      length-append (bound_forms (adaptive k) y.lower y.upper) (adaptive_forms (suc k) ys),
       bounds_many (adaptive k) y.lower y.upper,
       adaptives_many (suc k) ys,
     )

@@ -1,6 +1,6 @@
 -- The first rows and columns of a table: their common denominator, and their whole numbers.
 use Rattle.std.specs.Prelude.{◌≡◌, ℕ, zero, suc, ◌+◌, ◌-◌, ◌<◌, ◌≤◌, ℤ, List, [], ◌∷◌, ◌++◌, map, Result, Ok, Err, IfOk, OnOk, nat_abs, refl}
-use Rattle.std.proofs.Common.{sym, ◌∙◌, ap, ap₂, arith, subst, append_assoc, add-zero, inl, inr}
+use Rattle.std.proofs.Common.{sym, ◌∙◌, ap, ap₂, arith, subst, append_assoc, add-zero, inl, inr, append-nil}
 use Rattle.std.proofs.lemmas.List.{map-append}
 use Rattle.rob_algebra.specs.Fraction.{Fraction}
 use Rattle.rob_meaning.specs.Clearing.{denominator, entries, lcm, whole_at}
@@ -11,7 +11,7 @@ use Rattle.rob_elab.specs.Forms.{MatrixFits, rows_of}
 use Rattle.rob_sets.specs.FirstWide.{IsWideCleared, Some_of}
 use Rattle.rob_sets.specs.declared.error.Stop.{Stop}
 use Rattle.rob_sets.proofs.WholeRows.ClearingSteps.{denominator-first, denominator-more, whole_none}
-use Rattle.rob_sets.proofs.Cells.ListLemmas.{append-nil, some_left, some_right}
+use Rattle.rob_sets.proofs.Cells.ListLemmas.{some_left, some_right}
 use Rattle.rob_sets.proofs.WholeRows.RowLemmas.{tabulate-more}
 
 -- ---- the common denominator

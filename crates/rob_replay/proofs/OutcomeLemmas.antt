@@ -1,5 +1,5 @@
 -- One record more, and records past the last that may stand in a file.
-use Rattle.std.proofs.Common.{◌≡◌, ℕ, zero, suc, ◌+◌, ◌-◌, ◌<◌, ◌≤◌, List, [], ◌∷◌, ◌++◌, map, length, get_or, take, drop, refl, sym, ap, ◌∙◌, arith, length-drop, append_assoc, append-nil, true, false, Bool}
+use Rattle.std.proofs.Common.{◌≡◌, ℕ, suc, ◌+◌, ◌-◌, ◌<◌, ◌≤◌, List, [], ◌∷◌, ◌++◌, map, length, get_or, take, drop, refl, sym, ap, ◌∙◌, arith, length-drop, append_assoc, append-nil, true, false, Bool, take_all, length-take-le}
 use Rattle.std.specs.Prelude.{Option, Some, None, Result, Ok, Err, nat_le, option_map, ◌==◌, if◌then◌else◌}
 use Rattle.std.proofs.lemmas.List.{length-map}
 use Rattle.rob_algebra.specs.Fraction.{Fraction}
@@ -98,17 +98,6 @@ module _ (limit : ℕ) (m : RobustModel) (plan : List Fraction) (places : List �
         ∙ ap (or_refused (is_wide number)) within)
 
 -- ---- the first records decide
-take_short : {A : Type 0} (n : ℕ) (xs : List A) → length xs ≤ n → take n xs ≡ xs
-take_short zero [] h = refl
-take_short zero (x ∷ xs) h = absurd (omega arith)
-take_short (suc n) [] h = refl
-take_short (suc n) (x ∷ xs) h = ap (λ l. x ∷ l) (take_short n xs (omega arith))
-
-take_long : {A : Type 0} (n : ℕ) (xs : List A) → n ≤ length xs → length (take n xs) ≡ n
-take_long zero xs h = refl
-take_long (suc n) [] h = absurd (omega arith)
-take_long (suc n) (x ∷ xs) h = ap suc (take_long n xs (omega arith))
-
 too_many : (n : ℕ) → 10001 ≤ n → nat_le n 10000 ≡ false
 too_many n h = grind arith
 
@@ -120,10 +109,10 @@ table_first limit m plan places rows = case (nat_le (length rows) 10000) refl
         → table_outcome limit m plan places (take 10001 rows) ≡ table_outcome limit m plan places rows
     case true t =
         let few : length rows ≤ 10001 = grind arith in
-        ap (table_outcome limit m plan places) (take_short 10001 rows few)
+        ap (table_outcome limit m plan places) (take_all 10001 rows few)
     case false t =
         let many : 10001 ≤ length rows = grind arith in
-        rw (too_many (length (take 10001 rows)) (omega (arith, take_long 10001 rows many)), t) refl
+        rw (too_many (length (take 10001 rows)) (omega (arith, length-take-le 10001 rows many)), t) refl
 
 pub outcome_first : (limit : ℕ) (m : RobustModel) (plan : List Fraction) (rows : List (List (List ℕ)))
     → outcome limit m plan (take 10002 rows) ≡ outcome limit m plan rows
@@ -178,7 +167,7 @@ pub rest_count : {R : Type 0} (fields : R → List (List ℕ)) (rows : List R)
 rest_count fields rows = length-map (drop 1 rows) fields ∙ length-drop 1 rows
 
 pub rest_whole : {R : Type 0} (rows : List R) → take (length rows - 1) (drop 1 rows) ≡ drop 1 rows
-rest_whole rows = take_short (length rows - 1) (drop 1 rows) (omega (arith, length-drop 1 rows))
+rest_whole rows = take_all (length rows - 1) (drop 1 rows) (omega (arith, length-drop 1 rows))
 
 -- ---- files
 pub file_refuses : {A : Type 0} (outcome_of : List (List (List ℕ)) → Result A Refusal) (text : List ℕ)

@@ -1,16 +1,8 @@
 -- Lists: their first few items, and items with a property.
-use Rattle.std.specs.Prelude.{◌≡◌, ℕ, zero, suc, ◌+◌, ◌<◌, ◌≤◌, List, [], ◌∷◌, ◌++◌, length, take, refl}
+use Rattle.std.specs.Prelude.{◌≡◌, ℕ, zero, suc, ◌+◌, ◌<◌, List, [], ◌∷◌, ◌++◌, length, take}
 use Rattle.std.proofs.Common.{sym, ◌∙◌, ap, arith, get_or, inl, inr}
 use Rattle.rob_meaning.specs.Places.{Each}
 use Rattle.rob_sets.specs.FirstWide.{Some_of}
-
-pub append-nil : {A : Type 0} (xs : List A) → xs ++ [] ≡ xs
-append-nil [] = refl
-append-nil (x ∷ xs) = ap (λ ys. x ∷ ys) (append-nil xs)
-
-pub length-both : {A : Type 0} (xs ys : List A) → length (xs ++ ys) ≡ length xs + length ys
-length-both [] ys = omega arith
-length-both (x ∷ xs) ys = omega (arith, length-both xs ys)
 
 -- ---- the first few items
 pub take_one_more : {A : Type 0} (xs : List A) (i : ℕ) (x : A) → i < length xs → x ≡ get_or xs i x
@@ -20,12 +12,6 @@ take_one_more (y ∷ xs) zero x h e = ap (λ z. z ∷ []) (sym e)
 take_one_more (y ∷ xs) (suc i) x h e =
     ap (λ n. take n (y ∷ xs)) (let next : suc i + 1 ≡ suc (i + 1) = omega arith in next)
     ∙ ap (λ zs. y ∷ zs) (take_one_more xs i x (omega arith) e)
-
-pub take_past : {A : Type 0} (xs : List A) (i : ℕ) → length xs ≤ i → take i xs ≡ xs
-take_past [] zero h = refl
-take_past [] (suc i) h = refl
-take_past (x ∷ xs) zero h = absurd (omega arith)
-take_past (x ∷ xs) (suc i) h = ap (λ zs. x ∷ zs) (take_past xs i (omega arith))
 
 -- ---- items with a property
 pub some_left : {A : Type 0} (P : A → Type 0) (xs ys : List A) → Some_of P xs → Some_of P (xs ++ ys)

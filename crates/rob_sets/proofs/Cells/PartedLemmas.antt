@@ -1,7 +1,6 @@
 -- A list in two parts.
 use Rattle.std.specs.Prelude.{◌≡◌, List, [], ◌++◌, refl}
-use Rattle.std.proofs.Common.{sym, ◌∙◌}
-use Rattle.rob_sets.proofs.Cells.ListLemmas.{append-nil}
+use Rattle.std.proofs.Common.{sym, ◌∙◌, append-nil}
 
 -- the list is its first part and then the rest
 pub record Parted {A : Type 0} (all first rest : List A) : Type 0 where

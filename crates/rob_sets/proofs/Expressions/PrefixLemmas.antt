@@ -1,6 +1,6 @@
 -- The first few terms of a sum and factors of a product: their tables, and the subexpressions that are left.
 use Rattle.std.specs.Prelude.{◌≡◌, ℕ, ◌+◌, ◌<◌, ◌≤◌, Bool, List, [], ◌∷◌, ◌++◌, map, length, take, drop, refl}
-use Rattle.std.proofs.Common.{sym, ◌∙◌, ap, ap₂, get_or}
+use Rattle.std.proofs.Common.{sym, ◌∙◌, ap, ap₂, get_or, take_all}
 use Rattle.std.proofs.lemmas.List.{map-append}
 use Rattle.rob_algebra.specs.Fraction.{Fraction, ◌+ℚ◌}
 use Rattle.rob_algebra.specs.FractionLaws as Q
@@ -15,7 +15,7 @@ use Rattle.rob_model.specs.declared.expr.Expr.{Expr}
 use Rattle.rob_model.specs.declared.expr.Term.{Term}
 use Rattle.rob_model.proofs.PartLemmas.{terms_at, factors_at, signed_is, drop_past}
 use Rattle.rob_sets.specs.Subexpressions.{with_term, with_factor, sums_from, products_from, subexpressions}
-use Rattle.rob_sets.proofs.Cells.ListLemmas.{take_one_more, take_past}
+use Rattle.rob_sets.proofs.Cells.ListLemmas.{take_one_more}
 use Rattle.rob_sets.proofs.Cells.PartedLemmas.{Parted}
 
 -- ---- prefixes of a sum
@@ -96,14 +96,14 @@ module _ {N : Type 0} (value : N → Fraction) where
   pub terms_end : (ts : List (Term N)) (i : ℕ) → length ts ≤ i
       → (first_terms ts i ≡ terms_of (map (signed_of value) ts)) × (other_terms ts i ≡ no_terms)
   terms_end ts i h = (
-    ap (λ (xs : List (Term N)). terms_of (map (signed_of value) xs)) (take_past ts i h),
+    ap (λ (xs : List (Term N)). terms_of (map (signed_of value) xs)) (take_all i ts h),
     ap (λ (xs : List (Term N)). terms_of (map (signed_of value) xs)) (drop_past ts i h),
   )
 
   pub factors_end : (fs : List (Expr N)) (i : ℕ) → length fs ≤ i
       → (first_factors fs i ≡ factors_of (map (expression_of value) fs)) × (other_factors fs i ≡ no_factors)
   factors_end fs i h = (
-    ap (λ (xs : List (Expr N)). factors_of (map (expression_of value) xs)) (take_past fs i h),
+    ap (λ (xs : List (Expr N)). factors_of (map (expression_of value) xs)) (take_all i fs h),
     ap (λ (xs : List (Expr N)). factors_of (map (expression_of value) xs)) (drop_past fs i h),
   )
 

@@ -1,6 +1,6 @@
 -- Lines that a call appends, and further ones behind them.
 use Rattle.std.specs.Prelude.{◌≡◌, ℕ, ◌+◌, ◌≤◌, List, [], ◌++◌, length, map, Result, Ok, Err, IsErrAnd}
-use Rattle.std.proofs.Common.{sym, ◌∙◌, ap, arith, subst, append_assoc}
+use Rattle.std.proofs.Common.{sym, ◌∙◌, ap, arith, subst, append_assoc, append-nil, length-append}
 use Rattle.std.proofs.lemmas.List.{length-map, map-append}
 use Rattle.std.proofs.lemmas.Result.{err_from_is_err_and}
 use Rattle.rob_meaning.specs.Places.{Each}
@@ -10,7 +10,6 @@ use Rattle.rob_sets.specs.Appending.{AppendsLines, AppendsOr, StopsAt}
 use Rattle.rob_sets.specs.FirstWide.{Judged, IsWideThere, NothingWide}
 use Rattle.rob_sets.specs.declared.error.ElabErr.{ElabErr}
 use Rattle.rob_sets.proofs.Judging.JudgedLemmas.{stops_right}
-use Rattle.rob_sets.proofs.Cells.ListLemmas.{append-nil, length-both}
 
 -- the answer of a call that stops
 pub appends_err : {A B : Type 0} {limit : ℕ} {m : RobustModel} {js : List Judged} {now : ℕ} {e : ElabErr} (made : B → A)
@@ -54,4 +53,4 @@ module _ {A B : Type 0} {made : B → A} {Fits : A → Type 0} {limit : ℕ} {m 
   pub appended_length : {lines : List B} {js : List Judged} {a b : List A} → AppendsLines made Fits limit m lines js a b
       → length b ≡ length a + length lines
   appended_length {lines} {js} {a} {b} f =
-      omega (arith, ap length f.appended, length-both a (map made lines), length-map lines made)
+      omega (arith, ap length f.appended, length-append a (map made lines), length-map lines made)

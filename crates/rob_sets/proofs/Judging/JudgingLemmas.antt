@@ -1,11 +1,11 @@
 -- Judging in order: item after item is found not wide, up to the first that is, where a computation stops. It begins
 -- with all, goes one step on where what comes is not wide, stops where it is, and ends.
 use Rattle.std.specs.Prelude.{◌≡◌, List, [], ◌++◌, refl}
-use Rattle.std.proofs.Common.{sym, ◌∙◌, ap, subst, append_assoc}
+use Rattle.std.proofs.Common.{sym, ◌∙◌, ap, subst, append_assoc, append-nil}
 use Rattle.rob_meaning.specs.Places.{Each}
 use Rattle.rob_meaning.proofs.Lists.EachLemmas.{each_append}
 use Rattle.rob_sets.specs.FirstWide.{Some_of}
-use Rattle.rob_sets.proofs.Cells.ListLemmas.{append-nil, some_left, some_right}
+use Rattle.rob_sets.proofs.Cells.ListLemmas.{some_left, some_right}
 use Rattle.rob_sets.proofs.Cells.PartedLemmas.{Parted}
 
 -- of all that is judged some is done, none of it wide, and the rest is left

@@ -1,7 +1,7 @@
 -- Lines that are appended one after another, in a loop or call by call: those done so far, and those that are left.
 -- What was judged so far, and what came, go one step on by `goes_on`, and stop by `stops`.
 use Rattle.std.specs.Prelude.{◌≡◌, ℕ, ◌+◌, ◌≤◌, List, [], ◌++◌, length, map, Result, Ok, Err, IsErrAnd, refl}
-use Rattle.std.proofs.Common.{sym, ◌∙◌, ap, arith, subst, append_assoc}
+use Rattle.std.proofs.Common.{sym, ◌∙◌, ap, arith, subst, append_assoc, append-nil, length-append}
 use Rattle.rob_meaning.specs.Places.{Each}
 use Rattle.rob_meaning.specs.RobustModel.{RobustModel}
 use Rattle.rob_sets.specs.Appending.{AppendsLines, AppendsOr, StopsAt}
@@ -10,7 +10,6 @@ use Rattle.rob_sets.specs.declared.error.ElabErr.{ElabErr}
 use Rattle.rob_sets.proofs.Judging.AppendingLemmas.{appended_length, appends_both, appends_err}
 use Rattle.rob_sets.proofs.Judging.JudgedLemmas.{stops_judging}
 use Rattle.rob_sets.proofs.Judging.JudgingLemmas.{Judging, judging_begins, judging_ends, judging_goes_on}
-use Rattle.rob_sets.proofs.Cells.ListLemmas.{append-nil, length-both}
 use Rattle.rob_sets.proofs.Cells.PartedLemmas.{Parted, parted_last}
 
 module _ {A B : Type 0} (made : B → A) (Fits : A → Type 0) (limit : ℕ) (m : RobustModel) where
@@ -32,7 +31,7 @@ module _ {A B : Type 0} {made : B → A} {Fits : A → Type 0} {limit : ℕ} {m 
   pub so_many : {all left : List B} {all_judged left_judged : List Judged} {start now : List A}
       → Progress made Fits limit m all left all_judged left_judged start now
       → length now + length left ≡ length start + length all
-  so_many {left} p = omega (arith, appended_length (so_far p), length-both p.done left, ap length p.lines)
+  so_many {left} p = omega (arith, appended_length (so_far p), length-append p.done left, ap length p.lines)
 
   pub begins : {all : List B} {judged : List Judged} (start : List A)
       → Progress made Fits limit m all all judged judged start start

@@ -1,6 +1,6 @@
 -- The rows of the declared bounds, parameter by parameter.
 use Rattle.std.specs.Prelude.{◌≡◌, ℕ, suc, ◌+◌, ◌*◌, ◌≤◌, List, [], ◌∷◌, ◌++◌, length, map, drop, Option, Some, None, option_map, refl}
-use Rattle.std.proofs.Common.{sym, ◌∙◌, ap, ap₂, arith, append_assoc, add-one}
+use Rattle.std.proofs.Common.{sym, ◌∙◌, ap, ap₂, arith, append_assoc, add-one, length-append}
 use Rattle.rob_algebra.specs.Fraction.{Fraction}
 use Rattle.rob_meaning.specs.RobustModel.{Parameter}
 use Rattle.rob_meaning.specs.SetConditions.{if_declared}
@@ -9,7 +9,6 @@ use Rattle.rob_meaning.specs.SetRows.{bound_rows, lower_row, upper_row}
 use Rattle.rob_model.specs.View.{parameter_of}
 use Rattle.rob_model.specs.declared.model.Param.{Param}
 use Rattle.rob_sets.proofs.Cells.PartedLemmas.{Parted}
-use Rattle.rob_sets.proofs.Cells.ListLemmas.{length-both}
 
 pub length-declared : {A : Type 0} (f : Fraction → A) (b : Option Fraction) → length (if_declared f b) ≤ 1
 length-declared f None = omega arith
@@ -20,8 +19,8 @@ bounds_many k [] = omega arith
 bounds_many k (p ∷ ps) =
     omega (
       arith,
-      length-both (if_declared (lower_row k) p.lower ++ if_declared (upper_row k) p.upper) (bound_rows (suc k) ps),
-      length-both (if_declared (lower_row k) p.lower) (if_declared (upper_row k) p.upper),
+      length-append (if_declared (lower_row k) p.lower ++ if_declared (upper_row k) p.upper) (bound_rows (suc k) ps),
+      length-append (if_declared (lower_row k) p.lower) (if_declared (upper_row k) p.upper),
       length-declared (lower_row k) p.lower,
       length-declared (upper_row k) p.upper,
       bounds_many (suc k) ps,

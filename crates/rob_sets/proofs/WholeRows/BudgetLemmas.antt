@@ -1,6 +1,6 @@
 -- The row of a budget's sum, and the rows of its members.
 use Rattle.std.specs.Prelude.{◌≡◌, ℕ, zero, suc, ◌+◌, ◌*◌, ◌≤◌, ◌<◌, List, [], ◌∷◌, ◌++◌, length, map, drop, pos, refl}
-use Rattle.std.proofs.Common.{sym, ◌∙◌, ap, ap₂, arith, get_or, add-one}
+use Rattle.std.proofs.Common.{sym, ◌∙◌, ap, ap₂, arith, get_or, add-one, length-append}
 use Rattle.std.proofs.lemmas.List.{length-map}
 use Rattle.rob_algebra.specs.Fraction.{Fraction, ◌+ℚ◌, ◌*ℚ◌, neg_ℚ}
 use Rattle.rob_algebra.specs.FractionLaws as Q
@@ -16,7 +16,6 @@ use Rattle.rob_model.proofs.PartLemmas.{drop_at, drop_past}
 use Rattle.rob_sets.specs.Appending.{row_of}
 use Rattle.rob_sets.proofs.WholeRows.BoundLemmas.{row_same, minus_minus}
 use Rattle.rob_sets.proofs.Cells.PartedLemmas.{Parted}
-use Rattle.rob_sets.proofs.Cells.ListLemmas.{length-both}
 use Rattle.rob_sets.proofs.Cells.CellLemmas.{unit-other}
 use Rattle.rob_meaning.proofs.Tables.TableLemmas.{times_zero}
 use Rattle.rob_meaning.proofs.Conditions.SetRowLemmas.{length-member_rows}
@@ -72,7 +71,7 @@ pub budget_many : {N : Type 0} (value : N → Fraction) (t : ℕ) (hs : List (Me
 budget_many value t hs last =
     omega (
       arith,
-      length-both (member_rows t (map (member_of value) hs)) (last ∷ []),
+      length-append (member_rows t (map (member_of value) hs)) (last ∷ []),
       length-member_rows t (map (member_of value) hs),
       length-map hs (member_of value),
     )

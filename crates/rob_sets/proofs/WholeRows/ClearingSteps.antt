@@ -1,6 +1,6 @@
 -- Least common denominators and whole numbers, one fraction after another.
 use Rattle.std.specs.Prelude.{◌≡◌, ℕ, zero, suc, ◌+◌, ◌^◌, ◌<◌, ◌≤◌, ℤ, pos, nat_abs, List, [], ◌∷◌, ◌++◌, map, length, take, drop, Option, Some, None, MatchOption, Result, Ok, Err, IfOk, OnOk, refl}
-use Rattle.std.proofs.Common.{sym, ◌∙◌, ap, arith, subst, get_or, inl, inr, to_z, of_z, w64, append_assoc}
+use Rattle.std.proofs.Common.{sym, ◌∙◌, ap, arith, subst, get_or, inl, inr, to_z, of_z, w64, append_assoc, take_all, append-nil}
 use Rattle.rob_number.proofs.CastLemmas.{seen}
 use Rattle.rob_algebra.specs.Fraction.{Fraction}
 use Rattle.rob_algebra.specs.Width.{IsWideWhole}
@@ -9,7 +9,7 @@ use Rattle.rob_meaning.specs.Places.{Each}
 use Rattle.rob_meaning.proofs.Lists.LeastLemmas.{denominator_least, whole_by_denominator}
 use Rattle.rob_sets.specs.FirstWide.{IsWideCleared, Some_of}
 use Rattle.rob_sets.specs.declared.error.Stop.{Stop}
-use Rattle.rob_sets.proofs.Cells.ListLemmas.{append-nil, take_one_more, take_past}
+use Rattle.rob_sets.proofs.Cells.ListLemmas.{take_one_more}
 use Rattle.std.proofs.lemmas.List.{map-append}
 use Rattle.rob_meaning.proofs.Lists.EachLemmas.{each_append, each_left, each_right}
 
@@ -88,7 +88,7 @@ module _ {N : Type 0} (value : N → Fraction) where
       → common ≡ denominator (before ++ map value (take i xs))
       → common ≡ denominator (before ++ map value xs)
   common_all before xs i common h so_far =
-      so_far ∙ ap (λ (ys : List N). denominator (before ++ map value ys)) (take_past xs i h)
+      so_far ∙ ap (λ (ys : List N). denominator (before ++ map value ys)) (take_all i xs h)
 
   -- ---- whole numbers
   pub whole_wide : (xs : List N) (i : ℕ) (q : N) (limit common : ℕ) → i < length xs → q ≡ get_or xs i q

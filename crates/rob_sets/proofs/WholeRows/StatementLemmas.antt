@@ -1,6 +1,6 @@
 -- The rows of statements, one statement after another.
 use Rattle.std.specs.Prelude.{◌≡◌, ℕ, ◌+◌, ◌*◌, ◌≤◌, List, [], ◌∷◌, ◌++◌, length, map, drop}
-use Rattle.std.proofs.Common.{sym, ◌∙◌, ap, ap₂, arith, append_assoc, add-one}
+use Rattle.std.proofs.Common.{sym, ◌∙◌, ap, ap₂, arith, append_assoc, add-one, append-nil, length-append}
 use Rattle.std.proofs.lemmas.List.{length-map}
 use Rattle.rob_meaning.specs.Expressions.{Expression}
 use Rattle.rob_meaning.specs.Forms.{sides}
@@ -12,7 +12,6 @@ use Rattle.rob_sets.specs.FirstWide.{Judged}
 use Rattle.rob_sets.specs.SetForm.{judged_rows, judged_sides, judged_statements}
 use Rattle.rob_sets.specs.declared.set_form.SetRow.{SetRow}
 use Rattle.rob_sets.proofs.Cells.PartedLemmas.{Parted}
-use Rattle.rob_sets.proofs.Cells.ListLemmas.{append-nil, length-both}
 use Rattle.rob_meaning.proofs.Conditions.SetRowLemmas.{length-member_rows}
 
 module _ (m : RobustModel) where
@@ -70,7 +69,7 @@ module _ (m : RobustModel) where
   statements_many t (line l rel r ∷ xs) =
       omega (
         arith,
-        length-both (map (expression_row m) (sides rel l r)) (statement_rows m t xs),
+        length-append (map (expression_row m) (sides rel l r)) (statement_rows m t xs),
         length-map (sides rel l r) (expression_row m),
         sides_many rel l r,
         statements_many t xs,
@@ -78,7 +77,7 @@ module _ (m : RobustModel) where
   statements_many t (budget limit hs ∷ xs) =
       omega (
         arith,
-        length-both (member_rows t hs) (budget_row t limit hs ∷ statement_rows m (length hs + t) xs),
+        length-append (member_rows t hs) (budget_row t limit hs ∷ statement_rows m (length hs + t) xs),
         length-member_rows t hs,
         statements_many (length hs + t) xs,
       )
