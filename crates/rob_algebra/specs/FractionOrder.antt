@@ -1,9 +1,10 @@
 -- The order of fractions as a function that answers, for `Ord`.
-use Rattle.std.specs.Prelude.{◌≡◌, pos, ◌*ℤ◌, ◌<ℤ◌, Bool, true, false, ◌&&◌, nat_abs, refl}
+use Rattle.std.specs.Prelude.{◌≡◌, pos, ◌*ℤ◌, ◌<ℤ◌, Bool, ◌&&◌, nat_abs, refl}
 use Rattle.std.proofs.Common.{Ordering, Less, Equal, Greater, int_cmp, int_eq, is_eq, sym, ap, subst}
 use Rattle.std.specs.Ordering.{MatchOrdering}
 use Rattle.std.specs.Bool.{Decides, one_answer}
 use Rattle.std.specs.Cmp.{IsTotalOrder, IsEquivalence, IsPartialEquivalence, strict, int_ranks, eq_by_cmp_equiv, partial_equiv_from_equiv, signed_Decides}
+use Rattle.std.proofs.lemmas.Bool.Decides.{Decides-and}
 use Rattle.rob_algebra.specs.Fraction.{Fraction, ◌<ℚ◌, ext}
 use Rattle.rob_algebra.specs.FractionPairs.{eq_from_cross}
 use Rattle.rob_algebra.specs.FractionOrderLaws.{lt_irrefl_ℚ, lt_le_trans_ℚ, le_of_lt_ℚ}
@@ -47,14 +48,10 @@ decides_by x y Greater h = (λ e. cc, λ e. absurd (lt_irrefl_ℚ y (subst (λ z
 pub eq_ℚ-decides : (x y : Fraction) → Decides (eq_ℚ x y) (x ≡ y)
 eq_ℚ-decides x y = decides_by x y (cmp_ℚ x y) (cmp_ℚ-ranks x y)
 
-both_decide : (a b : Bool) {P Q : Type 0} → Decides a P → Decides b Q → Decides (a && b) (P × Q)
-both_decide true b p q = (λ e. (p.0 refl, q.0 e), λ h. q.1 h.1)
-both_decide false b p q = (λ e. cc, λ h. p.1 h.0)
-
 parts_decide : (x y : Fraction) → Decides (int_eq x.num y.num && int_eq (pos x.den) (pos y.den)) (x ≡ y)
 parts_decide x y =
     let d : Decides (int_eq x.num y.num && int_eq (pos x.den) (pos y.den)) ((x.num ≡ y.num) × (pos x.den ≡ pos y.den)) =
-    both_decide (int_eq x.num y.num) (int_eq (pos x.den) (pos y.den)) (signed_Decides x.num y.num)
+    Decides-and (int_eq x.num y.num) (int_eq (pos x.den) (pos y.den)) (signed_Decides x.num y.num)
     (signed_Decides (pos x.den) (pos y.den)) in
     (λ e. ext x y (d.0 e).0 (ap nat_abs (d.0 e).1), λ e. d.1 (ap (λ z. z.num) e, ap (λ z. pos z.den) e))
 

@@ -1,10 +1,10 @@
 -- The items' part, and the end of a text.
 use Rattle.std.proofs.Common.{◌≡◌, ◌≢◌, ℕ, ◌+◌, ◌<◌, ◌≤◌, List, [], ◌∷◌, ◌++◌, length, arith, refl, ap, sym, ◌∙◌, subst, true, false, inl, inr, append-nil}
 use Rattle.std.proofs.lemmas.Bool.Decides.{nat_tests}
+use Rattle.std.proofs.lemmas.List.{nil_from_length}
 use Rattle.std.specs.Prelude.{◌⊎◌, codes}
 use Rattle.rob_algebra.specs.Fraction.{Fraction}
 use Rattle.rob_meaning.specs.Certificates.{Status, Item}
-use Rattle.rob_meaning.specs.Names.{Name}
 use Rattle.rob_cert.specs.declared.error.Offence.TheVariants.{NoLine}
 use Rattle.rob_cert.specs.declared.kind.Multipliers.TheVariants.{Covers, Holds}
 use Rattle.rob_cert.specs.declared.kind.Vector.TheVariants.{Inside, Plan, Move, At}
@@ -205,14 +205,10 @@ module _ (names : Naming) (limit : ℕ) (s : Status) (text : List ℕ) (lines : 
       by (inr e) =
           let same : kind ≡ ends = rank_injective kind ends (λ p. omega arith) e in
           let count : length has.arguments ≡ 0 = has.count ∙ ap argument_count same in
-          let empty = none_of has.arguments count in
+          let empty = nil_from_length has.arguments count in
           let words : words_in here ≡ words_in (codes "end") =
           has.spelled ∙ ap (λ args. word_of kind ∷ args) empty ∙ ap (λ k. word_of k ∷ []) same in
           none after (subst (λ l. BeginsWithLine rest l after) (line_by_words here (codes "end") words) b)
-        where
-          none_of : (xs : List Name) → length xs ≡ 0 → xs ≡ []
-          none_of [] e = refl
-          none_of (x ∷ xs) e = absurd (omega arith)
 
   -- the next line is not the end
   pub end_missing : ((after : List ℕ) → BeginsWithLine rest (codes "end") after → ⊥)

@@ -1,5 +1,6 @@
 -- What is read has its shape, and so have no covers and no items.
 use Rattle.std.proofs.Common.{◌≡◌, ℕ, ◌^◌, ◌<◌, ◌≤◌, List, [], ◌∷◌, ◌++◌, length, arith, refl, sym, subst, length-append}
+use Rattle.std.proofs.lemmas.List.{nil_from_length}
 use Rattle.std.specs.Prelude.{codes, Result, Ok, Err, IfOk}
 use Rattle.rob_algebra.specs.Fraction.{Fraction}
 use Rattle.rob_meaning.proofs.Naming.NameLemmas.{length-column_names, length-form_names, length-set_row_names}
@@ -27,11 +28,6 @@ no_covers m = record { each = tt; ordered = tt }
 
 pub no_items : (m : RobustModel) → AreItemsOf m []
 no_items m = record { each = tt; ordered = tt; few = omega arith }
-
--- ---- lists
-none_of : {A : Type 0} (xs : List A) → length xs ≡ 0 → xs ≡ []
-none_of [] e = refl
-none_of (x ∷ xs) e = absurd (omega arith)
 
 -- ---- the text is as long as there are items
 pub spaced_some : (ws : List Name) → 1 ≤ length (spaced ws)
@@ -121,15 +117,15 @@ parts_by : (m : RobustModel) (c : Certificate) (moved : List Fraction) (s : Stat
     → (s ≡ infeasible → (c.value ≡ 0ℚ) × (c.scale ≡ 1ℚ)) → HasParts m s c
 parts_by m c moved optimal sizes dir lists bounds = record {
   plan = omega (arith, sizes.plan_size, length-column_names m);
-  step = none_of c.step (omega (arith, sizes.moved_size, dir.size));
+  step = nil_from_length c.step (omega (arith, sizes.moved_size, dir.size));
   step_bound = dir.nothing sizes.moved_size;
   holds = lists.good_holds.unused refl;
 }
 parts_by m c moved infeasible sizes dir lists bounds = record {
   value = (bounds refl).0;
   scale = (bounds refl).1;
-  plan = none_of c.plan sizes.plan_size;
-  step = none_of c.step (omega (arith, sizes.moved_size, dir.size));
+  plan = nil_from_length c.plan sizes.plan_size;
+  step = nil_from_length c.step (omega (arith, sizes.moved_size, dir.size));
   step_bound = dir.nothing sizes.moved_size;
   covers = lists.good_covers.unused refl;
   holds = lists.good_holds.unused refl;

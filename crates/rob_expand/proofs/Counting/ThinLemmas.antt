@@ -4,13 +4,14 @@ use Rattle.std.specs.Prelude.{ℤ, fold, nat_le, ◌&&◌, ◌||◌, if◌then�
 use Rattle.std.specs.List.{flat_map, list_any}
 use Rattle.std.proofs.lemmas.Grind.{flat_map-append}
 use Rattle.std.proofs.lemmas.List.Sums.{fold-append}
+use Rattle.std.proofs.lemmas.List.Folds.{list_any-append}
 use Rattle.std.proofs.lemmas.Bool.{eq-eqb, ne_eqb, leb-true, leb-false}
 use Rattle.std.proofs.lemmas.Option.{same_Some, none-some}
 use Rattle.rob_algebra.proofs.ListLemmas.{map_map}
 use Rattle.rob_index.specs.Forms.{extensions}
 use Rattle.rob_index.specs.Rules.{is_long_name}
 use Rattle.rob_index.specs.Statements.{Name}
-use Rattle.rob_index.proofs.LinesRead.ListLemmas.{or_assoc, any_append}
+use Rattle.rob_index.proofs.LinesRead.ListLemmas.{or_assoc}
 use Rattle.rob_settings.specs.declared.item.Item.{Item}
 use Rattle.rob_settings.specs.declared.spot.Spot.{Spot}
 use Rattle.rob_expand.specs.Growing.{add_name, item_names, named_at}
@@ -175,7 +176,7 @@ module _ {A : Type 0} (f : A → List Name) (old one xs : List A) (is : old ≡ 
       ap (λ (b : Bool). b || list_any is_long_name (flat_map f xs)) next_is
       ∙ or_assoc long here (list_any is_long_name (flat_map f xs))
       ∙ ap (λ (b : Bool). long || (b || list_any is_long_name (flat_map f xs))) here_is
-      ∙ ap (λ (b : Bool). long || b) (sym (any_append is_long_name (flat_map f one) (flat_map f xs)))
+      ∙ ap (λ (b : Bool). long || b) (sym (list_any-append is_long_name (flat_map f one) (flat_map f xs)))
       ∙ ap (λ (l : List Name). long || list_any is_long_name l) (sym apart) ∙ so_far
 
 pub made_some : {A B : Type 0} (f : A → List B) (done next : List B) (old one xs : List A) {result : List B}

@@ -4,6 +4,7 @@ use Rattle.std.specs.Prelude.{ℤ, fold, ◌||◌, ◌&&◌, Option, Some, None,
 use Rattle.std.specs.Option.{option_map}
 use Rattle.std.specs.List.{flat_map, list_any}
 use Rattle.std.proofs.lemmas.List.Sums.{fold-append}
+use Rattle.std.proofs.lemmas.List.Folds.{list_any-append}
 use Rattle.rob_algebra.proofs.ListLemmas.{map_map}
 use Rattle.rob_index.specs.Statements.{Name, Plain, Parts, Factors, Member, Statement, Ref, Ranged, Share, Tree, Indexed}
 use Rattle.rob_index.specs.Statements as stated
@@ -11,7 +12,7 @@ use Rattle.rob_index.specs.Expansion.{added, summed, ranges_of}
 use Rattle.rob_index.specs.Forms.{Ends, extensions, values_of}
 use Rattle.rob_index.specs.Fast.{names_in, nest_of}
 use Rattle.rob_index.specs.Rules.{is_long_name, plain_has_long, parts_have_long, factors_have_long, optional_has_long, has_no_member, is_no_statement}
-use Rattle.rob_index.proofs.LinesRead.ListLemmas.{or_false, any_append, any_map}
+use Rattle.rob_index.proofs.LinesRead.ListLemmas.{or_false, any_map}
 use Rattle.rob_syntax.specs.Symbols.{add_word}
 use Rattle.rob_syntax.specs.Plain.{is_nothing}
 use Rattle.rob_settings.specs.declared.item.Item.{Item}
@@ -196,13 +197,13 @@ mutual
   parts_long stated.no_parts = refl
   parts_long (stated.part minus p ps) =
       or_both (plain_long p) (parts_long ps)
-      ∙ sym (any_append is_long_name (tree_names p) (part_names ps))
+      ∙ sym (list_any-append is_long_name (tree_names p) (part_names ps))
 
   factors_long : (ps : Factors) → factors_have_long ps ≡ list_any is_long_name (factor_names ps)
   factors_long stated.no_factors = refl
   factors_long (stated.factor p ps) =
       or_both (plain_long p) (factors_long ps)
-      ∙ sym (any_append is_long_name (tree_names p) (factor_names ps))
+      ∙ sym (list_any-append is_long_name (tree_names p) (factor_names ps))
 
 optional_long : (o : Option Name) → optional_has_long o ≡ list_any is_long_name (option_to_list o)
 optional_long None = refl
@@ -213,8 +214,8 @@ sides_long : (l p : Plain) (o : Option Name)
 sides_long l p o =
     or_both (plain_long l) (or_both (plain_long p) (optional_long o))
     ∙ ap (λ (b : Bool). list_any is_long_name (tree_names l) || b)
-    (sym (any_append is_long_name (tree_names p) (option_to_list o)))
-    ∙ sym (any_append is_long_name (tree_names l) (tree_names p ++ option_to_list o))
+    (sym (list_any-append is_long_name (tree_names p) (option_to_list o)))
+    ∙ sym (list_any-append is_long_name (tree_names l) (tree_names p ++ option_to_list o))
 
 pub no_statement_is : (p : Statement) → is_no_statement p ≡ (lacks_members p || list_any is_long_name (names_of p))
 no_statement_is (stated.uncertain n b) = sym (or_false (is_long_name n))
@@ -223,12 +224,12 @@ no_statement_is (stated.set l r p o) = sides_long l p o
 no_statement_is (stated.budget n ms o) =
     ap (λ (b : Bool). has_no_member ms || b)
     (or_both (sym (any_map is_long_name (λ (m : Member). m.name) ms)) (optional_long o)
-    ∙ sym (any_append is_long_name (map (λ (m : Member). m.name) ms) (option_to_list o)))
+    ∙ sym (list_any-append is_long_name (map (λ (m : Member). m.name) ms) (option_to_list o)))
 no_statement_is (stated.variable n b) = sym (or_false (is_long_name n))
 no_statement_is (stated.adaptive n on b) = refl
 no_statement_is (stated.goal s e o) =
     or_both (plain_long e) (optional_long o)
-    ∙ sym (any_append is_long_name (tree_names e) (option_to_list o))
+    ∙ sym (list_any-append is_long_name (tree_names e) (option_to_list o))
 no_statement_is (stated.row n l r p o) = ap (λ (b : Bool). is_long_name n || b) (sides_long l p o)
 
 or_swap : (a b c d : Bool) → ((a || b) || (c || d)) ≡ ((a || c) || (b || d))
@@ -246,7 +247,7 @@ no_statements_are (p ∷ ps) =
     ∙ or_swap (lacks_members p) (list_any is_long_name (names_of p)) (list_any lacks_members ps)
     (list_any is_long_name (flat_map names_of ps))
     ∙ ap (λ (b : Bool). (lacks_members p || list_any lacks_members ps) || b)
-    (sym (any_append is_long_name (names_of p) (flat_map names_of ps)))
+    (sym (list_any-append is_long_name (names_of p) (flat_map names_of ps)))
 
 -- ---- budgets without a member
 and_both : {a b c d : Bool} → a ≡ b → c ≡ d → (a && c) ≡ (b && d)

@@ -3,9 +3,10 @@ use Rattle.std.proofs.Common.{◌≡◌, Bool, List, [], ◌∷◌, ◌++◌, ma
 use Rattle.std.specs.Prelude.{fold, ◌||◌, MatchOption}
 use Rattle.std.specs.List.{flat_map, list_any}
 use Rattle.std.proofs.lemmas.List.Sums.{fold-append}
+use Rattle.std.proofs.lemmas.List.Folds.{list_any-append}
 use Rattle.rob_index.specs.Statements.{Name}
 use Rattle.rob_index.specs.Rules.{is_long_name}
-use Rattle.rob_index.proofs.LinesRead.ListLemmas.{or_false, or_assoc, any_append}
+use Rattle.rob_index.proofs.LinesRead.ListLemmas.{or_false, or_assoc}
 use Rattle.rob_expand.specs.Growing.{add_name}
 
 -- ---- both parts are the same
@@ -55,7 +56,7 @@ module _ {A : Type 0} (f : A → List Name) where
       ap (λ (b : Bool). b || list_any is_long_name (flat_map f xs)) next_is
       ∙ or_assoc long here (list_any is_long_name (flat_map f xs))
       ∙ ap (λ (b : Bool). long || (b || list_any is_long_name (flat_map f xs))) here_is
-      ∙ ap (λ (b : Bool). long || b) (sym (any_append is_long_name (f x) (flat_map f xs)))
+      ∙ ap (λ (b : Bool). long || b) (sym (list_any-append is_long_name (f x) (flat_map f xs)))
       ∙ ap (λ (l : List A). long || list_any is_long_name (flat_map f l)) (sym is) ∙ so_far
 
   pub long_all : (long : Bool) (old : List A) {result : Bool} → old ≡ []
@@ -95,10 +96,10 @@ pub four_long : (a b c d : List Name) (h t i o last behind long : Bool) → h �
 four_long a b c d h t i o last behind long first second third fourth last_is behind_is long_is =
     let any : List Name → Bool = list_any is_long_name in
     let both : last ≡ any (c ++ d) =
-    last_is ∙ or_both third fourth ∙ sym (any_append is_long_name c d) in
+    last_is ∙ or_both third fourth ∙ sym (list_any-append is_long_name c d) in
     let all : behind ≡ any (b ++ (c ++ d)) =
-    behind_is ∙ or_both second both ∙ sym (any_append is_long_name b (c ++ d)) in
-    long_is ∙ or_both first all ∙ sym (any_append is_long_name a (b ++ (c ++ d)))
+    behind_is ∙ or_both second both ∙ sym (list_any-append is_long_name b (c ++ d)) in
+    long_is ∙ or_both first all ∙ sym (list_any-append is_long_name a (b ++ (c ++ d)))
 
 module _ {A B : Type 0} (f : A → List B) where
   -- ---- a list that is made

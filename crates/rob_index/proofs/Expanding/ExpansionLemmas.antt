@@ -1,9 +1,10 @@
 -- What trees and statements with indices stand for: the function and the relation are one, in which order settings
 -- run, and what has no index stands for itself.
-use Rattle.std.proofs.Common.{◌≡◌, ℕ, zero, suc, ◌<◌, false, List, [], ◌∷◌, ◌++◌, map, get_or, refl, sym, ap, ◌∙◌, arith, append-nil, append_assoc}
+use Rattle.std.proofs.Common.{◌≡◌, ℕ, zero, suc, ◌<◌, false, List, [], ◌∷◌, ◌++◌, map, get_or, refl, sym, ap, ◌∙◌, arith, append-nil}
 use Rattle.std.specs.Prelude.{ℤ, pos, ◌+ℤ◌, ◌-ℤ◌, ◌<ℤ◌}
 use Rattle.std.specs.List.{flat_map}
 use Rattle.std.proofs.lemmas.Int.{ints}
+use Rattle.std.proofs.lemmas.Grind.{flat_map-append}
 use Rattle.rob_index.specs.Statements.{Name, Plain, Parts, Factors, Ref, Index, Range, Tree, TreeParts, TreeFactors}
 use Rattle.rob_index.specs.Statements as stated
 use Rattle.rob_index.specs.Expansion.{ref_name, index_text, added, summed, expand_tree, expand_parts, expand_factors, Expands, ExpandsParts, ExpandsFactors, ExpandsEach, number, ref, sum, product, over_none, over_one, over_more, no_parts, part, no_factors, factor, no_settings, next_setting, IsPlain, ArePlainParts, ArePlainFactors, HasNoIndex, itself, itself_parts, itself_factors}
@@ -12,16 +13,11 @@ use Rattle.rob_index.proofs.LinesRead.ListLemmas.{natural_low}
 use Rattle.rob_index.proofs.Faults.FastLemmas.{flat_same}
 
 -- ---- order
-flat_append : {A B : Type 0} (f : A → List B) (xs ys : List A) → flat_map f (xs ++ ys) ≡ flat_map f xs ++ flat_map f ys
-flat_append f [] ys = refl
-flat_append f (x ∷ xs) ys =
-    ap (λ (l : List _). f x ++ l) (flat_append f xs ys) ∙ sym (append_assoc (f x) (flat_map f xs) (flat_map f ys))
-
 flat_flat : {A B C : Type 0} (f : B → List C) (g : A → List B) (xs : List A)
     → flat_map f (flat_map g xs) ≡ flat_map (λ x. flat_map f (g x)) xs
 flat_flat f g [] = refl
 flat_flat f g (x ∷ xs) =
-    flat_append f (g x) (flat_map g xs) ∙ ap (λ (l : List _). flat_map f (g x) ++ l) (flat_flat f g xs)
+    flat_map-append f (g x) (flat_map g xs) ∙ ap (λ (l : List _). flat_map f (g x) ++ l) (flat_flat f g xs)
 
 -- later ranges run through all their values in each setting of the earlier ones: the last range runs fastest
 pub settings-append : (rs ss : List Range) (setting : Setting)

@@ -4,10 +4,11 @@ use Rattle.std.proofs.Common.{◌≡◌, Bool, true, false, List, [], ◌∷◌,
 use Rattle.std.specs.Prelude.{ℤ, pos, negsuc, ◌+ℤ◌, ◌*ℤ◌, ◌≤ℤ◌, ◌<ℤ◌, ◌||◌, ◌&&◌, int_le, int_lt, if◌then◌else◌}
 use Rattle.std.specs.List.{list_any}
 use Rattle.std.proofs.lemmas.Int.{ints}
+use Rattle.std.proofs.lemmas.Bool.{false_from_ne_true}
 use Rattle.std.proofs.Math.IntN.{zero-*ℤ}
 use Rattle.rob_index.specs.Membership.{Among, here, there}
 use Rattle.rob_index.specs.Forms.{Form, value_of, joined, minus, first_factor, other_factors, without, far_end, lack_form, length_form, AreConstant, Ends, AreWithin, greatest, all_run, is_dead, from_ends, fixed, onto, values_of, reaches, extensions, reaches_plainly}
-use Rattle.rob_index.proofs.LinesRead.ListLemmas.{any_true, any_from, any_same, any_flat, or_false, not_true, among_flat, flat_among, values_within, within_values}
+use Rattle.rob_index.proofs.LinesRead.ListLemmas.{any_true, any_from, any_same, any_flat, or_false, among_flat, flat_among, values_within, within_values}
 use Rattle.rob_index.proofs.Faults.NestLemmas.{never_over, attained, dead, le_from, le_to, lt_from, lt_not}
 
 -- ---- the settings that are run through are those within the ranges
@@ -73,7 +74,7 @@ module _ (rs : List Ends) (vs : List ℤ) (f : Form) (bound : ℤ) where
 
   ends_say_no : (greatest (onto rs (fixed vs)) f <ℤ bound) ⊎ (is_dead (onto rs (fixed vs)) ≡ true)
       → reaches_plainly rs vs f bound ≡ false
-  ends_say_no why = not_true (reaches_plainly rs vs f bound)
+  ends_say_no why = false_from_ne_true (reaches_plainly rs vs f bound)
       (λ t. let x = any_true test (extensions rs vs) t in go x.0 (run_within rs vs x.0 x.1)
       (le_from bound (value_of f x.0) x.2) why)
     where

@@ -2,8 +2,9 @@
 use Rattle.std.proofs.Common.{◌≡◌, ◌≤◌, Bool, true, false, ◌||◌, List, [], ◌∷◌, ◌++◌, map, length, refl, sym, ◌∙◌, subst, arith}
 use Rattle.std.specs.Prelude.{ℤ, Option, Some, None}
 use Rattle.std.specs.List.{list_any}
-use Rattle.std.proofs.lemmas.Bool.{or_parts}
+use Rattle.std.proofs.lemmas.Bool.{or_parts, false_from_ne_true}
 use Rattle.std.proofs.lemmas.Bool.Decides.{nat_tests}
+use Rattle.std.proofs.lemmas.List.Folds.{list_any-append}
 use Rattle.rob_algebra.specs.Items.{Each}
 use Rattle.rob_algebra.proofs.ListLemmas.{each_append}
 use Rattle.rob_index.specs.Statements.{Name, Plain, Parts, Factors, Member, Statement, Index, Ref, Range, Tree, TreeParts, TreeFactors, Ranged, Sides, Indexed}
@@ -15,15 +16,15 @@ use Rattle.rob_index.specs.Refs.{IfThere, EachName, EachPartName, EachFactorName
 use Rattle.rob_index.specs.Rules.{is_out_at, is_out, longest_name, is_long_name, plain_has_long, parts_have_long, factors_have_long, optional_has_long, has_no_member, is_no_statement}
 use Rattle.rob_index.specs.Places.{of_index, ref_places, optional_places, range_places, under, tree_places, part_places, factor_places, each_places, sides_places, inner_places, places}
 use Rattle.rob_index.proofs.Expanding.ExpansionLemmas.{settings-append}
-use Rattle.rob_index.proofs.LinesRead.ListLemmas.{not_true, any_from, any_append, flat_among}
+use Rattle.rob_index.proofs.LinesRead.ListLemmas.{any_from, flat_among}
 
 -- ---- tests that no item passes
 pub none_both : {A : Type 0} (p : A → Bool) (xs ys : List A) → list_any p (xs ++ ys) ≡ false
     → (list_any p xs ≡ false) × (list_any p ys ≡ false)
-none_both p xs ys h = or_parts (list_any p xs) (list_any p ys) (sym (any_append p xs ys) ∙ h)
+none_both p xs ys h = or_parts (list_any p xs) (list_any p ys) (sym (list_any-append p xs ys) ∙ h)
 
 pub none_among : {A : Type 0} (p : A → Bool) (xs : List A) (x : A) → list_any p xs ≡ false → Among x xs → p x ≡ false
-none_among p xs x h m = not_true (p x) (λ (yes : p x ≡ true). let all = any_from p xs x m yes in cc)
+none_among p xs x h m = false_from_ne_true (p x) (λ (yes : p x ≡ true). let all = any_from p xs x m yes in cc)
 
 -- ---- items
 each_mapped : {A B : Type 0} (P : B → Type 0) (f : A → B) (xs : List A) → ((x : A) → Among x xs → P (f x))

@@ -1,6 +1,5 @@
 -- Rows of a table that are cleared place by place are cleared column by column.
-use Rattle.std.proofs.Common.{◌≡◌, ◌≢◌, ℕ, suc, ◌+◌, ◌*◌, ◌-◌, ◌<◌, ◌≤◌, sym, ap, ◌∙◌, subst, arith, inl, inr, List, length, Result, Ok, Err}
-use Rattle.std.specs.Prelude.{IfErr}
+use Rattle.std.proofs.Common.{◌≡◌, ◌≢◌, ℕ, suc, ◌+◌, ◌*◌, ◌-◌, ◌<◌, ◌≤◌, sym, ap, ◌∙◌, subst, arith, inl, inr, List, length}
 use Rattle.std.proofs.lemmas.Bool.{cases_eq, cases_lt}
 use Rattle.std.proofs.lemmas.Int.{ints}
 use Rattle.std.specs.Int.RustNames.{unsigned_abs}
@@ -234,7 +233,3 @@ module _ {limit n : ℕ} {basis places near : List ℕ} {table : List ℤ} {boun
           λ s. row_wide (length basis) (suc (length basis)) (omega arith) (λ x. absurd (omega (arith, rl)))
           (subst (λ k. IsWideCleared limit (n + 4) x (row_at table (n + 4) k) (at entries)) s h.wide);
     }
-
-pub err_weaker : {T E : Type 0} (P Q : E → Type 0) → ((e : E) → P e → Q e) → (r : Result T E) → IfErr r P → IfErr r Q
-err_weaker P Q f (Ok x) h = h
-err_weaker P Q f (Err e) h = f e h

@@ -1,17 +1,8 @@
 -- What the parts of a word's list tell, read from the left.
 use Rattle.std.proofs.Common.{◌≡◌, ◌≤◌, ◌+◌, ◌∙◌, ℕ, List, [], ◌∷◌, ◌++◌, length, Option, None, Some, sym, ap, subst, arith, append_assoc}
 use Rattle.std.proofs.lemmas.List.{append-nil, length-append}
-use Rattle.std.specs.Prelude.{MatchOption}
 use Rattle.rob_words.specs.Names.{AreAll, IsListOf, parts_behind, parts_of}
 use Rattle.rob_words.specs.Values.{Word}
-
--- what is said of what was found, or of nothing
-module _ {X : Type 0} (None_is : Type 0) (Some_is : X → Type 0) where
-  pub some_told : (o : Option X) (x : X) → o ≡ Some x → MatchOption o None_is Some_is → Some_is x
-  some_told o x is h = subst (λ (p : Option X). MatchOption p None_is Some_is) is h
-
-  pub none_told : (o : Option X) → o ≡ None → MatchOption o None_is Some_is → None_is
-  none_told o is h = subst (λ (p : Option X). MatchOption p None_is Some_is) is h
 
 -- so many at most, where they weren't yet as many
 grown_within : (most a b : ℕ) → b ≡ a + 1 → a ≤ most → (a ≡ most → ⊥) → b ≤ most

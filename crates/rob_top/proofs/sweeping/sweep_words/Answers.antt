@@ -1,5 +1,5 @@
 use Rattle.std.proofs.Common.{◌∙◌, ◌≡◌, ◌≤◌, ap, length, map, refl, string_bytes}
-use Rattle.rob_top.proofs.Telling.ToldLemmas.{none_told, some_told}
+use Rattle.std.proofs.lemmas.Option.{MatchOption-at_some, MatchOption-at_none}
 use Rattle.rob_top.specs.Swept.{limit_value}
 use Rattle.rob_words.specs.Limits.{IsLimitList}
 use Rattle.rob_words.specs.Names.{parts_of}
@@ -17,10 +17,10 @@ returns-in-Some-told-clause-answers g c =
     (map g.N.Exact.value c.items.result.now)
     c.at_limits.result c.own_word-number.ensures.word c.own_word-limits.ensures.word
     c.in-Some.ensures.statement.1 (ap (map g.N.Exact.value) c.items.ensures.list
-    ∙ (some_told (IsLimitList g.N.Exact.limit c.own_word-limits.result.now → ⊥)
+    ∙ (MatchOption-at_some (IsLimitList g.N.Exact.limit c.own_word-limits.result.now → ⊥)
     (λ limits. (map g.N.Exact.value limits ≡ map limit_value (parts_of c.own_word-limits.result.now))
     × (length limits ≤ 20))
-    c.in_ok-told.told c.in-Some-told.limits c.in-Some-told.is c.in_ok-told.ensures.limits).0)
+    c.in-Some-told.limits c.in-Some-told.is c.in_ok-told.ensures.limits).0)
     c.limits_of.ensures.counted
     c.at_limits.ensures.answers
 
@@ -29,10 +29,10 @@ returns-in-None-clause-answers g c =
     no_line_answers g.N.Exact.limit _ (robust g.N.Exact.value c.args.model.now) verbs.Sweep own.Limits refl
     (map string_bytes c.args.words.now) c.own_word-limits.result.now c.own_word-limits.ensures.word
     c.no_line-in-None.result
-    (none_told (IsLimitList g.N.Exact.limit c.own_word-limits.result.now → ⊥)
+    (MatchOption-at_none (IsLimitList g.N.Exact.limit c.own_word-limits.result.now → ⊥)
     (λ limits. (map g.N.Exact.value limits ≡ map limit_value (parts_of c.own_word-limits.result.now))
     × (length limits ≤ 20))
-    c.in_ok-told.told c.in-None.is c.in_ok-told.ensures.limits)
+    c.in-None.is c.in_ok-told.ensures.limits)
     c.no_line-in-None.ensures.fault
 
 pub returns-in_default-clause-answers : goal.returns-in_default-clause-answers

@@ -1,6 +1,6 @@
 use Rattle.std.proofs.Common.{◌≡◌, ℕ, ◌<◌, ◌≤◌, ◌+◌, ◌∙◌, ap, sym, subst, arith, length, nat_abs, OnOk}
 use Rattle.std.specs.Prelude.{IfErr}
-use Rattle.std.proofs.lemmas.Result.{on_ok_weaker}
+use Rattle.std.proofs.lemmas.Result.{on_ok_weaker, IfErr-weaker}
 use Rattle.rob_linear.specs.Vectors.{at}
 use Rattle.rob_table.specs.Tables.{row_at, bound_at, IsStopped}
 use Rattle.rob_table.proofs.Places.{read_at}
@@ -8,7 +8,7 @@ use Rattle.rob_table.proofs.ClearingTops.{multiple_in}
 use Rattle.rob_simplex.specs.Dictionaries.{Table, ClearsTable, StopsTable}
 use Rattle.rob_simplex.proofs.Rows.RowEdits.{lent_bounds}
 use Rattle.rob_simplex.proofs.Rows.EditLemmas.{column_in}
-use Rattle.rob_simplex.proofs.Pivoting.TableClearing.{free_place, row_there, positive_entry, own_there, table_cleared, table_stopped, err_weaker, before, after}
+use Rattle.rob_simplex.proofs.Pivoting.TableClearing.{free_place, row_there, positive_entry, own_there, table_cleared, table_stopped, before, after}
 use Rattle.rob_simplex.proofs.Places.Views.{can_clear}
 use Rattle.rob_simplex.proofs.Places.Sizes.{sized_view}
 use Rattle.rob_simplex.proofs.dictionary.Dictionary.clear_others.Goals as goal
@@ -81,11 +81,12 @@ returns-clause-stopped g c =
     subst (λ (v : Table). IfErr c.clear_rows.result
     (λ (i : ℕ). StopsTable v.limit c.args.count v (after c.self.invariant a new) c.args.row c.args.column i))
     c.self.view_is
-    (err_weaker (λ (i : ℕ). IsStopped g.E.Entry.top c.args.count w c.args.row c.index-2.result.now
+    (IfErr-weaker c.clear_rows.result
+    (λ (i : ℕ). IsStopped g.E.Entry.top c.args.count w c.args.row c.index-2.result.now
     (at c.load.new.row.entries) (row_at c.self.inside.rows w) (row_at new w) i)
     (λ (i : ℕ). StopsTable g.E.Entry.top c.args.count (before c.self.invariant a) (after c.self.invariant a new)
     c.args.row c.args.column i)
-    (λ i. table_stopped c.self.invariant a c.load.new.row.entries m c.index-2.result.now ex new i) c.clear_rows.result
+    (λ i. table_stopped c.self.invariant a c.load.new.row.entries m c.index-2.result.now ex new i)
     c.clear_rows.ensures.stopped)
 
 pub returns-clause-sized : goal.returns-clause-sized

@@ -1,12 +1,11 @@
 use Rattle.std.proofs.Common.{ℕ, ◌+◌, ◌<◌, ◌≤◌, subst, arith}
-use Rattle.std.proofs.lemmas.Result.{on_ok_weaker}
+use Rattle.std.proofs.lemmas.Result.{on_ok_weaker, IfErr-weaker}
 use Rattle.rob_linear.specs.WideRows.{HasWideRow}
 use Rattle.rob_simplex.specs.Dictionaries.{positions, columns_of, StopsTable}
 use Rattle.rob_simplex.proofs.Pivoting.BrokenPivots.{spare_free, clears_again, cleared_free}
 use Rattle.rob_simplex.proofs.Pivoting.BegunTurns.{pivotable_turn, ended_again, refused_again}
 use Rattle.rob_simplex.proofs.Places.Views.{spare_told}
 use Rattle.rob_simplex.proofs.Places.Sizes.{sized_after}
-use Rattle.rob_simplex.proofs.Pivoting.TableClearing.{err_weaker}
 use Rattle.rob_simplex.proofs.dictionary.Dictionary.end_turn.Goals as goal
 
 pub replace-requires-clause-free : goal.replace-requires-clause-free
@@ -60,7 +59,7 @@ returns-clause-wide g c P h =
     let e2 = c.clear_others-cleared.ensures in
     let t4 = c.replace-2.new.self in
     let e4 = c.replace-2.ensures in
-    err_weaker
+    IfErr-weaker c.clear_others-cleared.result
     (λ (i : ℕ). StopsTable t1.limit (c.positions-m.result + 1) t1 r2 c.args.row c.basic-column.result i)
     (λ (i : ℕ). HasWideRow c.args.self.now.limit P (columns_of t4.basis) i)
     (λ i sp.
@@ -68,19 +67,19 @@ returns-clause-wide g c P h =
     subst (λ l. HasWideRow l P (columns_of t4.basis) i) c.replace.ensures.sized.limit
     (refused_again P h c.basic-column.ensures.column ez c.replace.ensures.exchanged r2 e2.basis e2.sized.columns t4
     e4.basis e4.sized.columns t1.limit (c.positions-m.result + 1) i sp (omega (arith, em))))
-    c.clear_others-cleared.result e2.stopped
+    e2.stopped
 
 pub returns-clause-position : goal.returns-clause-position
 returns-clause-position g c =
     let t1 = c.replace.new.self in
     let r2 = c.clear_others-cleared.new.self in
-    err_weaker
+    IfErr-weaker c.clear_others-cleared.result
     (λ (i : ℕ). StopsTable t1.limit (c.positions-m.result + 1) t1 r2 c.args.row c.basic-column.result i)
     (λ (i : ℕ). i ≤ positions c.args.self.now)
     (λ i sp.
     let inside : i < c.positions-m.result + 1 = sp.inside in
     omega (arith, c.positions-m.ensures.positions))
-    c.clear_others-cleared.result c.clear_others-cleared.ensures.stopped
+    c.clear_others-cleared.ensures.stopped
 
 pub returns-clause-sized : goal.returns-clause-sized
 returns-clause-sized g c =
