@@ -1,5 +1,6 @@
--- What is left of a list from a place on, lists that are mapped twice, and what is true of each item of two lists.
-use Rattle.std.proofs.Common.{◌≡◌, ℕ, ◌+◌, ◌<◌, ◌≤◌, List, [], ◌∷◌, ◌++◌, length, map, drop, get_or, refl, sym, ap, ◌∙◌}
+-- What is left of a list from a place on, its items, lists that are mapped twice, and what is true of each item of two
+-- lists.
+use Rattle.std.proofs.Common.{◌≡◌, ℕ, ◌+◌, ◌<◌, ◌≤◌, List, [], ◌∷◌, ◌++◌, length, map, drop, get_or, refl, sym, ap, ◌∙◌, subst}
 use Rattle.std.proofs.lemmas.List.{at_drop_more, at_drop_all}
 use Rattle.rob_algebra.specs.Items.{Each}
 
@@ -11,6 +12,14 @@ drop_at {A} xs i x inside is =
 
 pub drop_past : {A : Type 0} (xs : List A) (i : ℕ) → length xs ≤ i → drop i xs ≡ []
 drop_past {A} xs i all = at_drop_all (λ (l : List A). l) xs i all
+
+-- an item of a list is one of the list that is the same
+module _ {A : Type 0} (i : ℕ) {items xs : List A} (same : items ≡ xs) where
+  pub item_inside : i < length items → i < length xs
+  item_inside inside = subst (λ (ys : List A). i < length ys) same inside
+
+  pub item_is : {x : A} → x ≡ get_or items i x → x ≡ get_or xs i x
+  item_is {x} is = subst (λ (ys : List A). x ≡ get_or ys i x) same is
 
 pub map_map : {A B C : Type 0} (g : B → C) (f : A → B) (xs : List A) → map g (map f xs) ≡ map (λ x. g (f x)) xs
 map_map g f [] = refl

@@ -1,5 +1,5 @@
 -- Loops that append what is made of each item of a list, one after another.
-use Rattle.std.proofs.Common.{◌≡◌, ℕ, ◌+◌, ◌<◌, ◌≤◌, List, [], ◌∷◌, ◌++◌, map, length, get_or, drop, ap, sym, ◌∙◌, append_assoc, append-nil, subst}
+use Rattle.std.proofs.Common.{◌≡◌, ℕ, ◌+◌, ◌<◌, ◌≤◌, List, [], ◌∷◌, ◌++◌, map, length, get_or, drop, ap, sym, ◌∙◌, append_assoc, append-nil}
 use Rattle.std.proofs.lemmas.List.{map-append}
 use Rattle.rob_model.proofs.PartLemmas.{drop_at, drop_past}
 
@@ -30,11 +30,3 @@ module _ {X Y B C : Type 0} (view : Y → B) (of : X → C) (f : C → B) (xs : 
       sym (append-nil (map view done))
       ∙ ap (λ l. map view done ++ map f (map of l)) (sym (drop_past xs i h))
       ∙ so_far
-
--- an item of the same list
-module _ {X : Type 0} {xs ys : List X} (same : ys ≡ xs) (i : ℕ) where
-  pub inside_of : i < length ys → i < length xs
-  inside_of h = subst (λ l. i < length l) same h
-
-  pub item_of : (x : X) → x ≡ get_or ys i x → x ≡ get_or xs i x
-  item_of x e = subst (λ l. x ≡ get_or l i x) same e

@@ -1,4 +1,4 @@
--- The item that a loop over `items()` of a list has come to, and those that are left of the list itself.
+-- What is left of a list itself at the item that a loop over `items()` of it has come to.
 use Rattle.std.specs.Prelude.{◌≡◌, ℕ, ◌+◌, ◌≤◌, ◌<◌, List, [], ◌∷◌, length, drop}
 use Rattle.std.proofs.Common.{subst, get_or}
 use Rattle.rob_model.proofs.PartLemmas.{drop_at, drop_past}
@@ -9,9 +9,3 @@ module _ {A : Type 0} (i : ℕ) {items xs : List A} (same : items ≡ xs) where
 
   pub drop_over : length items ≤ i → drop i xs ≡ []
   drop_over over = subst (λ (ys : List A). drop i ys ≡ []) same (drop_past items i over)
-
-  pub item_inside : i < length items → i < length xs
-  item_inside inside = subst (λ (ys : List A). i < length ys) same inside
-
-  pub item_is : {x : A} → x ≡ get_or items i x → x ≡ get_or xs i x
-  item_is {x} is = subst (λ (ys : List A). x ≡ get_or ys i x) same is

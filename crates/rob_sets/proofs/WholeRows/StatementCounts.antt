@@ -10,7 +10,8 @@ use Rattle.rob_model.specs.Valid.{IsValid}
 use Rattle.rob_model.specs.View.{robust, set_line_of}
 use Rattle.rob_model.specs.declared.model.Model.{Model}
 use Rattle.rob_model.specs.declared.model.SetLine.{SetLine}
-use Rattle.rob_sets.proofs.Cells.ItemLemmas.{drop_item, item_inside, item_is}
+use Rattle.rob_sets.proofs.Cells.ItemLemmas.{drop_item}
+use Rattle.rob_algebra.proofs.ListLemmas.{item_inside, item_is}
 use Rattle.rob_sets.proofs.WholeRows.StatementLemmas.{lifts_at}
 
 module _ {N : Type 0} {value : N → Fraction} {model : Model N} (valid : IsValid value model)

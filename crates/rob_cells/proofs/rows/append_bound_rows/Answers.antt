@@ -1,7 +1,7 @@
+use Rattle.rob_algebra.proofs.ListLemmas.{item_inside, item_is}
 use Rattle.std.proofs.Common.{◌+◌, map, ap, arith}
 use Rattle.rob_cells.proofs.CellLemmas.{bounds_more}
 use Rattle.rob_cells.proofs.CountLemmas.{few_adaptives}
-use Rattle.rob_cells.proofs.ListLemmas.{inside_of, item_of}
 use Rattle.rob_model.specs.View.{robust, row_of}
 use Rattle.rob_cells.proofs.rows.append_bound_rows.Goals as goal
 
@@ -11,7 +11,7 @@ overflow_add-k g c =
       arith,
       few_adaptives g.N.Exact.value c.args.model.now c.requires.valid,
       c.loop-adaptive.invariant.number,
-      inside_of c.items-adaptive-items.ensures.list c.loop-adaptive.adaptive-index c.loop-adaptive-test.true,
+      item_inside c.loop-adaptive.adaptive-index c.items-adaptive-items.ensures.list c.loop-adaptive-test.true,
     )
 
 pub loop-adaptive-preserved : goal.loop-adaptive-preserved
@@ -24,9 +24,8 @@ loop-adaptive-preserved g c =
           c.loop-adaptive.adaptive-index c.adaptive-item.result
           (map (row_of value) c.loop-adaptive.list) (map (row_of value) c.append_bound.new.list)
           (map (row_of value) c.append_bound-in-loop-adaptive.new.list)
-          (inside_of c.items-adaptive-items.ensures.list c.loop-adaptive.adaptive-index c.loop-adaptive-test.true)
-          (item_of c.items-adaptive-items.ensures.list c.loop-adaptive.adaptive-index
-          c.adaptive-item.result c.adaptive-item.is)
+          (item_inside c.loop-adaptive.adaptive-index c.items-adaptive-items.ensures.list c.loop-adaptive-test.true)
+          (item_is c.loop-adaptive.adaptive-index c.items-adaptive-items.ensures.list c.adaptive-item.is)
           (c.in_ok-append_bound.ensures.appended m c.loop-adaptive.k c.rule_in-rule.ensures.number)
           (c.in_ok-append_bound-2.ensures.appended m c.loop-adaptive.k c.rule_in-rule.ensures.number)
           c.loop-adaptive.invariant.made;

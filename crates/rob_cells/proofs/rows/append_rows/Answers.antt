@@ -1,4 +1,5 @@
-use Rattle.rob_cells.proofs.ListLemmas.{inside_of, item_of, mapped_more}
+use Rattle.rob_algebra.proofs.ListLemmas.{item_inside, item_is}
+use Rattle.rob_cells.proofs.ListLemmas.{mapped_more}
 use Rattle.rob_meaning.specs.RobustModel.{Row}
 use Rattle.rob_meaning.specs.WellFormed.{IsExpression}
 use Rattle.rob_model.specs.View.{robust, row_of}
@@ -12,8 +13,8 @@ row_over-requires-clause-left g c =
     (each_get (λ (r : Row). IsExpression (robust value c.args.model.now) r.left
     × IsExpression (robust value c.args.model.now) r.right) (row_of value)
     c.args.model.now.rows c.loop-row.row-index c.row-item.result
-    (inside_of c.items-row-items.ensures.list c.loop-row.row-index c.loop-row-test.true)
-    (item_of c.items-row-items.ensures.list c.loop-row.row-index c.row-item.result c.row-item.is)
+    (item_inside c.loop-row.row-index c.items-row-items.ensures.list c.loop-row-test.true)
+    (item_is c.loop-row.row-index c.items-row-items.ensures.list c.row-item.is)
     c.requires.valid.well_formed.rows).0
 
 pub row_over-requires-clause-right : goal.row_over-requires-clause-right
@@ -22,8 +23,8 @@ row_over-requires-clause-right g c =
     (each_get (λ (r : Row). IsExpression (robust value c.args.model.now) r.left
     × IsExpression (robust value c.args.model.now) r.right) (row_of value)
     c.args.model.now.rows c.loop-row.row-index c.row-item.result
-    (inside_of c.items-row-items.ensures.list c.loop-row.row-index c.loop-row-test.true)
-    (item_of c.items-row-items.ensures.list c.loop-row.row-index c.row-item.result c.row-item.is)
+    (item_inside c.loop-row.row-index c.items-row-items.ensures.list c.loop-row-test.true)
+    (item_is c.loop-row.row-index c.items-row-items.ensures.list c.row-item.is)
     c.requires.valid.well_formed.rows).1
 
 pub loop-row-preserved : goal.loop-row-preserved
@@ -32,6 +33,6 @@ loop-row-preserved g c =
     mapped_more (row_of value) (row_of value)
     (row_over (robust value c.args.model.now) c.args.c) c.args.model.now.rows _
     c.loop-row.row-index c.row-item.result c.in_ok-next.next c.loop-row.list c.push.new.self
-    (inside_of c.items-row-items.ensures.list c.loop-row.row-index c.loop-row-test.true)
-    (item_of c.items-row-items.ensures.list c.loop-row.row-index c.row-item.result c.row-item.is)
+    (item_inside c.loop-row.row-index c.items-row-items.ensures.list c.loop-row-test.true)
+    (item_is c.loop-row.row-index c.items-row-items.ensures.list c.row-item.is)
     c.in_ok-next.ensures.over c.in_ok-push.ensures.appended c.loop-row.invariant

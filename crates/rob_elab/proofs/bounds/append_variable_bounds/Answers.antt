@@ -5,7 +5,8 @@ use Rattle.rob_meaning.specs.WellFormed.{IsExpression}
 use Rattle.rob_model.specs.View.{variable_of, robust}
 use Rattle.rob_model.specs.declared.expr.Expr.TheVariants as Is
 use Rattle.rob_number.proofs.CountLemmas.{later}
-use Rattle.rob_sets.proofs.Cells.ItemLemmas.{drop_item, drop_over, item_inside}
+use Rattle.rob_sets.proofs.Cells.ItemLemmas.{drop_item, drop_over}
+use Rattle.rob_algebra.proofs.ListLemmas.{item_inside}
 use Rattle.rob_sets.proofs.Expressions.LeafLemmas.{few_variables, variable_is}
 use Rattle.rob_sets.proofs.Judging.ProgressLemmas.{begins, so_many}
 use Rattle.rob_elab.proofs.AppendLemmas.{forms_end, forms_go_on, forms_stop}

@@ -3,7 +3,8 @@ use Rattle.rob_meaning.specs.RobustModel.{Row}
 use Rattle.rob_meaning.specs.WellFormed.{IsExpression}
 use Rattle.rob_model.specs.View.{robust, row_of}
 use Rattle.rob_number.proofs.CountLemmas.{later}
-use Rattle.rob_sets.proofs.Cells.ItemLemmas.{drop_item, drop_over, item_inside, item_is}
+use Rattle.rob_sets.proofs.Cells.ItemLemmas.{drop_item, drop_over}
+use Rattle.rob_algebra.proofs.ListLemmas.{item_inside, item_is}
 use Rattle.rob_sets.proofs.Judging.ProgressLemmas.{begins, so_many}
 use Rattle.rob_elab.proofs.AppendLemmas.{forms_end, forms_go_on, forms_stop}
 use Rattle.rob_elab.proofs.LeftLemmas.{rows_at, rows_end, rows_many}
