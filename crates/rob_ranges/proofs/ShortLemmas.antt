@@ -6,6 +6,7 @@ use Rattle.std.proofs.lemmas.Int.{ints, to_z-of_z}
 use mir.Syntax.{w32}
 use mir.Val.{SFits, to_z, of_z}
 use Rattle.std.proofs.Math.IntN.{*ℤ-zero, zero-*ℤ}
+use Rattle.rob_algebra.specs.Integer.{add_assoc}
 use Rattle.rob_index.specs.Forms.{Form, value_of, weighed}
 use Rattle.rob_ranges.specs.declared.digits.Wide.{Wide}
 use Rattle.rob_ranges.specs.DigitLists.{wide_of}
@@ -43,9 +44,6 @@ two_weighed a b [] = omega (arith, ints, *ℤ-zero a, *ℤ-zero b)
 two_weighed a b (x ∷ []) = omega (arith, ints, *ℤ-zero b)
 two_weighed a b (x ∷ y ∷ ys) = omega (arith, ints)
 
-regroup : (k u v : ℤ) → k +ℤ (u +ℤ v) ≡ (k +ℤ u) +ℤ v
-regroup k u v = omega (arith, ints)
-
 -- a form whose constant is k, and whose factors are those of `fs`
 module _ (f : Form) (c : ℤ) (k : Wide) (fs : List ℤ) (is_c : c ≡ f.constant) (is_k : c ≡ wide_of k)
     (is_fs : fs ≡ f.factors) where
@@ -57,7 +55,7 @@ module _ (f : Form) (c : ℤ) (k : Wide) (fs : List ℤ) (is_c : c ≡ f.constan
   none_short n xs =
       (λ i. constant_is i +ℤ weighed ((sym is_fs ∙ none_alone fs n) i) xs)
       ∙ ap (λ (z : ℤ). wide_of k +ℤ z) (none_weighed xs)
-      ∙ regroup (wide_of k) (pos 0 *ℤ first_of xs) (pos 0 *ℤ second_of xs)
+      ∙ sym (add_assoc (wide_of k) (pos 0 *ℤ first_of xs) (pos 0 *ℤ second_of xs))
 
   pub one_short : (x a : ℤ) → 1 ≤ length fs → length fs < 2 → x ≡ get_or fs 0 x → x ≡ a → SFits w32 a
       → (xs : List ℤ) → value_of f xs
@@ -67,7 +65,7 @@ module _ (f : Form) (c : ℤ) (k : Wide) (fs : List ℤ) (is_c : c ≡ f.constan
       sym is_fs ∙ one_alone fs x h n e ∙ ap (λ (z : ℤ). z ∷ []) (is_a ∙ sym (to_z-of_z w32 a fa)) in
       (λ i. constant_is i +ℤ weighed (factors i) xs)
       ∙ ap (λ (z : ℤ). wide_of k +ℤ z) (one_weighed (to_z w32 (of_z w32 a)) xs)
-      ∙ regroup (wide_of k) (to_z w32 (of_z w32 a) *ℤ first_of xs) (pos 0 *ℤ second_of xs)
+      ∙ sym (add_assoc (wide_of k) (to_z w32 (of_z w32 a) *ℤ first_of xs) (pos 0 *ℤ second_of xs))
 
   pub two_short : (x y a b : ℤ) → 2 ≤ length fs → length fs < 3 → x ≡ get_or fs 0 x → y ≡ get_or fs 1 y
       → x ≡ a → SFits w32 a → y ≡ b → SFits w32 b
@@ -80,7 +78,7 @@ module _ (f : Form) (c : ℤ) (k : Wide) (fs : List ℤ) (is_c : c ≡ f.constan
       sym is_fs ∙ two_alone fs x y h n e g ∙ (λ i. p i ∷ q i ∷ []) in
       (λ i. constant_is i +ℤ weighed (factors i) xs)
       ∙ ap (λ (z : ℤ). wide_of k +ℤ z) (two_weighed (to_z w32 (of_z w32 a)) (to_z w32 (of_z w32 b)) xs)
-      ∙ regroup (wide_of k) (to_z w32 (of_z w32 a) *ℤ first_of xs) (to_z w32 (of_z w32 b) *ℤ second_of xs)
+      ∙ sym (add_assoc (wide_of k) (to_z w32 (of_z w32 a) *ℤ first_of xs) (to_z w32 (of_z w32 b) *ℤ second_of xs))
 
 -- ---- a value as it is computed
 seen : (z : ℤ) → nat_abs z ≤ 2 ^ 113 → to_z w128 (of_z w128 z) ≡ z

@@ -10,6 +10,7 @@ use Rattle.rob_algebra.specs.Integer.{products}
 use Rattle.rob_index.specs.Forms.{Form, weighed, value_of, first_factor, outer, plus_times}
 use Rattle.rob_index.proofs.Faults.FormLemmas.{plus_times_is, outer_is}
 use Rattle.rob_index.proofs.Faults.NestLemmas.{no_values}
+use Rattle.rob_ranges.proofs.NestLemmas.{plus_none}
 use Rattle.rob_expand.specs.declared.scope.Binding.{Binding}
 use Rattle.rob_expand.specs.Scopes.{Scope, AreEqual, IsPutIn, IsNothing, AddNothing, inside, outside, values_in, offset, further, in_front, with_first}
 
@@ -31,9 +32,6 @@ constant_put bound f [] is h =
     ap (λ (l : List ℤ). f.constant +ℤ weighed l ws) (sym is)
     ∙ ap (λ (l : List ℤ). f.constant +ℤ weighed l (values_in bound ws)) is
 constant_put bound f (c ∷ cs) is h = absurd (grind (arith, nat_tests))
-
-plus_zero : (v : ℤ) → v ≡ v +ℤ pos 0
-plus_zero v = omega (arith, ints)
 
 regrouped : (k p s : ℤ) → k +ℤ (p +ℤ s) ≡ (k +ℤ s) +ℤ p
 regrouped k p s = omega (arith, ints)
@@ -96,7 +94,7 @@ module _ (bound : List Binding) (f taken g : Form) (c : ℤ) (c_is : c ≡ first
       → value_of (plus_times g c start) ws ≡ value_of f ((value_of start ws +ℤ pos 0) ∷ values_in bound ws)
   at_start start ws =
       plus_times_is g c start ws
-      ∙ ap (λ (z : ℤ). value_of g ws +ℤ (c *ℤ z)) (plus_zero (value_of start ws))
+      ∙ ap (λ (z : ℤ). value_of g ws +ℤ (c *ℤ z)) (plus_none (value_of start ws))
       ∙ share ws (value_of start ws +ℤ pos 0)
 
   first_at : (moves : Bool) (start : Form) (ws : List ℤ)
