@@ -1,14 +1,15 @@
 -- Expressions and statements over a cell: they have the values, degrees and kinds of what they were made from.
-use Rattle.std.specs.Prelude.{◌≡◌, ℕ, zero, suc, pred, ◌+◌, ◌*◌, ◌<◌, ◌≤◌, max, ℤ, pos, negsuc, List, [], ◌∷◌, length, map, refl}
+use Rattle.std.specs.Prelude.{◌≡◌, ℕ, suc, pred, ◌+◌, ◌*◌, ◌<◌, ◌≤◌, max, ℤ, pos, negsuc, List, [], ◌∷◌, length, map, refl}
 use Rattle.std.proofs.Common.{sym, ◌∙◌, ap, ap₂, subst, arith, suc-mul, mul-le-mul_right}
 use Rattle.rob_algebra.specs.Fraction.{Fraction, ◌+ℚ◌, ◌-ℚ◌, ◌*ℚ◌, ◌/ℚ◌, ◌≤ℚ◌}
 use Rattle.rob_algebra.specs.FractionLaws as Q
 use Rattle.rob_algebra.specs.Polynomials.{lit, minus, ◌:+◌, v0}
 use Rattle.rob_meaning.proofs.Tables.TauLemmas.{column_room}
+use Rattle.rob_meaning.proofs.Lists.EachLemmas.{each_list}
 use Rattle.rob_meaning.specs.Degrees.{AreLinear, FactorsLinear, IsLinear, decision_degree, one_if_some, uncertain_degree}
 use Rattle.rob_meaning.specs.Expressions.{Expression, Factors, Terms, adaptive, adaptive_in, factor, no_factors, no_terms, number, parameter, product, sum, term, variable}
 use Rattle.rob_meaning.specs.Places.{at, Each}
-use Rattle.rob_meaning.specs.RobustModel.{AdaptiveVariable, Member, RobustModel, SetLine, budget, column_from, column_of, joint_number, line, list_in, list_of, set_count}
+use Rattle.rob_meaning.specs.RobustModel.{AdaptiveVariable, Member, RobustModel, SetLine, budget, column_from, column_of, joint_number, line, list_of, set_count}
 use Rattle.rob_meaning.specs.UncertaintySet.{KeepsLine, Relates, abs_ℚ, total_deviation}
 use Rattle.rob_meaning.specs.Values.{product_value, rule_part, rule_value, rule_value_in, signed, sum_value, value}
 use Rattle.rob_meaning.specs.WellFormed.{FactorsInside, FactorsOf, IsExpression, IsInside, IsLineOf, IsMember, IsOf, IsParameterOf, IsSetLine, IsSetSide, TermsInside, TermsOf}
@@ -17,12 +18,6 @@ use Rattle.rob_pieces.proofs.OneSetLemmas.{not_named}
 use Rattle.rob_pieces.specs.Cuts.{Cut, IsCell, cell_count}
 use Rattle.rob_pieces.specs.Pieces.{policy_columns}
 use Rattle.rob_pieces.specs.SplitModel.{as_side, factors_over, line_over, member_over, over_cell, parameter_in, rule_in, side_of_sign, split_model, terms_over}
-
-list_each : (P : ℕ → Type 0) (ys : List AdaptiveVariable) (y : ℕ) → Each (λ (y : AdaptiveVariable). Each P y.on) ys →
-    Each P (list_in ys y)
-list_each P [] y h = tt
-list_each P (first ∷ rest) zero h = h.0
-list_each P (first ∷ rest) (suc y) h = list_each P rest y h.1
 
 -- a number's side has its value
 pub value_side : (m : RobustModel) (plan u : List Fraction) (q : Fraction) → value m plan u (as_side q) ≡ q
@@ -92,7 +87,7 @@ module _ (m : RobustModel) (alone : m.sets ≡ []) (cuts : List Cut) (c : ℕ) (
           (ap (λ (ks : List ℕ). rule_part s all w (map (joint_number s c) ks) (suc (column_of s (rule_in m c y))))
           (list_in_cell m cuts c y cell some)
           ∙ part_over (list_of m y) (suc (column_of s (rule_in m c y))) (suc (column_of m y))
-          (list_each (λ k. k < length m.parameters) m.adaptives y lists)
+          (each_list (λ k. k < length m.parameters) m.adaptives y lists)
           (λ i small.
           ap (λ j. at all j)
           (let a : suc (column_of s (rule_in m c y)) + i ≡ column_of s (rule_in m c y) + suc i = omega arith in a)

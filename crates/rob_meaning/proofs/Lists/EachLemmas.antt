@@ -4,6 +4,7 @@ use Rattle.std.proofs.Common.{arith, subst, sym}
 use Rattle.rob_algebra.specs.Fraction.{Fraction}
 pub use Rattle.rob_algebra.proofs.ListLemmas.{each_append}
 use Rattle.rob_meaning.specs.Places.{Each}
+use Rattle.rob_meaning.specs.RobustModel.{AdaptiveVariable, list_in}
 use Rattle.rob_meaning.specs.SetConditions.{if_declared}
 
 -- an item more
@@ -32,6 +33,13 @@ each_both P Q R f (x ∷ xs) h k = (f x h.0 k.0, each_both P Q R f xs h.1 k.1)
 pub each_all : {A : Type 0} (P : A → Type 0) → ((x : A) → P x) → (xs : List A) → Each P xs
 each_all P h [] = tt
 each_all P h (x ∷ xs) = (h x, each_all P h xs)
+
+-- what is true of the parameters of all lists is true of those of each
+pub each_list : (P : ℕ → Type 0) (ys : List AdaptiveVariable) (k : ℕ)
+    → Each (λ (y : AdaptiveVariable). Each P y.on) ys → Each P (list_in ys k)
+each_list P [] k h = tt
+each_list P (y ∷ ys) zero h = h.0
+each_list P (y ∷ ys) (suc k) h = each_list P ys k h.1
 
 -- along a declared bound, if there is one
 pub declared : {A B : Type 0} (P : A → Type 0) (Q : B → Type 0) (f : Fraction → A) (g : Fraction → B) →

@@ -6,7 +6,8 @@ use Rattle.rob_algebra.specs.Fraction.{◌+ℚ◌}
 use Rattle.rob_meaning.specs.Coefficients.{single, rule_table, table}
 use Rattle.rob_meaning.specs.Expressions.{adaptive, adaptive_in}
 use Rattle.rob_meaning.specs.Places.{Each}
-use Rattle.rob_meaning.specs.RobustModel.{AdaptiveVariable, RobustModel, column_of, joint_number, list_in, list_of, set_count, written_count}
+use Rattle.rob_meaning.specs.RobustModel.{AdaptiveVariable, RobustModel, column_of, joint_number, list_of, set_count, written_count}
+use Rattle.rob_meaning.proofs.Lists.EachLemmas.{each_list}
 
 -- the row of a list's parameter
 pub joint_row : (m : RobustModel) (S w : ℕ) (on : List ℕ) (i : ℕ) → w ≡ written_count m → i < length on
@@ -41,14 +42,7 @@ default_table m y k j =
     ap (λ (ds : List ℕ). single 0 (suc (column_of m y)) k j +ℚ rule_table ds (suc (column_of m y)) k j)
     (default_list m (list_of m y))
 
--- what is true of the parameters of each list
-each_list : (P : ℕ → Type 0) (ys : List AdaptiveVariable) (k : ℕ)
-    → Each (λ (y : AdaptiveVariable). Each P y.on) ys → Each P (list_in ys k)
-each_list P [] k h = tt
-each_list P (y ∷ ys) zero h = h.0
-each_list P (y ∷ ys) (suc k) h = each_list P ys k h.1
-
--- and of the one at a place
+-- what is true of each parameter of a list is true of the one at a place
 each_there : (P : ℕ → Type 0) (xs : List ℕ) (i : ℕ) → i < length xs → Each P xs → P (get_or xs i 0)
 each_there P [] i h e = absurd (omega arith)
 each_there P (x ∷ xs) zero h e = e.0
