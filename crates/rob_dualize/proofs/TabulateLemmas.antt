@@ -26,11 +26,7 @@ is_tabulated {A} (x ∷ xs) f h = ap₂ (λ (y : A) (ys : List A). y ∷ ys) (h 
     (is_tabulated xs (λ k. f (suc k)) (λ k d l. h (suc k) d (omega arith)))
 
 -- ---- lists that grow at their end
-pub list_more : {A : Type 0} (items new : List A) (x : A) (n : ℕ) (f : ℕ → A) → items ≡ tabulate n f
-    → new ≡ items ++ x ∷ [] → x ≡ f n → new ≡ tabulate (n + 1) f
-list_more {A} items new x n f h e is = e ∙ ap₂ (λ (ys : List A) (y : A). ys ++ y ∷ []) h is ∙ sym (tabulate-more n f)
-
--- and its numbers stay within the limit
+-- numbers stay within the limit
 pub within_more : (limit : ℕ) (items new : List ℤ) (x : ℤ) → Each (λ a. nat_abs a ≤ limit) items
     → new ≡ items ++ x ∷ [] → nat_abs x ≤ limit
     → Each (λ a. nat_abs a ≤ limit) new

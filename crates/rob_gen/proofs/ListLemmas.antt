@@ -1,18 +1,8 @@
 -- Loops that make the items of the first places, one after another.
-use Rattle.std.proofs.Common.{◌≡◌, ℕ, ◌+◌, List, [], ◌∷◌, ◌++◌, map, ap, sym, ◌∙◌, add-one, append_assoc}
+use Rattle.std.proofs.Common.{◌≡◌, ℕ, ◌+◌, List, [], ◌∷◌, ◌++◌, map, ap, ◌∙◌, append_assoc}
 use Rattle.std.proofs.lemmas.List.{map-append}
 use Rattle.rob_meaning.specs.Places.{tabulate}
-use Rattle.rob_meaning.proofs.Lists.TabulateLemmas.{tabulate-more}
-
--- the items of one place more
-pub tabulate_next : {A : Type 0} (f : ℕ → A) (k : ℕ) → tabulate k f ++ f k ∷ [] ≡ tabulate (k + 1) f
-tabulate_next f k = sym (tabulate-more k f) ∙ ap (λ n. tabulate n f) (sym (add-one k))
-
--- one item more of a list that is made as it stands
-pub item_more : {A : Type 0} (f : ℕ → A) (list : List A) (y : A) (k : ℕ) {new : List A}
-    → new ≡ list ++ y ∷ [] → y ≡ f k → list ≡ tabulate k f → new ≡ tabulate (k + 1) f
-item_more {A} f list y k {new} pushed same so_far =
-    pushed ∙ ap (λ (xs : List A). xs ++ y ∷ []) so_far ∙ ap (λ (z : A). tabulate k f ++ z ∷ []) same ∙ tabulate_next f k
+use Rattle.rob_meaning.proofs.Lists.TabulateLemmas.{tabulate_next}
 
 module _ {A B : Type 0} (g : A → B) (f : ℕ → B) where
   -- one item more behind those that were there

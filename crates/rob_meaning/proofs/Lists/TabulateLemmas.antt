@@ -1,5 +1,5 @@
 -- Lists by place: f 0, f 1 .. f (n - 1).
-use Rattle.std.proofs.Common.{◌≡◌, ℕ, zero, suc, ◌+◌, ◌<◌, List, [], ◌∷◌, ◌++◌, length, refl, ap, ap₂, ◌∙◌, arith}
+use Rattle.std.proofs.Common.{◌≡◌, ℕ, zero, suc, ◌+◌, ◌<◌, List, [], ◌∷◌, ◌++◌, length, refl, ap, ap₂, ◌∙◌, arith, sym, add-one}
 use Rattle.rob_meaning.specs.Places.{Each, tabulate}
 
 pub length-tabulate : {A : Type 0} (n : ℕ) (f : ℕ → A) → length (tabulate n f) ≡ n
@@ -30,6 +30,15 @@ tabulate-append {A} (suc a) b f =
 pub tabulate-more : {A : Type 0} (n : ℕ) (f : ℕ → A) → tabulate (suc n) f ≡ tabulate n f ++ f n ∷ []
 tabulate-more zero f = refl
 tabulate-more {A} (suc n) f = ap (λ (xs : List A). f zero ∷ xs) (tabulate-more n (λ k. f (suc k)))
+
+pub tabulate_next : {A : Type 0} (f : ℕ → A) (k : ℕ) → tabulate k f ++ f k ∷ [] ≡ tabulate (k + 1) f
+tabulate_next f k = sym (tabulate-more k f) ∙ ap (λ n. tabulate n f) (sym (add-one k))
+
+-- one item more of a list that is made as it stands
+pub item_more : {A : Type 0} (f : ℕ → A) (list : List A) (y : A) (k : ℕ) {new : List A}
+    → new ≡ list ++ y ∷ [] → y ≡ f k → list ≡ tabulate k f → new ≡ tabulate (k + 1) f
+item_more {A} f list y k {new} pushed same so_far =
+    pushed ∙ ap (λ (xs : List A). xs ++ y ∷ []) so_far ∙ ap (λ (z : A). tabulate k f ++ z ∷ []) same ∙ tabulate_next f k
 
 -- what holds at each place
 pub each_tabulate : {A : Type 0} (P : A → Type 0) (n : ℕ) (f : ℕ → A)

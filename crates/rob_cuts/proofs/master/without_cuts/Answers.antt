@@ -1,15 +1,14 @@
+use Rattle.rob_meaning.proofs.Lists.TabulateLemmas.{item_more}
 use Rattle.rob_dualize.specs.Wholes.{cost_of}
 use Rattle.rob_dualize.proofs.EntryLemmas.{seen_same}
-use Rattle.rob_dualize.proofs.TabulateLemmas.{list_more}
 use Rattle.rob_cuts.proofs.NumberLemmas.{costs_within}
 use Rattle.rob_cuts.proofs.master.without_cuts.Goals as goal
 
 pub loop-k-preserved : goal.loop-k-preserved
 loop-k-preserved c =
-    list_more c.loop-k.c c.push.new.self _ c.loop-k.k (cost_of c.args.forms.now) c.loop-k.invariant
-    c.in_ok-push.ensures.appended
+    item_more (cost_of c.args.forms.now) c.loop-k.c _ c.loop-k.k c.in_ok-push.ensures.appended
     (seen_same c.cost_number.result (cost_of c.args.forms.now c.loop-k.k) c.cost_number.ensures.number
-    c.cost_number.ensures.small)
+    c.cost_number.ensures.small) c.loop-k.invariant
 
 pub returns-clause-within : goal.returns-clause-within
 returns-clause-within c = λ limit one.

@@ -1,12 +1,13 @@
 use Rattle.std.proofs.Common.{◌≡◌, arith, length}
+use Rattle.rob_meaning.proofs.Lists.TabulateLemmas.{item_more}
 use Rattle.rob_simplex.specs.Dictionaries.{columns_of}
-use Rattle.rob_dualize.proofs.TabulateLemmas.{list_more, all_columns}
+use Rattle.rob_dualize.proofs.TabulateLemmas.{all_columns}
 use Rattle.rob_dualize.proofs.told.basis.Goals as goal
 
 pub loop-i-preserved : goal.loop-i-preserved
 loop-i-preserved g c =
-    list_more c.loop-i.columns c.push.new.self _ c.loop-i.i (columns_of c.args.solver.now.basis) c.loop-i.invariant
-    c.in_ok-push.ensures.appended c.basis.ensures.column
+    item_more (columns_of c.args.solver.now.basis) c.loop-i.columns _ c.loop-i.i c.in_ok-push.ensures.appended
+    c.basis.ensures.column c.loop-i.invariant
 
 pub returns : goal.returns
 returns g c =

@@ -1,6 +1,6 @@
 use Rattle.std.proofs.Common.{◌≡◌, refl, ap, ◌∙◌, arith}
 use Rattle.rob_meaning.specs.Places.{tabulate}
-use Rattle.rob_gen.proofs.ListLemmas.{item_more}
+use Rattle.rob_meaning.proofs.Lists.TabulateLemmas.{item_more}
 use Rattle.rob_gen.proofs.numbers.default_sets.Goals as goal
 
 pub loop-preserved : goal.loop-preserved

@@ -1,6 +1,6 @@
 use Rattle.std.proofs.Common.{◌≡◌, refl, ap, ◌∙◌, arith}
 use Rattle.rob_gen.specs.Generated.{places}
-use Rattle.rob_gen.proofs.ListLemmas.{item_more}
+use Rattle.rob_meaning.proofs.Lists.TabulateLemmas.{item_more}
 use Rattle.rob_gen.proofs.numbers.places.Goals as goal
 
 pub loop-place-preserved : goal.loop-place-preserved
