@@ -10,7 +10,7 @@ use Rattle.rob_model.proofs.KeptLemmas.{some_is, none_is_none}
 use Rattle.rob_meaning.specs.Places.{0ℚ, 1ℚ, at}
 use Rattle.rob_meaning.specs.UncertaintySet.{abs_ℚ}
 
-zero_fits : (limit : ℕ) → 1 ≤ limit → Fits limit 0ℚ
+pub zero_fits : (limit : ℕ) → 1 ≤ limit → Fits limit 0ℚ
 unfolding ratio
 zero_fits limit h = record { num_fits = omega arith; den_fits = h }
 

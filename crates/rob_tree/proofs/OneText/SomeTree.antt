@@ -6,7 +6,6 @@ use Rattle.std.specs.Fmt.{signed_decimal}
 use Rattle.std.specs.Prelude.{codes, ℤ, pos, negsuc, nat_abs, ◌<ℤ◌, ◌≤ℤ◌, ◌⊎◌}
 use Rattle.rob_algebra.specs.Fraction.{Fraction}
 use Rattle.rob_algebra.specs.Width.{Fits}
-use Rattle.rob_algebra.proofs.WidthLaws.{Fits-of_int}
 use Rattle.rob_cert.proofs.OneText.Decisions.{Decided, first_line, same_number, same_word, some_number, three_words, two_words}
 use Rattle.rob_cert.specs.Reading.{BeginsWithLine, words_in}
 use Rattle.rob_cert.specs.Spelling.{naming_of, number_text, spaced, status_word}
@@ -14,6 +13,7 @@ use Rattle.rob_meaning.specs.Certificates.{Status, optimal, infeasible, unbounde
 use Rattle.rob_meaning.specs.Names.{Name}
 use Rattle.rob_meaning.specs.Places.{0ℚ}
 use Rattle.rob_meaning.specs.RobustModel.{RobustModel}
+use Rattle.rob_model.proofs.SmallLemmas.{zero_fits}
 use Rattle.rob_reach.specs.Ranges.{are_bounded}
 use Rattle.rob_reach.specs.Trees.{Tree, branch_count}
 use Rattle.rob_tree.proofs.Readers.LineLemmas.{best_cause, best_line_of, best_missing, claim_cause, claim_missing, no_claim}
@@ -36,9 +36,6 @@ module _ (limit : ℕ) (one : 1 ≤ limit) where
   pub data SomeClaim (text : List ℕ) : Type 0 where
     a_claim : (s : Status) (v : Fraction) (rest : List ℕ) → Fits limit v → IsClaimRead text s v rest → SomeClaim text
     none : (o : Offence) → IsClaimCause limit text o → SomeClaim text
-
-  zero_fits : Fits limit 0ℚ
-  zero_fits = Fits-of_int limit (pos 0) one (omega arith)
 
   module _ (text front back : List ℕ) (begins : BeginsWithLine text front back) where
     claims_nothing : front ≢ codes "tree infeasible" → front ≢ codes "tree unbounded"
@@ -76,12 +73,12 @@ module _ (limit : ℕ) (one : 1 ≤ limit) where
 
     of_line : Decided (front ≡ codes "tree infeasible") → Decided (front ≡ codes "tree unbounded") → SomeClaim text
     of_line (inl e) b =
-        a_claim infeasible 0ℚ back zero_fits (record {
+        a_claim infeasible 0ℚ back (zero_fits limit one) (record {
           split = text_of_words text front back _ begins.split (ap words_in e);
           nothing = refl;
         })
     of_line (inr a) (inl e) =
-        a_claim unbounded 0ℚ back zero_fits (record {
+        a_claim unbounded 0ℚ back (zero_fits limit one) (record {
           split = text_of_words text front back _ begins.split (ap words_in e);
           nothing = refl;
         })
