@@ -2,13 +2,12 @@
 use Rattle.std.proofs.Common.{◌≡◌, ℕ, zero, suc, List, [], ◌∷◌, ap, refl}
 use Rattle.std.specs.Prelude.{◌≢◌, Option, Some, None, slice_get, codes}
 use Rattle.rob_meaning.specs.Named.{AreDistinct, IsNamed}
-use Rattle.rob_meaning.specs.Names.{Name, column_names, form_names, set_row_names}
+use Rattle.rob_meaning.specs.Names.{Name, column_names}
 use Rattle.rob_meaning.specs.RobustModel.{RobustModel}
 use Rattle.rob_meaning.specs.WellFormed.{IsModel}
 use Rattle.rob_meaning.proofs.Naming.DeclaredLemmas.{parameters_distinct as joint_distinct}
 use Rattle.rob_meaning.proofs.Lists.DistinctLemmas.{distinct_left}
-use Rattle.rob_meaning.proofs.Naming.NamedFormLemmas.{distinct_columns, distinct_forms}
-use Rattle.rob_meaning.proofs.Naming.NamedSetLemmas.{distinct_set_rows}
+use Rattle.rob_meaning.proofs.Naming.NamedFormLemmas.{distinct_columns}
 use Rattle.rob_model.specs.Naming.{Finds, FindsOwn, parameter_names}
 use Rattle.rob_model.proofs.KeptLemmas.{some_is}
 use Rattle.rob_model.proofs.PartLemmas.{each_get}
@@ -30,14 +29,8 @@ finds_own names name (Some i) d h k at = ap Some (one_number names name i k d h.
 
 -- ---- the names of each kind
 module _ (m : RobustModel) (model : IsModel m) (named : IsNamed m) where
-  pub forms_distinct : AreDistinct (form_names m)
-  forms_distinct = distinct_forms m model named
-
   pub columns_distinct : AreDistinct (column_names m)
   columns_distinct = distinct_left (column_names m) (codes "tau" ∷ []) (distinct_columns m model named)
-
-  pub set_rows_distinct : AreDistinct (set_row_names m)
-  set_rows_distinct = distinct_set_rows m model named
 
   pub parameters_distinct : AreDistinct (parameter_names m)
   parameters_distinct = joint_distinct m model named

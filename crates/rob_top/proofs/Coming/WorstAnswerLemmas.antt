@@ -14,7 +14,7 @@ use Rattle.rob_meaning.specs.Proves.{Proves}
 use Rattle.rob_meaning.specs.RobustModel.{RobustModel}
 use Rattle.rob_meaning.specs.UncertaintySet.{Admits, IsEmptySet}
 use Rattle.rob_meaning.specs.WellFormed.{IsModel}
-use Rattle.rob_model.proofs.OwnNames.{forms_distinct}
+use Rattle.rob_meaning.proofs.Naming.NamedFormLemmas.{distinct_forms}
 use Rattle.rob_model.specs.declared.place.Program.TheVariants as programs
 use Rattle.rob_model.specs.declared.place.Spot.{Spot}
 use Rattle.rob_model.specs.declared.place.Spot.TheVariants as spots
@@ -69,7 +69,7 @@ module _ (call : Call) (known : Known call.source) (line : Line) (m : RobustMode
   same_form c d i j h k =
       let has : HasModel call line m = (forms_sought call line m c i h).model in
       one_number (form_names m) i j
-      (forms_distinct m (well call line m has) (named call line m has)) h.is_form k.is_form
+      (distinct_forms m (well call line m has) (named call line m has)) h.is_form k.is_form
       (one_name line (name_at (form_names m) i) (name_at (form_names m) j) h.told k.told)
 
   same_plan : (c d : Certificate) (i j : ℕ) → HasSought call line m c i → HasSought call line m d j → c ≡ d
