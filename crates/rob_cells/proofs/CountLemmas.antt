@@ -1,44 +1,7 @@
--- What a valid model has few of.
+-- A part and its whole, and the numbers of copies.
 use Rattle.std.proofs.Common.{◌≡◌, ℕ, zero, suc, ◌+◌, ◌*◌, ◌-◌, ◌≤◌, List, length, map, ap, sym, ◌∙◌, arith, mul-le-mul_right}
 use Rattle.std.specs.Prelude.{pred}
 use Rattle.std.proofs.lemmas.List.{length-map}
-use Rattle.rob_algebra.specs.Fraction.{Fraction}
-use Rattle.rob_model.specs.Valid.{IsValid}
-use Rattle.rob_model.specs.View.{adaptive_of, parameter_of, row_of, set_line_of, variable_of}
-use Rattle.rob_model.specs.declared.model.Model.{Model}
-use Rattle.rob_model.proofs.NameCountLemmas.{columns_many}
-
-module _ {N : Type 0} (value : N → Fraction) (m : Model N) (valid : IsValid value m) where
-  pub few_params : length m.params ≤ 96
-  few_params = omega (arith, valid.limits.parameters, length-map m.params (parameter_of value))
-
-  few_both : length m.vars + length m.adaptives ≤ 600
-  few_both =
-      omega (
-        arith,
-        many,
-        length-map m.vars (variable_of value),
-        length-map m.adaptives (adaptive_of value),
-      )
-    where
-      many : length (map (variable_of value) m.vars) + length (map (adaptive_of value) m.adaptives) ≤ 600
-      many = omega (
-        arith,
-        valid.limits.columns,
-        columns_many (length (map (variable_of value) m.vars)) (map (adaptive_of value) m.adaptives),
-      )
-
-  pub few_vars : length m.vars ≤ 600
-  few_vars = omega (arith, few_both)
-
-  pub few_adaptives : length m.adaptives ≤ 600
-  few_adaptives = omega (arith, few_both)
-
-  pub few_rows : length m.rows ≤ 300
-  few_rows = omega (arith, valid.limits.rows, length-map m.rows (row_of value))
-
-  pub few_lines : length m.set_lines ≤ 64
-  few_lines = omega (arith, valid.limits.set_lines, length-map m.set_lines (set_line_of value))
 
 -- a part is no more than the whole
 pub less_of : (part whole rest of : ℕ) → part ≡ of → whole ≡ rest + of → part ≤ whole

@@ -3,7 +3,7 @@
 use Rattle.std.proofs.Common.{◌≡◌, ℕ, ◌+◌, ◌-◌, ◌*◌, ◌≤◌, List, map, length, ap, sym, ◌∙◌, subst, arith, Fits, w64}
 use Rattle.std.proofs.lemmas.List.{length-map}
 use Rattle.rob_algebra.specs.Fraction.{Fraction}
-use Rattle.rob_cells.proofs.CountLemmas.{few_adaptives, few_lines, few_params, few_rows, few_vars, less_of}
+use Rattle.rob_cells.proofs.CountLemmas.{less_of}
 use Rattle.rob_cells.proofs.SetSizeLemmas.{length-parameter_bound_names}
 use Rattle.rob_cells.proofs.SplitSizeLemmas.{cell_form_count, counted, counts_are, counts_few, few_times, own_forms, own_set_rows}
 use Rattle.rob_cells.specs.Counts.{AreCountsOf, AreSmall}
@@ -17,6 +17,7 @@ use Rattle.rob_meaning.specs.SetRows.{lift_count}
 use Rattle.rob_meaning.specs.Sizes.{adaptive_bounds, variable_bounds}
 use Rattle.rob_meaning.proofs.Tables.SizeLemmas.{parameter_bounds, rows_of}
 use Rattle.rob_model.proofs.NameCountLemmas.{columns_many, kind_few}
+use Rattle.rob_model.proofs.GroupCounts.{few_lines, few_params, few_rows, few_vars}
 use Rattle.rob_model.specs.GroupNames.{parameter_bound_names}
 use Rattle.rob_model.specs.Valid.{IsValid}
 use Rattle.rob_model.specs.View.{adaptive_of, parameter_of, robust, row_of, set_line_of, variable_of}
@@ -31,23 +32,7 @@ use Rattle.rob_pieces.specs.Cuts.{cell_count}
 use Rattle.rob_pieces.specs.SplitModel.{split_model}
 
 module _ {N : Type 0} {value : N → Fraction} {model : Model N} (valid : IsValid value model) where
-  -- ---- a list that is the model's has few items
-  pub params_few : {params : List (Param N)} → params ≡ model.params → length params ≤ 96
-  params_few list = omega (arith, few_params value model valid, ap length list)
-
-  pub vars_few : {vars : List (Var N)} → vars ≡ model.vars → length vars ≤ 600
-  vars_few list = omega (arith, few_vars value model valid, ap length list)
-
-  pub adaptives_few : {adaptives : List (Adaptive N)} → adaptives ≡ model.adaptives → length adaptives ≤ 600
-  adaptives_few list = omega (arith, few_adaptives value model valid, ap length list)
-
-  rows_few : {rows : List (RowDef N)} → rows ≡ model.rows → length rows ≤ 300
-  rows_few list = omega (arith, few_rows value model valid, ap length list)
-
-  lines_few : {lines : List (SetLine N)} → lines ≡ model.set_lines → length lines ≤ 64
-  lines_few list = omega (arith, few_lines value model valid, ap length list)
-
-  -- what is counted of a valid model is little
+  -- ---- what is counted of a valid model is little
   columns_few : {columns : ℕ} → columns ≡ length (column_names (robust value model)) → columns ≤ 600
   columns_few k =
       let all = valid.limits.columns in
@@ -67,15 +52,15 @@ module _ {N : Type 0} {value : N → Fraction} {model : Model N} (valid : IsVali
 
   -- ---- what is added up and multiplied by the number of cells fits
   pub vars_fit : {vars : List (Var N)} → vars ≡ model.vars → Fits w64 (length vars + 1)
-  vars_fit list = omega (arith, vars_few list)
+  vars_fit list = omega (arith, few_vars valid list)
 
   pub row_bounds_fit : {rows : List (RowDef N)} {bounds : ℕ} → rows ≡ model.rows → bounds ≤ 1200
       → Fits w64 (1 + length rows + bounds)
-  row_bounds_fit list b = omega (arith, rows_few list, b)
+  row_bounds_fit list b = omega (arith, few_rows valid list, b)
 
   pub lines_fit : {lines : List (SetLine N)} {sides : ℕ} → lines ≡ model.set_lines → sides ≤ 3
       → Fits w64 (length lines + sides)
-  lines_fit list s = omega (arith, lines_few list, s)
+  lines_fit list s = omega (arith, few_lines valid list, s)
 
   pub set_rows_fit : {set_rows sides : ℕ} (bounds : ℕ) → set_rows ≡ length (set_row_names (robust value model))
       → sides ≤ 3 → Fits w64 (set_rows - bounds + sides)
@@ -87,7 +72,7 @@ module _ {N : Type 0} {value : N → Fraction} {model : Model N} (valid : IsVali
 
     pub params_times : {params : List (Param N)} → params ≡ model.params → Fits w64 ((cells + 1) * length params)
     params_times {params = params} list =
-        omega (arith, few_times (cells + 1) (length params) 96 (omega (arith, few)) (params_few list))
+        omega (arith, few_times (cells + 1) (length params) 96 (omega (arith, few)) (few_params valid list))
 
     cell_columns : {columns : ℕ} (vars : ℕ) → columns ≡ length (column_names (robust value model))
         → cells * (columns - vars) ≤ 5400
@@ -99,17 +84,17 @@ module _ {N : Type 0} {value : N → Fraction} {model : Model N} (valid : IsVali
 
     pub columns_fit : {columns : ℕ} {vars : List (Var N)} → columns ≡ length (column_names (robust value model))
         → vars ≡ model.vars → Fits w64 (length vars + 1 + cells * (columns - length vars))
-    columns_fit {vars = vars} k list = omega (arith, cell_columns (length vars) k, vars_few list)
+    columns_fit {vars = vars} k list = omega (arith, cell_columns (length vars) k, few_vars valid list)
 
     pub rows_times : {rows : List (RowDef N)} {bounds : ℕ} → rows ≡ model.rows → bounds ≤ 1200
         → Fits w64 (cells * (1 + length rows + bounds))
     rows_times {rows = rows} {bounds = bounds} list b =
-        omega (arith, times (1 + length rows + bounds) 1501 (omega (arith, rows_few list, b)))
+        omega (arith, times (1 + length rows + bounds) 1501 (omega (arith, few_rows valid list, b)))
 
     pub lines_times : {lines : List (SetLine N)} {sides : ℕ} → lines ≡ model.set_lines → sides ≤ 3
         → Fits w64 (cells * (length lines + sides))
     lines_times {lines = lines} {sides = sides} list s =
-        omega (arith, times (length lines + sides) 67 (omega (arith, lines_few list, s)))
+        omega (arith, times (length lines + sides) 67 (omega (arith, few_lines valid list, s)))
 
     pub members_times : {lines : List (SetLine N)} {members : ℕ}
         → members ≡ lift_count (map (set_line_of value) lines) → lines ≡ model.set_lines
@@ -137,7 +122,7 @@ module _ {N : Type 0} {value : N → Fraction} {model : Model N} (valid : IsVali
     bounds_few : {params : List (Param N)} {bounds : ℕ} → params ≡ model.params → bounds ≤ 2 * length params
         → (cells + 1) * bounds ≤ 1728
     bounds_few {bounds = bounds} list b =
-        few_times (cells + 1) bounds 192 (omega (arith, few)) (omega (arith, b, params_few list))
+        few_times (cells + 1) bounds 192 (omega (arith, few)) (omega (arith, b, few_params valid list))
 
     pub bounds_times : {params : List (Param N)} {bounds : ℕ} → params ≡ model.params → bounds ≤ 2 * length params
         → Fits w64 ((cells + 1) * bounds)
@@ -231,12 +216,12 @@ module _ {N : Type 0} (value : N → Fraction) (model : Model N) where
     counts_small valid few three some_bounds few_vb few_ab =
         counts_few cells (length cuts) (length params) (length vars) columns pb vb ab members forms set_rows
         (length rows) (length lines) m (map (cut_of value) cuts) few three
-        (params_few valid p) (vars_few valid v)
+        (few_params valid p) (few_vars valid v)
         (columns_few valid k)
-        (omega (arith, some_bounds, params_few valid bp)) few_vb few_ab
+        (omega (arith, some_bounds, few_params valid bp)) few_vb few_ab
         (members_few valid mem ml)
         (forms_few valid f)
-        (set_rows_few valid r) (rows_few valid rs) (lines_few valid ls)
+        (set_rows_few valid r) (few_rows valid rs) (few_lines valid ls)
 
     -- both that the program tells of them
     pub counts_told : IsValid value model → cells ≤ 8 → length cuts ≤ 3 → pb ≤ 2 * length bound_params → vb ≤ 1200

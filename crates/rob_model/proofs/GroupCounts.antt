@@ -19,14 +19,11 @@ use Rattle.rob_model.proofs.PlaceLemmas.{mapped_length, statement_length}
 
 -- ---- a valid model's lists are short
 module _ {N : Type 0} {value : N → Fraction} {model : Model N} (valid : IsValid value model) where
-  few_columns : {vars : List (Var N)} {adaptives : List (Adaptive N)} → vars ≡ model.vars
-      → adaptives ≡ model.adaptives → length vars + length adaptives ≤ 600
-  few_columns v a =
+  few_both : length model.vars + length model.adaptives ≤ 600
+  few_both =
       omega (
         arith,
         many,
-        ap length v,
-        ap length a,
         length-map model.vars (variable_of value),
         length-map model.adaptives (adaptive_of value),
       )
@@ -38,21 +35,28 @@ module _ {N : Type 0} {value : N → Fraction} {model : Model N} (valid : IsVali
         columns_many (length (map (variable_of value) model.vars)) (map (adaptive_of value) model.adaptives),
       )
 
-  few_rows : {rows : List (RowDef N)} → rows ≡ model.rows → length rows ≤ 300
+  few_columns : {vars : List (Var N)} {adaptives : List (Adaptive N)} → vars ≡ model.vars
+      → adaptives ≡ model.adaptives → length vars + length adaptives ≤ 600
+  few_columns v a = omega (arith, few_both, ap length v, ap length a)
+
+  pub few_vars : {vars : List (Var N)} → vars ≡ model.vars → length vars ≤ 600
+  few_vars v = omega (arith, few_both, ap length v)
+
+  pub few_adaptives : {adaptives : List (Adaptive N)} → adaptives ≡ model.adaptives → length adaptives ≤ 600
+  few_adaptives a = omega (arith, few_both, ap length a)
+
+  pub few_rows : {rows : List (RowDef N)} → rows ≡ model.rows → length rows ≤ 300
   few_rows r = omega (arith, valid.limits.rows, ap length r, length-map model.rows (row_of value))
+
+  pub few_params : {params : List (Param N)} → params ≡ model.params → length params ≤ 96
+  few_params p = omega (arith, valid.limits.parameters, ap length p, length-map model.params (parameter_of value))
+
+  pub few_lines : {lines : List (SetLine N)} → lines ≡ model.set_lines → length lines ≤ 64
+  few_lines l = omega (arith, valid.limits.set_lines, ap length l, length-map model.set_lines (set_line_of value))
 
   few_places : {params : List (Param N)} {lines : List (SetLine N)} → params ≡ model.params
       → lines ≡ model.set_lines → length params + length lines ≤ 160
-  few_places p l =
-      omega (
-        arith,
-        valid.limits.parameters,
-        valid.limits.set_lines,
-        ap length p,
-        ap length l,
-        length-map model.params (parameter_of value),
-        length-map model.set_lines (set_line_of value),
-      )
+  few_places p l = omega (arith, few_params p, few_lines l)
 
   -- ---- so that their counts fit
   pub columns_fit : {vars : List (Var N)} {adaptives : List (Adaptive N)} → vars ≡ model.vars

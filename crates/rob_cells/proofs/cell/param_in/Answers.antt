@@ -1,21 +1,21 @@
 use Rattle.std.proofs.Common.{◌+◌, ◌*◌, ◌≤◌, length, sym, ap, ◌∙◌, arith}
 use Rattle.std.proofs.lemmas.List.{length-map}
 use Rattle.rob_model.specs.View.{parameter_of}
-use Rattle.rob_cells.proofs.ReadCounts.{params_few}
+use Rattle.rob_model.proofs.GroupCounts.{few_params}
 use Rattle.rob_cells.proofs.SplitSizeLemmas.{few_times}
 use Rattle.rob_cells.proofs.cell.param_in.Goals as goal
 
 pub overflow_cast-result : goal.overflow_cast-result
-overflow_cast-result g c = omega (arith, params_few c.requires.valid c.items.ensures.list)
+overflow_cast-result g c = omega (arith, few_params c.requires.valid c.items.ensures.list)
 
 pub overflow_mul-result : goal.overflow_mul-result
 overflow_mul-result g c =
-    let few : length c.items.result.now ≤ 96 = params_few c.requires.valid c.items.ensures.list in
+    let few : length c.items.result.now ≤ 96 = few_params c.requires.valid c.items.ensures.list in
     omega (arith, few_times c.args.c (length c.items.result.now) 96 (omega (arith, c.requires.few)) few)
 
 pub overflow_add-result : goal.overflow_add-result
 overflow_add-result g c =
-    let few : length c.items.result.now ≤ 96 = params_few c.requires.valid c.items.ensures.list in
+    let few : length c.items.result.now ≤ 96 = few_params c.requires.valid c.items.ensures.list in
     omega (
       arith,
       c.requires.inside,

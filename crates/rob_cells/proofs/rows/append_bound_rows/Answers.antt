@@ -1,7 +1,7 @@
 use Rattle.rob_algebra.proofs.ListLemmas.{item_inside, item_is}
-use Rattle.std.proofs.Common.{◌+◌, map, ap, arith}
+use Rattle.std.proofs.Common.{◌+◌, map, ap, arith, length}
 use Rattle.rob_cells.proofs.CellLemmas.{bounds_more}
-use Rattle.rob_cells.proofs.CountLemmas.{few_adaptives}
+use Rattle.rob_model.proofs.GroupCounts.{few_adaptives}
 use Rattle.rob_model.specs.View.{robust, row_of}
 use Rattle.rob_cells.proofs.rows.append_bound_rows.Goals as goal
 
@@ -9,7 +9,8 @@ pub overflow_add-k : goal.overflow_add-k
 overflow_add-k g c =
     omega (
       arith,
-      few_adaptives g.N.Exact.value c.args.model.now c.requires.valid,
+      few_adaptives c.requires.valid c.items-adaptive-items.ensures.list,
+      ap length c.items-adaptive-items.ensures.list,
       c.loop-adaptive.invariant.number,
       item_inside c.loop-adaptive.adaptive-index c.items-adaptive-items.ensures.list c.loop-adaptive-test.true,
     )

@@ -1,15 +1,14 @@
 use Rattle.std.proofs.Common.{List, length, ap, sym, ◌∙◌, arith, ℕ}
 use Rattle.std.proofs.lemmas.List.{length-map}
-use Rattle.rob_cells.proofs.CountLemmas.{few_vars}
 use Rattle.rob_cells.proofs.ExpressionLemmas.{variable_is}
+use Rattle.rob_model.proofs.GroupCounts.{few_vars}
 use Rattle.rob_meaning.specs.Expressions.{variable}
 use Rattle.rob_model.specs.View.{robust, variable_of}
 use Rattle.rob_pieces.specs.SplitModel.{numbered}
 use Rattle.rob_cells.proofs.rows.cost_row.Goals as goal
 
 pub overflow_cast-items : goal.overflow_cast-items
-overflow_cast-items g c =
-    omega (arith, few_vars g.N.Exact.value c.args.model.now c.requires.valid, ap length c.items.ensures.list)
+overflow_cast-items g c = omega (arith, few_vars c.requires.valid c.items.ensures.list)
 
 pub returns : goal.returns
 returns g c =

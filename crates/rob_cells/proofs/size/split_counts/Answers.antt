@@ -1,11 +1,12 @@
-use Rattle.rob_cells.proofs.ReadCounts.{adaptives_few, all_set_rows_fit, bounds_in_forms, bounds_in_set_rows, bounds_times, columns_fit, columns_times, counts_told, forms_fit, forms_times, lines_fit, lines_times, members_times, params_times, row_bounds_fit, rows_times, set_rows_fit, set_rows_times, vars_few, vars_fit, vars_in_columns}
+use Rattle.rob_cells.proofs.ReadCounts.{all_set_rows_fit, bounds_in_forms, bounds_in_set_rows, bounds_times, columns_fit, columns_times, counts_told, forms_fit, forms_times, lines_fit, lines_times, members_times, params_times, row_bounds_fit, rows_times, set_rows_fit, set_rows_times, vars_fit, vars_in_columns}
+use Rattle.rob_model.proofs.GroupCounts.{few_adaptives, few_vars}
 use Rattle.rob_cells.proofs.size.split_counts.Goals as goal
 
 pub variable_bounds-variable_bounds-requires : goal.variable_bounds-variable_bounds-requires
-variable_bounds-variable_bounds-requires g c = record { few = vars_few c.requires.valid c.items-4.ensures.list }
+variable_bounds-variable_bounds-requires g c = record { few = few_vars c.requires.valid c.items-4.ensures.list }
 
 pub adaptive_bounds-adaptive_bounds-requires : goal.adaptive_bounds-adaptive_bounds-requires
-adaptive_bounds-adaptive_bounds-requires g c = record { few = adaptives_few c.requires.valid c.items-5.ensures.list }
+adaptive_bounds-adaptive_bounds-requires g c = record { few = few_adaptives c.requires.valid c.items-5.ensures.list }
 
 pub overflow_sub-columns : goal.overflow_sub-columns
 overflow_sub-columns g c =

@@ -1,11 +1,10 @@
 use Rattle.std.proofs.Common.{◌++◌, length, ap, ◌∙◌, arith}
 use Rattle.rob_cells.proofs.BuildingLemmas.{started}
-use Rattle.rob_cells.proofs.CountLemmas.{few_vars}
+use Rattle.rob_model.proofs.GroupCounts.{few_vars}
 use Rattle.rob_cells.proofs.split.without_cells.Goals as goal
 
 pub overflow_cast-result : goal.overflow_cast-result
-overflow_cast-result g c =
-    omega (arith, few_vars g.N.Exact.value c.args.model.now c.requires.valid, ap length c.items-3.ensures.list)
+overflow_cast-result g c = omega (arith, few_vars c.requires.valid c.items-3.ensures.list)
 
 pub returns : goal.returns
 returns g c =
