@@ -1,7 +1,7 @@
 -- What is left of a list from a place on, its items, lists that are mapped twice, and what is true of each item of two
 -- lists.
-use Rattle.std.proofs.Common.{◌≡◌, ℕ, ◌+◌, ◌<◌, ◌≤◌, List, [], ◌∷◌, ◌++◌, length, map, drop, get_or, refl, sym, ap, ◌∙◌, subst}
-use Rattle.std.proofs.lemmas.List.{at_drop_more, at_drop_all}
+use Rattle.std.proofs.Common.{◌≡◌, ℕ, ◌+◌, ◌<◌, ◌≤◌, List, [], ◌∷◌, ◌++◌, length, map, drop, get_or, refl, sym, ap, ◌∙◌, subst, arith, length-append}
+use Rattle.std.proofs.lemmas.List.{at_drop_more, at_drop_all, length-map}
 use Rattle.rob_algebra.specs.Items.{Each}
 
 -- the items from a place on are the item there and those behind it
@@ -24,6 +24,12 @@ module _ {A : Type 0} (i : ℕ) {items xs : List A} (same : items ≡ xs) where
 pub map_map : {A B C : Type 0} (g : B → C) (f : A → B) (xs : List A) → map g (map f xs) ≡ map (λ x. g (f x)) xs
 map_map g f [] = refl
 map_map g f (x ∷ xs) = ap (λ ys. g (f x) ∷ ys) (map_map g f xs)
+
+-- a list that is mapped to what another one is mapped to, and more behind it, is no shorter
+pub long_enough : {A B : Type 0} (view : A → B) (old now : List A) (more : List B)
+    → map view now ≡ map view old ++ more → length old ≤ length now
+long_enough view old now more same =
+    omega (arith, ap length same, length-map now view, length-map old view, length-append (map view old) more)
 
 -- what is true of each item of two lists is true of each of the one behind the other
 pub each_append : {A : Type 0} (P : A → Type 0) (xs ys : List A) → Each P xs → Each P ys → Each P (xs ++ ys)

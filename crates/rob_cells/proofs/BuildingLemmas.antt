@@ -1,5 +1,5 @@
 -- The split model, one cell more; and numbers that stand so many times.
-use Rattle.std.proofs.Common.{◌≡◌, ℕ, suc, ◌+◌, ◌-◌, ◌≤◌, List, [], ◌∷◌, ◌++◌, map, length, refl, ap, sym, ◌∙◌, append_assoc, append-nil, arith, length-append}
+use Rattle.std.proofs.Common.{◌≡◌, ℕ, suc, ◌+◌, ◌-◌, List, [], ◌∷◌, ◌++◌, map, length, refl, ap, sym, ◌∙◌, append_assoc, append-nil, arith, length-append}
 use Rattle.std.specs.Prelude.{flat_map, codes, None}
 use Rattle.std.proofs.lemmas.List.{length-map, map-append, map_push}
 use Rattle.rob_meaning.specs.Places.{tabulate}
@@ -91,9 +91,6 @@ module _ {A B : Type 0} (view : A → B) (old new : List A) (more : List B)
         ap length grown,
         length-append (map view old) more,
       )
-
-  pub grew : length old ≤ length new
-  grew = omega (arith, longer)
 
   -- the number for each new item
   pub number_for_each : (n count : ℕ) → count ≡ length new - length old → tabulate count (λ _. n) ≡ map (λ item. n) more

@@ -1,9 +1,10 @@
 -- The joint parameters, one behind another.
-use Rattle.std.proofs.Common.{◌≡◌, ℕ, zero, suc, ◌+◌, ◌<◌, ◌≤◌, List, [], ◌∷◌, ◌++◌, length, map, drop, take, get_or, sym, ap, ◌∙◌, arith, append_assoc, append-nil, length-append, take_all}
+use Rattle.std.proofs.Common.{◌≡◌, ℕ, zero, suc, ◌+◌, ◌<◌, ◌≤◌, List, [], ◌∷◌, ◌++◌, length, map, drop, take, get_or, sym, ap, ◌∙◌, arith, append_assoc, append-nil, take_all}
 use Rattle.std.specs.List.{flat_map}
 use Rattle.std.proofs.Math.ListN.{get_or-append}
 use Rattle.std.proofs.Math.Seq.{take-suc}
 use Rattle.std.proofs.lemmas.List.{length-map, map-append, take-append-le}
+use Rattle.rob_algebra.proofs.ListLemmas.{long_enough}
 use Rattle.rob_model.proofs.PartLemmas.{drop_at, drop_past}
 
 get_or_map : {A P : Type 0} (view : A → P) (xs : List A) (k : ℕ) (x : A) → k < length xs → x ≡ get_or xs k x
@@ -32,12 +33,6 @@ join_step {P = P} view copy old now k x y small there so_far is copied pushed =
     ∙ (λ i. so_far i ++ copied i ∷ [])
     ∙ append_assoc base (map copy (take k base)) (copy (view x) ∷ [])
     ∙ ap (λ (l : List P). base ++ l) (sym (map-append copy (take k base) (view x ∷ [])) ∙ ap (map copy) (sym more))
-
--- nothing is taken away
-pub long_enough : {A P : Type 0} (view : A → P) (old now : List A) (zs : List P) → map view now ≡ map view old ++ zs
-    → length old ≤ length now
-long_enough view old now zs same =
-    omega (arith, ap length same, length-map now view, length-map old view, length-append (map view old) zs)
 
 pub same_end : (k n : ℕ) → k ≤ n → n ≤ k → k ≡ n
 same_end k n h g = omega arith

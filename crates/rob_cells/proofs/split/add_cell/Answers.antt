@@ -1,5 +1,6 @@
+use Rattle.rob_algebra.proofs.ListLemmas.{long_enough}
 use Rattle.std.proofs.Common.{◌-◌, ◌++◌, List, map, length, ap, ◌∙◌, arith, ℕ}
-use Rattle.rob_cells.proofs.BuildingLemmas.{added, grew}
+use Rattle.rob_cells.proofs.BuildingLemmas.{added}
 use Rattle.rob_cells.specs.View.{cut_of}
 use Rattle.rob_meaning.specs.Places.{tabulate}
 use Rattle.rob_meaning.specs.RobustModel.{in_set}
@@ -13,7 +14,7 @@ overflow_sub-count g c =
       arith,
       ap length c.items-lines.ensures.list,
       ap length c.items-2.ensures.list,
-      grew (set_line_of g.N.Exact.value) c.args.split.now.set_lines c.append_cell_lines.new.list _
+      long_enough (set_line_of g.N.Exact.value) c.args.split.now.set_lines c.append_cell_lines.new.list _
           c.in_ok-append_cell_lines.ensures.appended,
     )
 
@@ -23,7 +24,7 @@ overflow_sub-count-2 g c =
       arith,
       ap length c.items-rows.ensures.list,
       ap length c.items-4.ensures.list,
-      grew (row_of g.N.Exact.value) c.args.split.now.rows c.append_cell_rows.new.list _
+      long_enough (row_of g.N.Exact.value) c.args.split.now.rows c.append_cell_rows.new.list _
           c.in_ok-append_cell_rows.ensures.appended,
     )
 

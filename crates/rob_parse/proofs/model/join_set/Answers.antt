@@ -1,7 +1,8 @@
 use Rattle.std.proofs.Common.{◌≡◌, length, map, take, ap, sym, ◌∙◌, arith, append-nil, subst, get_or, ◌++◌}
 use Rattle.rob_meaning.specs.RobustModel.{in_set}
 use Rattle.rob_model.specs.View.{parameter_of}
-use Rattle.rob_parse.proofs.Sets.JoinLemmas.{join_step, long_enough, same_end}
+use Rattle.rob_parse.proofs.Sets.JoinLemmas.{join_step, same_end}
+use Rattle.rob_algebra.proofs.ListLemmas.{long_enough}
 use Rattle.rob_parse.proofs.model.join_set.Goals as goal
 
 pub loop-k-init : goal.loop-k-init
