@@ -6,21 +6,24 @@ use lib.IntN.{ℤ, pos, nat_abs, ◌*ℤ◌}
 use lib.Signed.{◌<ℤ◌}
 use Rattle.rob_algebra.specs.Fraction.{of_pair}
 use Rattle.rob_algebra.specs.Gcd.{gcd, IsGcd-gcd}
-use Rattle.rob_algebra.specs.Integer.{mul_assoc, mul_left_comm, mul-zero}
-use Rattle.rob_algebra.specs.IntegerOrder.{mul_cancel_lt}
+use Rattle.rob_algebra.specs.Integer.{mul_assoc, mul_left_comm}
 use Rattle.rob_algebra.specs.Width.{IsWide}
 use Rattle.rob_algebra.proofs.Parts.{lowest_parts}
 use Rattle.rob_entries.specs.Entries.{ArePartsOf}
+use Rattle.rob_entries.proofs.ClearingLemmas.{factor_positive}
 use Rattle.rob_simplex.specs.Judging.{AreShortParts}
 use Rattle.rob_simplex.proofs.Rows.LowestRows.{same_quotient}
 
 module _ (n d first second : ℤ) (parts : ArePartsOf n d first second) (positive : pos 0 <ℤ d) where
   second_positive : pos 0 <ℤ second
   second_positive =
-      let t : 0 < parts.times = parts.positive in
-      mul_cancel_lt (pos parts.times) (pos 0) second (omega (arith, ints))
-      (subst (λ v. v <ℤ (pos parts.times *ℤ second)) (sym (mul-zero (pos parts.times)))
-      (subst (λ v. pos 0 <ℤ v) parts.q_is positive))
+      let swapped : ArePartsOf d n second first = record {
+        times = parts.times;
+        positive = parts.positive;
+        p_is = parts.q_is;
+        q_is = parts.p_is;
+      } in
+      factor_positive swapped positive
 
   cross : first *ℤ d ≡ n *ℤ second
   cross =
