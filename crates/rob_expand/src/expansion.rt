@@ -27,7 +27,7 @@ ghost use Rattle.rob_expand.specs.Names.{grown};
 ghost use Rattle.rob_expand.specs.Statements.{IsLineOf};
 
 use crate::grow::grow_lines;
-use crate::instance::append_instances;
+use crate::instance::{Names, append_instances};
 use crate::line::Line;
 use crate::lines::line_of;
 use crate::name::Refusal;
@@ -74,7 +74,8 @@ pub fn expand(
     if long {
         return Err(Refusal::NoStatement);
     }
-    append_instances(list, alloc, own, words, statement, &line, spots.items())?;
+    let names = Names { own, words };
+    append_instances(list, alloc, names, statement, &line, spots.items())?;
     Ok(())
 }
 

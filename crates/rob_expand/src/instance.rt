@@ -33,12 +33,20 @@ use rob_syntax::syntax::{
 };
 use std::alloc::Global;
 
+/// The words whose numbers are names.
+#[derive(Clone, Copy)]
+pub struct Names<'a> {
+    /// Those of the statement.
+    pub own: &'a Words,
+    /// Those of the plain statements that it stands for.
+    pub words: &'a Words,
+}
+
 /// Appends the plain statement of each of some settings.
 pub fn append_instances(
     list: &mut List<Statement>,
     alloc: Global,
-    own: &Words,
-    words: &Words,
+    names: Names,
     statement: &Indexed,
     line: &Line,
     spots: &[Spot],
@@ -46,13 +54,14 @@ pub fn append_instances(
     requires line { IsLineOf (seen_statement statement.now) line.now }
     requires thin { Every (IsThin line.now.items) spots.now }
     ensures appended { OnOk result (list.new
-        ≡ list.old ++ map (λ (s : SpecSpot). numbered (texts words.now.keys)
-        (instance (texts own.now.keys) printed (seen_statement statement.now) s.values)) spots.now) }
+        ≡ list.old ++ map (λ (s : SpecSpot). numbered (texts names.entry.words.now.keys)
+        (instance (texts names.entry.own.now.keys) printed (seen_statement statement.now) s.values))
+        spots.now) }
 {
     for spot in spots {
         let kept = spot.kept.items();
         let values = spot.values.items();
-        let plain = make_statement(alloc, own, words, statement, line, kept, values)?;
+        let plain = make_statement(alloc, names, statement, line, kept, values)?;
         list.push(plain)?;
     }
     Ok(())
@@ -61,8 +70,7 @@ pub fn append_instances(
 /// The plain statement.
 fn make_statement(
     alloc: Global,
-    own: &Words,
-    words: &Words,
+    names: Names,
     statement: &Indexed,
     line: &Line,
     kept: &[usize],
@@ -70,97 +78,93 @@ fn make_statement(
 ) -> Result<Statement, Memory>
     requires line { IsLineOf (seen_statement statement.now) line.now }
     requires thin { IsThinAt false line.now.items kept.now values.now }
-    ensures made { IfOk result (λ made. made ≡ numbered (texts words.now.keys)
-        (instance (texts own.now.keys) printed (seen_statement statement.now) values.now)) }
+    ensures made { IfOk result (λ made. made ≡ numbered (texts names.entry.words.now.keys)
+        (instance (texts names.entry.own.now.keys) printed (seen_statement statement.now)
+        values.now)) }
 {
     match statement {
-        Indexed::Uncertain(entry) => {
-            make_uncertain(alloc, own, words, entry.bounds, line, values)
-        }
-        Indexed::Over(_) => make_set_name(alloc, own, words, line, values),
-        Indexed::Set(sides) => make_set(alloc, own, words, sides.item.rel, line, values),
-        Indexed::Budget(shares) => make_budget(alloc, own, words, shares, line, values),
-        Indexed::Var(entry) => make_var(alloc, own, words, entry.bounds, line, values),
-        Indexed::Adaptive(rule) => {
-            make_policy(alloc, own, words, rule.bounds, line, kept, values)
-        }
-        Indexed::Goal(target) => make_goal(alloc, own, words, target.sense, line, values),
-        Indexed::Row(_, sides) => make_row(alloc, own, words, sides.item.rel, line, values),
+        Indexed::Uncertain(entry) => make_uncertain(alloc, names, entry.bounds, line, values),
+        Indexed::Over(_) => make_set_name(alloc, names, line, values),
+        Indexed::Set(sides) => make_set(alloc, names, sides.item.rel, line, values),
+        Indexed::Budget(shares) => make_budget(alloc, names, shares, line, values),
+        Indexed::Var(entry) => make_var(alloc, names, entry.bounds, line, values),
+        Indexed::Adaptive(rule) => make_policy(alloc, names, rule.bounds, line, kept, values),
+        Indexed::Goal(target) => make_goal(alloc, names, target.sense, line, values),
+        Indexed::Row(_, sides) => make_row(alloc, names, sides.item.rel, line, values),
     }
 }
 
 /// An uncertain parameter, with its bounds.
 fn make_uncertain(
     alloc: Global,
-    own: &Words,
-    words: &Words,
+    names: Names,
     bounds: Option<Bounds>,
     line: &Line,
     values: &[Whole],
 ) -> Result<Statement, Memory>
     ensures made { IfOk result (λ made. made ≡ Statement.Uncertain (record {
-      name = head_in (texts own.now.keys) (texts words.now.keys) line.now values.now;
+      name = head_in (texts names.entry.own.now.keys) (texts names.entry.words.now.keys)
+          line.now values.now;
       bounds = bounds;
     })) }
 {
-    let name = head_number(alloc, own, words, line, values)?;
+    let name = head_number(alloc, names, line, values)?;
     Ok(Statement::Uncertain(Declared { name, bounds }))
 }
 
 /// The name of a set.
 fn make_set_name(
     alloc: Global,
-    own: &Words,
-    words: &Words,
+    names: Names,
     line: &Line,
     values: &[Whole],
 ) -> Result<Statement, Memory>
     ensures made { IfOk result (λ made. made
-        ≡ Statement.Over (head_in (texts own.now.keys) (texts words.now.keys) line.now values.now)) }
+        ≡ Statement.Over (head_in (texts names.entry.own.now.keys)
+        (texts names.entry.words.now.keys) line.now values.now)) }
 {
-    let name = head_number(alloc, own, words, line, values)?;
+    let name = head_number(alloc, names, line, values)?;
     Ok(Statement::Over(name))
 }
 
 /// A condition of a set.
 fn make_set(
     alloc: Global,
-    own: &Words,
-    words: &Words,
+    names: Names,
     rel: Rel,
     line: &Line,
     values: &[Whole],
 ) -> Result<Statement, Memory>
     ensures made { IfOk result (λ made. made
-        ≡ Statement.Set (relation_in (texts own.now.keys) (texts words.now.keys) rel line.now values.now)) }
+        ≡ Statement.Set (relation_in (texts names.entry.own.now.keys)
+        (texts names.entry.words.now.keys) rel line.now values.now)) }
 {
-    let relation = make_relation(alloc, own, words, rel, line, values)?;
+    let relation = make_relation(alloc, names, rel, line, values)?;
     Ok(Statement::Set(relation))
 }
 
 /// A variable, with its bounds.
 fn make_var(
     alloc: Global,
-    own: &Words,
-    words: &Words,
+    names: Names,
     bounds: Option<Bounds>,
     line: &Line,
     values: &[Whole],
 ) -> Result<Statement, Memory>
     ensures made { IfOk result (λ made. made ≡ Statement.Var (record {
-      name = head_in (texts own.now.keys) (texts words.now.keys) line.now values.now;
+      name = head_in (texts names.entry.own.now.keys) (texts names.entry.words.now.keys)
+          line.now values.now;
       bounds = bounds;
     })) }
 {
-    let name = head_number(alloc, own, words, line, values)?;
+    let name = head_number(alloc, names, line, values)?;
     Ok(Statement::Var(Declared { name, bounds }))
 }
 
 /// An adaptive variable, with its bounds.
 fn make_policy(
     alloc: Global,
-    own: &Words,
-    words: &Words,
+    names: Names,
     bounds: Option<Bounds>,
     line: &Line,
     kept: &[usize],
@@ -168,34 +172,36 @@ fn make_policy(
 ) -> Result<Statement, Memory>
     requires thin { IsThinAt false line.now.items kept.now values.now }
     ensures made { IfOk result (λ made. made ≡ Statement.Adaptive (record {
-      name = head_in (texts own.now.keys) (texts words.now.keys) line.now values.now;
-      on = numbers_in (texts own.now.keys) (texts words.now.keys) line.now.items values.now;
+      name = head_in (texts names.entry.own.now.keys) (texts names.entry.words.now.keys)
+          line.now values.now;
+      on = numbers_in (texts names.entry.own.now.keys) (texts names.entry.words.now.keys)
+          line.now.items values.now;
       bounds = bounds;
     })) }
 {
-    let name = head_number(alloc, own, words, line, values)?;
-    let on = kept_numbers(alloc, own, words, line.items.items(), kept, values)?;
+    let name = head_number(alloc, names, line, values)?;
+    let on = kept_numbers(alloc, names, line.items.items(), kept, values)?;
     Ok(Statement::Adaptive(Policy { name, on, bounds }))
 }
 
 /// The goal.
 fn make_goal(
     alloc: Global,
-    own: &Words,
-    words: &Words,
+    names: Names,
     sense: Sense,
     line: &Line,
     values: &[Whole],
 ) -> Result<Statement, Memory>
     ensures made { IfOk result (λ made. made ≡ Statement.Goal (record {
       sense = sense;
-      objective = numbered_tree (texts words.now.keys)
-          (first_at (texts own.now.keys) (map placed_of line.now.trees) values.now);
-      over = option_map (number_of (texts words.now.keys)) (over_at (texts own.now.keys) line.now.over values.now);
+      objective = numbered_tree (texts names.entry.words.now.keys)
+          (first_at (texts names.entry.own.now.keys) (map placed_of line.now.trees) values.now);
+      over = option_map (number_of (texts names.entry.words.now.keys))
+          (over_at (texts names.entry.own.now.keys) line.now.over values.now);
     })) }
 {
-    let objective = first_tree(alloc, own, words, line.trees.items(), values)?;
-    let over = optional_number(alloc, own, words, &line.over, values)?;
+    let objective = first_tree(alloc, names, line.trees.items(), values)?;
+    let over = optional_number(alloc, names, &line.over, values)?;
     Ok(Statement::Goal(Goal {
         sense,
         objective,
@@ -206,69 +212,65 @@ fn make_goal(
 /// A row.
 fn make_row(
     alloc: Global,
-    own: &Words,
-    words: &Words,
+    names: Names,
     rel: Rel,
     line: &Line,
     values: &[Whole],
 ) -> Result<Statement, Memory>
     ensures made { IfOk result (λ made. made ≡ Statement.Row (record {
-      name = head_in (texts own.now.keys) (texts words.now.keys) line.now values.now;
-      relation = relation_in (texts own.now.keys) (texts words.now.keys) rel line.now values.now;
+      name = head_in (texts names.entry.own.now.keys) (texts names.entry.words.now.keys)
+          line.now values.now;
+      relation = relation_in (texts names.entry.own.now.keys) (texts names.entry.words.now.keys)
+          rel line.now values.now;
     })) }
 {
-    let name = head_number(alloc, own, words, line, values)?;
-    let relation = make_relation(alloc, own, words, rel, line, values)?;
+    let name = head_number(alloc, names, line, values)?;
+    let relation = make_relation(alloc, names, rel, line, values)?;
     Ok(Statement::Row(Row { name, relation }))
 }
 
 /// The number of the name that a line declares, or 0.
-fn head_number(
-    alloc: Global,
-    own: &Words,
-    words: &Words,
-    line: &Line,
-    values: &[Whole],
-) -> Result<usize, Memory>
+fn head_number(alloc: Global, names: Names, line: &Line, values: &[Whole]) -> Result<usize, Memory>
     ensures number { IfOk result (λ number. number
-        ≡ head_in (texts own.now.keys) (texts words.now.keys) line.now values.now) }
+        ≡ head_in (texts names.entry.own.now.keys) (texts names.entry.words.now.keys)
+        line.now values.now) }
 {
-    let number = optional_number(alloc, own, words, &line.head, values)?;
+    let number = optional_number(alloc, names, &line.head, values)?;
     Ok(number.unwrap_or(0))
 }
 
 /// The number of a name that may be missing.
 fn optional_number(
     alloc: Global,
-    own: &Words,
-    words: &Words,
+    names: Names,
     name: &Option<Named>,
     values: &[Whole],
 ) -> Result<Option<usize>, Memory>
     ensures number { IfOk result (λ number. number
-        ≡ option_map (number_of (texts words.now.keys)) (over_at (texts own.now.keys) name.now values.now)) }
+        ≡ option_map (number_of (texts names.entry.words.now.keys))
+        (over_at (texts names.entry.own.now.keys) name.now values.now)) }
 {
     match name {
         None => Ok(None),
-        Some(name) => Ok(Some(name_number(alloc, own, words, name, values)?)),
+        Some(name) => Ok(Some(name_number(alloc, names.own, names.words, name, values)?)),
     }
 }
 
 /// A relation between the two expressions of a line.
 fn make_relation(
     alloc: Global,
-    own: &Words,
-    words: &Words,
+    names: Names,
     rel: Rel,
     line: &Line,
     values: &[Whole],
 ) -> Result<Relation, Memory>
     ensures made { IfOk result (λ made. made
-        ≡ relation_in (texts own.now.keys) (texts words.now.keys) rel line.now values.now) }
+        ≡ relation_in (texts names.entry.own.now.keys) (texts names.entry.words.now.keys)
+        rel line.now values.now) }
 {
-    let left = first_tree(alloc, own, words, line.trees.items(), values)?;
-    let right = second_tree(alloc, own, words, line.trees.items(), values)?;
-    let over = optional_number(alloc, own, words, &line.over, values)?;
+    let left = first_tree(alloc, names, line.trees.items(), values)?;
+    let right = second_tree(alloc, names, line.trees.items(), values)?;
+    let over = optional_number(alloc, names, &line.over, values)?;
     Ok(Relation {
         left,
         rel,
@@ -280,59 +282,50 @@ fn make_relation(
 /// The first of some expressions, or the number 0.
 fn first_tree(
     alloc: Global,
-    own: &Words,
-    words: &Words,
+    names: Names,
     trees: &[Placed],
     values: &[Whole],
 ) -> Result<Syntax, Memory>
-    ensures made { IfOk result (λ made. made ≡ numbered_tree (texts words.now.keys)
-        (first_at (texts own.now.keys) (map placed_of trees.now) values.now)) }
+    ensures made { IfOk result (λ made. made ≡ numbered_tree (texts names.entry.words.now.keys)
+        (first_at (texts names.entry.own.now.keys) (map placed_of trees.now) values.now)) }
 {
     match trees {
         [] => Ok(zero()),
-        [first, ..] => make_in(alloc, own, words, first, values),
+        [first, ..] => make_in(alloc, names.own, names.words, first, values),
     }
 }
 
 /// The second of some expressions, or the number 0.
 fn second_tree(
     alloc: Global,
-    own: &Words,
-    words: &Words,
+    names: Names,
     trees: &[Placed],
     values: &[Whole],
 ) -> Result<Syntax, Memory>
-    ensures made { IfOk result (λ made. made ≡ numbered_tree (texts words.now.keys)
-        (second_at (texts own.now.keys) (map placed_of trees.now) values.now)) }
+    ensures made { IfOk result (λ made. made ≡ numbered_tree (texts names.entry.words.now.keys)
+        (second_at (texts names.entry.own.now.keys) (map placed_of trees.now) values.now)) }
 {
     match trees {
         [] => Ok(zero()),
-        [_, behind @ ..] => first_tree(alloc, own, words, behind, values),
+        [_, behind @ ..] => first_tree(alloc, names, behind, values),
     }
 }
 
 /// A budget.
 fn make_budget(
     alloc: Global,
-    own: &Words,
-    words: &Words,
+    names: Names,
     shares: &Shares,
     line: &Line,
     values: &[Whole],
 ) -> Result<Statement, Memory>
     ensures made { IfOk result (λ made. made
-        ≡ Statement.Budget (budget_in (texts own.now.keys) (texts words.now.keys) shares.now line.now values.now)) }
+        ≡ Statement.Budget (budget_in (texts names.entry.own.now.keys)
+        (texts names.entry.words.now.keys) shares.now line.now values.now)) }
 {
     let mut members = List::new(alloc);
-    append_members(
-        &mut members,
-        alloc,
-        own,
-        words,
-        shares.members.items(),
-        values,
-    )?;
-    let over = optional_number(alloc, own, words, &line.over, values)?;
+    append_members(&mut members, alloc, names, shares.members.items(), values)?;
+    let over = optional_number(alloc, names, &line.over, values)?;
     let limit = shares.limit;
     Ok(Statement::Budget(Budget {
         limit,
@@ -345,14 +338,14 @@ fn make_budget(
 fn append_members(
     members: &mut List<Member>,
     alloc: Global,
-    own: &Words,
-    words: &Words,
+    names: Names,
     shares: &[Ranged<Share>],
     values: &[Whole],
 ) -> Result<(), Memory>
     ensures appended { OnOk result (members.new
-        ≡ members.old ++ map (numbered_member (texts words.now.keys))
-        (each_at (texts own.now.keys) printed (member_at (texts own.now.keys) printed) []
+        ≡ members.old ++ map (numbered_member (texts names.entry.words.now.keys))
+        (each_at (texts names.entry.own.now.keys) printed
+        (member_at (texts names.entry.own.now.keys) printed) []
         (map (seen_ranged seen_share) shares.now) values.now)) }
 {
     for share in shares {
@@ -362,7 +355,7 @@ fn append_members(
         let centre = share.item.centre;
         let deviation = share.item.deviation;
         let spread = Spread { centre, deviation };
-        append_entries(members, alloc, own, words, &name, spread, settings.items())?;
+        append_entries(members, alloc, names, &name, spread, settings.items())?;
     }
     Ok(())
 }
@@ -371,17 +364,17 @@ fn append_members(
 fn append_entries(
     members: &mut List<Member>,
     alloc: Global,
-    own: &Words,
-    words: &Words,
+    names: Names,
     name: &Named,
     spread: Spread,
     settings: &[Setting],
 ) -> Result<(), Memory>
     ensures appended { OnOk result (members.new ≡ members.old
-        ++ map (entry_at (texts own.now.keys) (texts words.now.keys) name.now spread) settings.now) }
+        ++ map (entry_at (texts names.entry.own.now.keys) (texts names.entry.words.now.keys)
+        name.now spread) settings.now) }
 {
     for setting in settings {
-        let name = name_number(alloc, own, words, name, setting.items())?;
+        let name = name_number(alloc, names.own, names.words, name, setting.items())?;
         members.push(Member { name, spread })?;
     }
     Ok(())
@@ -390,18 +383,18 @@ fn append_entries(
 /// The numbers of the names of the items at some places, in each setting of their ranges.
 fn kept_numbers(
     alloc: Global,
-    own: &Words,
-    words: &Words,
+    names: Names,
     items: &[Item],
     kept: &[usize],
     values: &[Whole],
 ) -> Result<List<usize>, Memory>
     ensures numbers { IfOk result (λ numbers. numbers
-        ≡ numbers_in (texts own.now.keys) (texts words.now.keys) (picks items.now kept.now) values.now) }
+        ≡ numbers_in (texts names.entry.own.now.keys) (texts names.entry.words.now.keys)
+        (picks items.now kept.now) values.now) }
 {
     let mut numbers = List::new(alloc);
     for k in kept {
-        append_items(&mut numbers, alloc, own, words, one_at(items, *k), values)?;
+        append_items(&mut numbers, alloc, names, one_at(items, *k), values)?;
     }
     Ok(numbers)
 }
@@ -410,17 +403,17 @@ fn kept_numbers(
 fn append_items(
     numbers: &mut List<usize>,
     alloc: Global,
-    own: &Words,
-    words: &Words,
+    names: Names,
     items: &[Item],
     values: &[Whole],
 ) -> Result<(), Memory>
     ensures numbers { OnOk result (numbers.new ≡ numbers.old
-        ++ numbers_in (texts own.now.keys) (texts words.now.keys) items.now values.now) }
+        ++ numbers_in (texts names.entry.own.now.keys) (texts names.entry.words.now.keys)
+        items.now values.now) }
 {
     for item in items {
         let settings = item.ranges.settings(alloc, values)?;
-        append_numbers(numbers, alloc, own, words, &item.name, settings.items())?;
+        append_numbers(numbers, alloc, names, &item.name, settings.items())?;
     }
     Ok(())
 }
@@ -429,17 +422,16 @@ fn append_items(
 fn append_numbers(
     numbers: &mut List<usize>,
     alloc: Global,
-    own: &Words,
-    words: &Words,
+    names: Names,
     name: &Named,
     settings: &[Setting],
 ) -> Result<(), Memory>
     ensures appended { OnOk result (numbers.new
-        ≡ numbers.old ++ map (number_of (texts words.now.keys))
-        (map (named_at (texts own.now.keys) name.now) settings.now)) }
+        ≡ numbers.old ++ map (number_of (texts names.entry.words.now.keys))
+        (map (named_at (texts names.entry.own.now.keys) name.now) settings.now)) }
 {
     for setting in settings {
-        let number = name_number(alloc, own, words, name, setting.items())?;
+        let number = name_number(alloc, names.own, names.words, name, setting.items())?;
         numbers.push(number)?;
     }
     Ok(())

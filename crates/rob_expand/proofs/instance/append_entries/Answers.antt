@@ -10,7 +10,7 @@ use Rattle.rob_expand.proofs.instance.append_entries.Goals as goal
 pub loop-setting-preserved : goal.loop-setting-preserved
 loop-setting-preserved c =
     let f : List ℤ → Member =
-    entry_at (texts c.args.own.now.keys) (texts c.args.words.now.keys) c.args.name.now c.args.spread in
+    entry_at (texts c.args.names.own.now.keys) (texts c.args.names.words.now.keys) c.args.name.now c.args.spread in
     let step = drop_at c.args.settings.now c.loop-setting.setting-index c.setting-item.result c.loop-setting-test.true
     c.setting-item.is in
     made_more (λ (e : List ℤ). f e ∷ []) c.loop-setting.members _ _ _ c.setting-item.result step
@@ -24,7 +24,7 @@ pub returns : goal.returns
 returns c = record {
   appended =
       let f : List ℤ → Member =
-      entry_at (texts c.args.own.now.keys) (texts c.args.words.now.keys) c.args.name.now c.args.spread in
+      entry_at (texts c.args.names.own.now.keys) (texts c.args.names.words.now.keys) c.args.name.now c.args.spread in
       made_all (λ (e : List ℤ). f e ∷ []) c.loop-setting.members _
       (drop_past c.args.settings.now c.loop-setting.setting-index c.loop-setting-test.false) c.loop-setting.invariant
       ∙ ap (λ (l : List Member). c.args.members.now ++ l) (sym (map_flat f c.args.settings.now));

@@ -6,6 +6,8 @@ use Rattle.rob_expand.proofs.instance.append_entries.Given as goal
 
 abbrev pub invariant-loop-setting : goal.invariant-loop-setting
 invariant-loop-setting l =
-    l.members ++ flat_map (λ e. entry_at (texts l.own.keys) (texts l.words.keys) l.name l.spread e ∷ [])
+    l.members ++ flat_map
+    (λ e. entry_at (texts l.names.own.now.keys) (texts l.names.words.now.keys) l.name l.spread e ∷ [])
     (drop l.setting-index l.settings)
-    ≡ l.fn.members ++ flat_map (λ e. entry_at (texts l.own.keys) (texts l.words.keys) l.name l.spread e ∷ []) l.settings
+    ≡ l.fn.members ++ flat_map
+    (λ e. entry_at (texts l.names.own.now.keys) (texts l.names.words.now.keys) l.name l.spread e ∷ []) l.settings

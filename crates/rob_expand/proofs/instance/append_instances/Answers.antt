@@ -26,8 +26,8 @@ make_statement-requires c = record {
 
 pub loop-spot-preserved : goal.loop-spot-preserved
 loop-spot-preserved c =
-    let g : List ℤ → Statement = λ (e : List ℤ). numbered (texts c.args.words.now.keys)
-    (instance (texts c.args.own.now.keys) printed (seen_statement c.args.statement.now) e) in
+    let g : List ℤ → Statement = λ (e : List ℤ). numbered (texts c.args.names.words.now.keys)
+    (instance (texts c.args.names.own.now.keys) printed (seen_statement c.args.statement.now) e) in
     let f : Spot → Statement = λ (s : Spot). g s.values in
     let step = drop_at c.args.spots.now c.loop-spot.spot-index c.spot-item.result c.loop-spot-test.true c.spot-item.is
     in
@@ -39,8 +39,8 @@ loop-spot-preserved c =
 
 pub returns : goal.returns
 returns c =
-    let f : Spot → Statement = λ (s : Spot). numbered (texts c.args.words.now.keys)
-    (instance (texts c.args.own.now.keys) printed (seen_statement c.args.statement.now) s.values) in
+    let f : Spot → Statement = λ (s : Spot). numbered (texts c.args.names.words.now.keys)
+    (instance (texts c.args.names.own.now.keys) printed (seen_statement c.args.statement.now) s.values) in
     record {
       appended =
           made_all (λ (s : Spot). f s ∷ []) c.loop-spot.list _

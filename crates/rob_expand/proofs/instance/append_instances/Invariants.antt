@@ -11,10 +11,10 @@ use Rattle.rob_expand.proofs.instance.append_instances.Given as goal
 abbrev pub invariant-loop-spot : goal.invariant-loop-spot
 invariant-loop-spot l =
     l.list ++ flat_map
-    (λ (s : Spot). numbered (texts l.words.keys)
-    (instance (texts l.own.keys) printed (seen_statement l.statement) s.values) ∷ [])
+    (λ (s : Spot). numbered (texts l.names.words.now.keys)
+    (instance (texts l.names.own.now.keys) printed (seen_statement l.statement) s.values) ∷ [])
     (drop l.spot-index l.spots)
     ≡ l.fn.list ++ flat_map
-    (λ (s : Spot). numbered (texts l.words.keys)
-    (instance (texts l.own.keys) printed (seen_statement l.statement) s.values) ∷ [])
+    (λ (s : Spot). numbered (texts l.names.words.now.keys)
+    (instance (texts l.names.own.now.keys) printed (seen_statement l.statement) s.values) ∷ [])
     l.spots

@@ -15,20 +15,21 @@ loop-item-preserved c =
     c.items.ensures.list ∙ c.in_ok-settings.ensures.settings in
     let step = drop_at c.args.items.now c.loop-item.item-index c.item-item.result c.loop-item-test.true c.item-item.is
     in
-    made_more (item_made (texts c.args.own.now.keys) (texts c.args.words.now.keys) c.args.values.now)
+    made_more (item_made (texts c.args.names.own.now.keys) (texts c.args.names.words.now.keys) c.args.values.now)
     c.loop-item.numbers _ _ _ c.item-item.result step
     (c.in_ok-append_numbers.ensures.appended
     ∙ ap (λ (es : List (List ℤ)). c.loop-item.numbers
-    ++ map (number_of (texts c.args.words.now.keys))
-    (map (named_at (texts c.args.own.now.keys) c.item-item.result.name) es)) settings)
+    ++ map (number_of (texts c.args.names.words.now.keys))
+    (map (named_at (texts c.args.names.own.now.keys) c.item-item.result.name) es)) settings)
     c.loop-item.invariant
 
 pub returns : goal.returns
 returns c = record {
   numbers =
-      made_all (item_made (texts c.args.own.now.keys) (texts c.args.words.now.keys) c.args.values.now)
+      made_all (item_made (texts c.args.names.own.now.keys) (texts c.args.names.words.now.keys) c.args.values.now)
       c.loop-item.numbers _
       (drop_past c.args.items.now c.loop-item.item-index c.loop-item-test.false) c.loop-item.invariant
       ∙ ap (λ (l : List ℕ). c.args.numbers.now ++ l)
-      (sym (numbers_made (texts c.args.own.now.keys) (texts c.args.words.now.keys) c.args.values.now c.args.items.now));
+      (sym (numbers_made (texts c.args.names.own.now.keys) (texts c.args.names.words.now.keys) c.args.values.now
+      c.args.items.now));
 }

@@ -17,8 +17,8 @@ use Rattle.rob_expand.proofs.instance.append_members.Goals as goal
 
 pub loop-share-preserved : goal.loop-share-preserved
 loop-share-preserved c =
-    let own = (texts c.args.own.now.keys) in
-    let words = (texts c.args.words.now.keys) in
+    let own = (texts c.args.names.own.now.keys) in
+    let words = (texts c.args.names.words.now.keys) in
     let vs = c.args.values.now in
     let share = c.share-item.result in
     let spread : Spread = record { centre = share.item.centre; deviation = share.item.deviation } in
@@ -43,8 +43,8 @@ loop-share-preserved c =
 pub returns : goal.returns
 returns c = record {
   appended =
-      let own = (texts c.args.own.now.keys) in
-      let words = (texts c.args.words.now.keys) in
+      let own = (texts c.args.names.own.now.keys) in
+      let words = (texts c.args.names.words.now.keys) in
       made_all (share_made own words c.args.values.now) c.loop-share.members _
       (drop_past c.args.shares.now c.loop-share.share-index c.loop-share-test.false) c.loop-share.invariant
       ∙ ap (λ (l : List Member). c.args.members.now ++ l)

@@ -6,5 +6,7 @@ use Rattle.rob_expand.proofs.instance.append_members.Given as goal
 
 abbrev pub invariant-loop-share : goal.invariant-loop-share
 invariant-loop-share l =
-    l.members ++ flat_map (share_made (texts l.own.keys) (texts l.words.keys) l.values) (drop l.share-index l.shares)
-    ≡ l.fn.members ++ flat_map (share_made (texts l.own.keys) (texts l.words.keys) l.values) l.shares
+    l.members ++ flat_map (share_made (texts l.names.own.now.keys) (texts l.names.words.now.keys) l.values)
+    (drop l.share-index l.shares)
+    ≡ l.fn.members ++ flat_map (share_made (texts l.names.own.now.keys) (texts l.names.words.now.keys) l.values)
+    l.shares

@@ -10,7 +10,8 @@ use Rattle.rob_expand.proofs.instance.append_numbers.Goals as goal
 pub loop-setting-preserved : goal.loop-setting-preserved
 loop-setting-preserved c =
     let f : List ℤ → ℕ =
-    λ (e : List ℤ). number_of (texts c.args.words.now.keys) (named_at (texts c.args.own.now.keys) c.args.name.now e) in
+    λ (e : List ℤ). number_of (texts c.args.names.words.now.keys)
+    (named_at (texts c.args.names.own.now.keys) c.args.name.now e) in
     let step = drop_at c.args.settings.now c.loop-setting.setting-index c.setting-item.result c.loop-setting-test.true
     c.setting-item.is in
     made_more (λ (e : List ℤ). f e ∷ []) c.loop-setting.numbers _ _ _ c.setting-item.result step
@@ -22,11 +23,13 @@ pub returns : goal.returns
 returns c = record {
   appended =
       let f : List ℤ → ℕ =
-      λ (e : List ℤ). number_of (texts c.args.words.now.keys) (named_at (texts c.args.own.now.keys) c.args.name.now e)
+      λ (e : List ℤ). number_of (texts c.args.names.words.now.keys)
+      (named_at (texts c.args.names.own.now.keys) c.args.name.now e)
       in
       made_all (λ (e : List ℤ). f e ∷ []) c.loop-setting.numbers _
       (drop_past c.args.settings.now c.loop-setting.setting-index c.loop-setting-test.false) c.loop-setting.invariant
       ∙ ap (λ (l : List ℕ). c.args.numbers.now ++ l)
-      (sym (map_map (number_of (texts c.args.words.now.keys)) (named_at (texts c.args.own.now.keys) c.args.name.now)
+      (sym (map_map (number_of (texts c.args.names.words.now.keys))
+      (named_at (texts c.args.names.own.now.keys) c.args.name.now)
       c.args.settings.now ∙ map_flat f c.args.settings.now));
 }

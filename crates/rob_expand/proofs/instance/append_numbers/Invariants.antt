@@ -7,7 +7,9 @@ use Rattle.rob_expand.proofs.instance.append_numbers.Given as goal
 
 abbrev pub invariant-loop-setting : goal.invariant-loop-setting
 invariant-loop-setting l =
-    l.numbers ++ flat_map (λ e. number_of (texts l.words.keys) (named_at (texts l.own.keys) l.name e) ∷ [])
+    l.numbers
+    ++ flat_map (λ e. number_of (texts l.names.words.now.keys) (named_at (texts l.names.own.now.keys) l.name e) ∷ [])
     (drop l.setting-index l.settings)
     ≡ l.fn.numbers
-    ++ flat_map (λ e. number_of (texts l.words.keys) (named_at (texts l.own.keys) l.name e) ∷ []) l.settings
+    ++ flat_map (λ e. number_of (texts l.names.words.now.keys) (named_at (texts l.names.own.now.keys) l.name e) ∷ [])
+    l.settings

@@ -9,8 +9,8 @@ use Rattle.rob_expand.proofs.instance.kept_numbers.Goals as goal
 
 pub loop-k-preserved : goal.loop-k-preserved
 loop-k-preserved c =
-    let own = texts c.args.own.now.keys in
-    let words = texts c.args.words.now.keys in
+    let own = texts c.args.names.own.now.keys in
+    let words = texts c.args.names.words.now.keys in
     let step =
     place_apart c.args.items.now c.args.kept.now c.loop-k.k-index (get_or c.args.kept.now c.loop-k.k-index 0)
     c.one_at.result.now
@@ -24,8 +24,8 @@ loop-k-preserved c =
 
 pub returns : goal.returns
 returns c =
-    let own = texts c.args.own.now.keys in
-    let words = texts c.args.words.now.keys in
+    let own = texts c.args.names.own.now.keys in
+    let words = texts c.args.names.words.now.keys in
     record {
       numbers =
           made_all (item_made own words c.args.values.now) c.loop-k.numbers _

@@ -7,6 +7,6 @@ use Rattle.rob_expand.proofs.instance.kept_numbers.Given as goal
 
 abbrev pub invariant-loop-k : goal.invariant-loop-k
 invariant-loop-k l =
-    l.numbers ++ flat_map (item_made (texts l.own.keys) (texts l.words.keys) l.values)
+    l.numbers ++ flat_map (item_made (texts l.names.own.now.keys) (texts l.names.words.now.keys) l.values)
     (picks l.items (drop l.k-index l.kept))
-    ≡ flat_map (item_made (texts l.own.keys) (texts l.words.keys) l.values) (picks l.items l.kept)
+    ≡ flat_map (item_made (texts l.names.own.now.keys) (texts l.names.words.now.keys) l.values) (picks l.items l.kept)

@@ -13,8 +13,8 @@ use Rattle.rob_expand.proofs.instance.make_budget.Goals as goal
 pub returns : goal.returns
 returns c = record {
   made =
-      let own = texts c.args.own.now.keys in
-      let words = texts c.args.words.now.keys in
+      let own = texts c.args.names.own.now.keys in
+      let words = texts c.args.names.words.now.keys in
       let all : List (Ranged Share) → List Member = λ (ms : List (Ranged Share)).
       map (numbered_member words)
       (each_at own printed (member_at own printed) [] (map (seen_ranged seen_share) ms) c.args.values.now) in

@@ -11,8 +11,8 @@ use Rattle.rob_expand.proofs.instance.make_policy.Goals as goal
 pub returns : goal.returns
 returns c = record {
   made =
-      let own = texts c.args.own.now.keys in
-      let words = texts c.args.words.now.keys in
+      let own = texts c.args.names.own.now.keys in
+      let words = texts c.args.names.words.now.keys in
       let vs = c.args.values.now in
       let n = c.in_ok-name.ensures.number in
       let o = c.in_ok-on.ensures.numbers

@@ -10,8 +10,8 @@ use Rattle.rob_expand.proofs.instance.make_relation.Goals as goal
 pub returns : goal.returns
 returns c = record {
   made =
-      let own = texts c.args.own.now.keys in
-      let words = texts c.args.words.now.keys in
+      let own = texts c.args.names.own.now.keys in
+      let words = texts c.args.names.words.now.keys in
       let vs = c.args.values.now in
       let l = c.in_ok-left.ensures.made
       ∙ ap (λ (ts : List Code). numbered_tree words (first_at own (map placed_of ts) vs)) c.items.ensures.list in

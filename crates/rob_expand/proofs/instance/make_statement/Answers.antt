@@ -9,8 +9,8 @@ returns-in-Uncertain c = record {
   made =
       IfOk-weaker c.make_uncertain.result _ _
       (λ m e. e
-      ∙ uncertain_made (texts c.args.own.now.keys) (texts c.args.words.now.keys) c.args.values.now c.args.statement.now
-      c.args.line.now c.requires.line _ c.in-Uncertain.is) c.make_uncertain.ensures.made;
+      ∙ uncertain_made (texts c.args.names.own.now.keys) (texts c.args.names.words.now.keys) c.args.values.now
+      c.args.statement.now c.args.line.now c.requires.line _ c.in-Uncertain.is) c.make_uncertain.ensures.made;
 }
 
 pub returns-in-Over : goal.returns-in-Over
@@ -18,8 +18,8 @@ returns-in-Over c = record {
   made =
       IfOk-weaker c.make_set_name.result _ _
       (λ m e. e
-      ∙ over_made (texts c.args.own.now.keys) (texts c.args.words.now.keys) c.args.values.now c.args.statement.now
-      c.args.line.now c.requires.line _ c.in-Over.is) c.make_set_name.ensures.made;
+      ∙ over_made (texts c.args.names.own.now.keys) (texts c.args.names.words.now.keys) c.args.values.now
+      c.args.statement.now c.args.line.now c.requires.line _ c.in-Over.is) c.make_set_name.ensures.made;
 }
 
 pub returns-in-Set : goal.returns-in-Set
@@ -27,9 +27,8 @@ returns-in-Set c = record {
   made =
       IfOk-weaker c.make_set.result _ _
       (λ m e. e
-      ∙ set_condition_made (texts c.args.own.now.keys) (texts c.args.words.now.keys) c.args.values.now
-      c.args.statement.now
-      c.args.line.now c.requires.line _ c.in-Set.is) c.make_set.ensures.made;
+      ∙ set_condition_made (texts c.args.names.own.now.keys) (texts c.args.names.words.now.keys) c.args.values.now
+      c.args.statement.now c.args.line.now c.requires.line _ c.in-Set.is) c.make_set.ensures.made;
 }
 
 pub returns-in-Budget : goal.returns-in-Budget
@@ -37,8 +36,8 @@ returns-in-Budget c = record {
   made =
       IfOk-weaker c.make_budget.result _ _
       (λ m e. e
-      ∙ budget_made (texts c.args.own.now.keys) (texts c.args.words.now.keys) c.args.values.now c.args.statement.now
-      c.args.line.now c.requires.line _ c.in-Budget.is) c.make_budget.ensures.made;
+      ∙ budget_made (texts c.args.names.own.now.keys) (texts c.args.names.words.now.keys) c.args.values.now
+      c.args.statement.now c.args.line.now c.requires.line _ c.in-Budget.is) c.make_budget.ensures.made;
 }
 
 pub returns-in-Var : goal.returns-in-Var
@@ -46,8 +45,8 @@ returns-in-Var c = record {
   made =
       IfOk-weaker c.make_var.result _ _
       (λ m e. e
-      ∙ var_made (texts c.args.own.now.keys) (texts c.args.words.now.keys) c.args.values.now c.args.statement.now
-      c.args.line.now c.requires.line _ c.in-Var.is) c.make_var.ensures.made;
+      ∙ var_made (texts c.args.names.own.now.keys) (texts c.args.names.words.now.keys) c.args.values.now
+      c.args.statement.now c.args.line.now c.requires.line _ c.in-Var.is) c.make_var.ensures.made;
 }
 
 pub returns-in-Adaptive : goal.returns-in-Adaptive
@@ -55,8 +54,8 @@ returns-in-Adaptive c = record {
   made =
       IfOk-weaker c.make_policy.result _ _
       (λ m e. e
-      ∙ policy_made (texts c.args.own.now.keys) (texts c.args.words.now.keys) c.args.values.now c.args.statement.now
-      c.args.line.now c.requires.line _ c.in-Adaptive.is) c.make_policy.ensures.made;
+      ∙ policy_made (texts c.args.names.own.now.keys) (texts c.args.names.words.now.keys) c.args.values.now
+      c.args.statement.now c.args.line.now c.requires.line _ c.in-Adaptive.is) c.make_policy.ensures.made;
 }
 
 pub returns-in-Goal : goal.returns-in-Goal
@@ -64,8 +63,8 @@ returns-in-Goal c = record {
   made =
       IfOk-weaker c.make_goal.result _ _
       (λ m e. e
-      ∙ goal_made (texts c.args.own.now.keys) (texts c.args.words.now.keys) c.args.values.now c.args.statement.now
-      c.args.line.now c.requires.line _ c.in-Goal.is) c.make_goal.ensures.made;
+      ∙ goal_made (texts c.args.names.own.now.keys) (texts c.args.names.words.now.keys) c.args.values.now
+      c.args.statement.now c.args.line.now c.requires.line _ c.in-Goal.is) c.make_goal.ensures.made;
 }
 
 pub returns-in-Row : goal.returns-in-Row
@@ -73,6 +72,6 @@ returns-in-Row c = record {
   made =
       IfOk-weaker c.make_row.result _ _
       (λ m e. e
-      ∙ row_made (texts c.args.own.now.keys) (texts c.args.words.now.keys) c.args.values.now c.args.statement.now
-      c.args.line.now c.requires.line _ _ c.in-Row.is) c.make_row.ensures.made;
+      ∙ row_made (texts c.args.names.own.now.keys) (texts c.args.names.words.now.keys) c.args.values.now
+      c.args.statement.now c.args.line.now c.requires.line _ _ c.in-Row.is) c.make_row.ensures.made;
 }
