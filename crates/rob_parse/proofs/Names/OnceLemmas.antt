@@ -54,7 +54,8 @@ other_members k (m ∷ ms) h = (other k m.name h.0, other_members k ms h.1)
 members_once : (ms : List Member) → Once (flat_map member_leaves ms) → AreDistinct (map (λ (h : Member). h.name) ms)
 members_once [] h = tt
 members_once (m ∷ ms) h =
-    let b = or_parts (list_any (is_name m.name) (flat_map member_leaves ms)) (has_twice (flat_map member_leaves ms)) h in
+    let b =
+    or_parts (list_any (is_name m.name) (flat_map member_leaves ms)) (has_twice (flat_map member_leaves ms)) h in
     (other_members m.name ms (free_members (is_name m.name) ms b.0), members_once ms b.1)
 
 -- ---- two names of parameters have two numbers

@@ -90,11 +90,11 @@ returns-in-Err-go_on g c =
 pub returns-in-Err-next_round : goal.returns-in-Err-next_round
 returns-in-Err-next_round g c =
     let is = c.after-in-Err-next_round.ensures.stop in
-    let stop = c.in-Err-next_round.stop in
+    let why = c.in-Err-next_round.stop in
     record {
       solved = tt;
-      stopped = cause_after c.rounds.invariant.state stop is c.in-Ok.ensures.answer c.in-Err-next_round.ensures.outcome;
-      fits = fits_after c.rounds.invariant.state stop is;
-      wides = counts_after c.rounds.invariant.state stop is c.rounds.invariant.wides _ c.in-Err-next_round.ensures.wides;
+      stopped = cause_after c.rounds.invariant.state why is c.in-Ok.ensures.answer c.in-Err-next_round.ensures.outcome;
+      fits = fits_after c.rounds.invariant.state why is;
+      wides = counts_after c.rounds.invariant.state why is c.rounds.invariant.wides _ c.in-Err-next_round.ensures.wides;
       counted = later c.rounds.invariant.counted c.next_round.ensures.counted;
     }

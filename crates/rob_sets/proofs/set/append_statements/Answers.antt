@@ -25,10 +25,11 @@ append_statement-requires-clause-line g c =
 
 pub append_statement-requires-clause-few : goal.append_statement-requires-clause-few
 append_statement-requires-clause-few g c =
+    let m = robust g.N.Exact.value c.args.model.now in
     omega (
       arith,
       so_many c.loop-line.invariant.progress,
-      statements_many (robust g.N.Exact.value c.args.model.now) zero (robust g.N.Exact.value c.args.model.now).set_lines,
+      statements_many m zero m.set_lines,
       c.requires.valid.limits.set_lines,
       c.requires.valid.limits.members,
       c.requires.few,
@@ -59,13 +60,12 @@ overflow_add-lift g c =
 pub returns-in_err-append_statement-clause-rows : goal.returns-in_err-append_statement-clause-rows
 returns-in_err-append_statement-clause-rows g c =
     let value = g.N.Exact.value in
-    let i = c.loop-line.line-index in
-    let at = drop_item i c.items-line-items.ensures.list c.loop-line-test.true c.line-item.is in
+    let at = drop_item c.loop-line.line-index c.items-line-items.ensures.list c.loop-line-test.true c.line-item.is in
     stops c.append_statement.new.rows (g.L.Ledger.wides c.args.ledger.now) c.from_residual.result
     c.loop-line.invariant.progress
-    (judged_at (robust value c.args.model.now) (set_line_of value) c.args.model.now.set_lines i c.loop-line.lift
-    (c.loop-line.lift + lift_count (set_line_of value c.line-item.result ∷ [])) at refl c.loop-line.number
-    (length c.loop-line.rows) _ refl)
+    (judged_at (robust value c.args.model.now) (set_line_of value) c.args.model.now.set_lines c.loop-line.line-index
+    c.loop-line.lift (c.loop-line.lift + lift_count (set_line_of value c.line-item.result ∷ [])) at refl
+    c.loop-line.number (length c.loop-line.rows) _ refl)
     c.loop-line.invariant.counted.wides c.in_err-append_statement.ensures.rows c.from_residual.ensures.1
 
 pub loop-line-preserved : goal.loop-line-preserved

@@ -26,7 +26,8 @@ append_values-returns-then-branch t c =
     (lt_from c.args.ends.upto c.values.value (sym c.in_ok-is_less.ensures.less ∙ c.if-branch.true)) in
     let l = c.values in
     record {
-      appended = walk_made c.args.ends.upto c.args.inner.now c.args.values.now l.value l.settings e l.invariant.appended;
+      appended = walk_made c.args.ends.upto c.args.inner.now c.args.values.now l.value l.settings e
+          l.invariant.appended;
       left = walk_ended c.args.ends.upto c.args.inner.now c.args.values.now l.value l.left e l.invariant.left;
     }
 
@@ -36,7 +37,8 @@ append_values-returns-in_default t c =
     c.in_default.is c.in_ok-live.ensures.live in
     let l = c.values in
     record {
-      appended = walk_made c.args.ends.upto c.args.inner.now c.args.values.now l.value l.settings e l.invariant.appended;
+      appended = walk_made c.args.ends.upto c.args.inner.now c.args.values.now l.value l.settings e
+          l.invariant.appended;
       left = walk_ended c.args.ends.upto c.args.inner.now c.args.values.now l.value l.left e l.invariant.left;
     }
 
@@ -48,7 +50,8 @@ append_values-returns-then-branch-2 t c =
     (lt_from c.args.ends.upto c.in-Some.live (sym c.in_ok-is_less-2.ensures.less ∙ c.if-branch-2.true)) in
     let l = c.values in
     record {
-      appended = walk_made c.args.ends.upto c.args.inner.now c.args.values.now l.value l.settings e l.invariant.appended;
+      appended = walk_made c.args.ends.upto c.args.inner.now c.args.values.now l.value l.settings e
+          l.invariant.appended;
       left = walk_ended c.args.ends.upto c.args.inner.now c.args.values.now l.value l.left e l.invariant.left;
     }
 
@@ -63,16 +66,14 @@ append_values-returns-in_err-left-clause-left t c =
     (left_of (length (between c.args.ends.from c.args.ends.upto c.args.inner.now c.args.values.now)) c.args.room)
     c.in_err-left.field-0.0 p.0 p.1 p.2
     (λ none. walk_stop c.args.ends.upto c.args.inner.now c.args.values.now c.values.value c.in-Some.live some.0 some.1
-    c.values.left within c.values.invariant.left none)
-    c.in_err-left.ensures.left
+    c.values.left within c.values.invariant.left none) c.in_err-left.ensures.left
 
 pub append_values-values-smaller : goal.append_values-values-smaller
 append_values-values-smaller t c =
     let some = walk_some c.args.ends.upto c.args.inner.now c.args.values.now c.values.value c.in-Some.live
     c.in_ok-live.field-0 c.in-Some.is c.in_ok-live.ensures.live in
     walk_fewer c.args.ends.upto c.args.inner.now c.args.values.now c.values.value c.in-Some.live c.in_ok-value.value
-    some.0
-    (lt_not c.args.ends.upto c.in-Some.live (sym c.in_ok-is_less-2.ensures.less ∙ c.if-branch-2.false))
+    some.0 (lt_not c.args.ends.upto c.in-Some.live (sym c.in_ok-is_less-2.ensures.less ∙ c.if-branch-2.false))
     c.in_ok-value.ensures.next
 
 pub append_values-values-preserved : goal.append_values-values-preserved
