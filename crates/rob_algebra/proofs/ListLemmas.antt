@@ -1,7 +1,8 @@
 -- What is left of a list from a place on, its items, lists that are mapped twice, and what is true of each item of two
 -- lists.
 use Rattle.std.proofs.Common.{◌≡◌, ℕ, ◌+◌, ◌<◌, ◌≤◌, List, [], ◌∷◌, ◌++◌, length, map, drop, get_or, refl, sym, ap, ◌∙◌, subst, arith, length-append}
-use Rattle.std.proofs.lemmas.List.{at_drop_more, at_drop_all, length-map}
+use Rattle.std.proofs.lemmas.List.{at_drop_more, length-map}
+pub use Rattle.std.proofs.lemmas.List.{drop_all}
 use Rattle.rob_algebra.specs.Items.{Each}
 
 -- the items from a place on are the item there and those behind it
@@ -9,9 +10,6 @@ pub drop_at : {A : Type 0} (xs : List A) (i : ℕ) (x : A) → i < length xs →
     → drop i xs ≡ x ∷ drop (i + 1) xs
 drop_at {A} xs i x inside is =
     at_drop_more (λ (l : List A). l) xs i x inside ∙ ap (λ (y : A). y ∷ drop (i + 1) xs) (sym is)
-
-pub drop_past : {A : Type 0} (xs : List A) (i : ℕ) → length xs ≤ i → drop i xs ≡ []
-drop_past {A} xs i all = at_drop_all (λ (l : List A). l) xs i all
 
 -- an item of a list is one of the list that is the same
 module _ {A : Type 0} (i : ℕ) {items xs : List A} (same : items ≡ xs) where

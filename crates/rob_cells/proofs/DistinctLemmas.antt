@@ -12,7 +12,7 @@ use Rattle.rob_meaning.proofs.Lists.EachLemmas.{each_append, each_left, each_rig
 use Rattle.rob_meaning.specs.Named.{AreDistinct}
 use Rattle.rob_meaning.specs.Names.{Name}
 use Rattle.rob_meaning.specs.Places.{Each}
-use Rattle.rob_model.proofs.PartLemmas.{drop_at, drop_past}
+use Rattle.rob_model.proofs.PartLemmas.{drop_at, drop_all}
 
 -- the names in a list of owned ones
 abbrev pub texts : List (Vec ℕ Global) → List Name
@@ -122,7 +122,7 @@ module _ (names : List Name) (i : ℕ) (keys : List (Vec ℕ Global))
   -- no item is left
   pub none_left : length names ≤ i → Decides true (AreDistinct names)
   none_left past =
-      subst (λ b. Decides b (AreDistinct names)) (sym so_far ∙ ap (are_new (texts keys)) (drop_past names i past))
+      subst (λ b. Decides b (AreDistinct names)) (sym so_far ∙ ap (are_new (texts keys)) (drop_all i names past))
       (distinct_decides names)
 
 -- ---- what the set answers

@@ -1,7 +1,7 @@
 -- Loops that append what is made of each item of a list, one after another.
 use Rattle.std.proofs.Common.{◌≡◌, ℕ, ◌+◌, ◌<◌, ◌≤◌, List, [], ◌∷◌, ◌++◌, map, length, get_or, drop, ap, sym, ◌∙◌, append_assoc, append-nil}
 use Rattle.std.proofs.lemmas.List.{map-append}
-use Rattle.rob_model.proofs.PartLemmas.{drop_at, drop_past}
+use Rattle.rob_model.proofs.PartLemmas.{drop_at, drop_all}
 
 module _ {A : Type 0} where
   -- what stands behind a list with one item more
@@ -28,5 +28,5 @@ module _ {X Y B C : Type 0} (view : Y → B) (of : X → C) (f : C → B) (xs : 
       → map view done ++ map f (map of (drop i xs)) ≡ all → map view done ≡ all
   mapped_all i done h so_far =
       sym (append-nil (map view done))
-      ∙ ap (λ l. map view done ++ map f (map of l)) (sym (drop_past xs i h))
+      ∙ ap (λ l. map view done ++ map f (map of l)) (sym (drop_all i xs h))
       ∙ so_far

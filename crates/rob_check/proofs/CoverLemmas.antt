@@ -8,7 +8,7 @@ use Rattle.rob_cert.specs.declared.certificate.Cover.{Cover}
 use Rattle.rob_meaning.specs.Certificates as meaning
 use Rattle.rob_meaning.specs.Clearing.{fractions}
 use Rattle.rob_meaning.specs.Places.{0ℚ, at}
-use Rattle.rob_model.proofs.PartLemmas.{drop_at, drop_past}
+use Rattle.rob_model.proofs.PartLemmas.{drop_at, drop_all}
 use Rattle.rob_model.specs.Within.{◌>>=◌}
 use Rattle.rob_sets.specs.declared.set_form.SetForm.{SetForm}
 use Rattle.rob_sets.specs.declared.set_form.SetRow.{SetRow}
@@ -122,7 +122,7 @@ module _ {N : Type 0} (value : N → Fraction) (limit : ℕ) (bound : Fraction) 
       ∙ sym (only (with_part limit so_far (kept limit (bound *ℚ at (map of_int row) (j + 1)))))
       ∙ sym (ap₂ (λ (xs : List N) (es : List Fraction).
       added_within limit so_far (products limit (map value xs ++ bound ∷ []) es))
-      (drop_past columns j (omega arith)) (row_split row (j + 1) some))
+      (drop_all j columns (omega arith)) (row_split row (j + 1) some))
     where
       only : (o : Option Fraction) → (o >>= (λ next. Some next)) ≡ o
       only None = refl

@@ -8,7 +8,7 @@ use Rattle.rob_meaning.specs.RobustModel.{RobustModel, Parameter}
 use Rattle.rob_meaning.specs.SetConditions.{SetCondition, lower_bound, upper_bound, stated, if_declared, bounds_from, all_stated}
 use Rattle.rob_model.specs.View.{parameter_of, set_line_of, member_of}
 use Rattle.rob_model.specs.Within.{◌>>=◌, holds_within, declared_within, deviation_within, total_within, first_within}
-use Rattle.rob_model.proofs.PartLemmas.{drop_at, drop_past, stops, goes}
+use Rattle.rob_model.proofs.PartLemmas.{drop_at, drop_all, stops, goes}
 use Rattle.rob_model.specs.declared.model.Member.{Member}
 use Rattle.rob_model.specs.declared.model.Param.{Param}
 use Rattle.rob_model.specs.declared.model.SetLine.{SetLine}
@@ -165,7 +165,7 @@ module _ (limit : ℕ) (m : RobustModel) (s : Fraction) (p : List Fraction) wher
         → Some so_far ≡ total_left hs i so_far
     total_ends hs i so_far h =
         ap (λ (xs : List (Member N)). total_within limit m s p (map (member_of value) xs) so_far)
-        (sym (drop_past hs i h))
+        (sym (drop_all i hs h))
 
 -- ---- two lists of conditions
 -- the first that fails in the second list, where none does in the first

@@ -14,7 +14,7 @@ use Rattle.rob_model.specs.declared.group.Kind.TheVariants.{Form, Column, SetRow
 use Rattle.rob_model.proofs.FlatNames.{by_statement, flat_conditions, flat_columns, flat, flat_is}
 use Rattle.std.proofs.lemmas.Grind.{common_steps}
 use Rattle.rob_model.proofs.KeptLemmas.{some_is}
-use Rattle.rob_model.proofs.PartLemmas.{drop_past}
+use Rattle.rob_model.proofs.PartLemmas.{drop_all}
 
 -- ---- the groups are the names
 together-append : (xs ys : List (List Name)) → together (xs ++ ys) ≡ together xs ++ together ys
@@ -93,7 +93,7 @@ module _ (kind : Kind) (m : RobustModel) where
   left_all = group_first (groups kind m) ∙ together-names m kind
 
   pub left_none : (i : ℕ) → length (groups kind m) ≤ i → names_left kind m i ≡ []
-  left_none i h = ap together (drop_past (groups kind m) i h)
+  left_none i h = ap together (drop_all i (groups kind m) h)
 
   pub left_more : (i : ℕ) (g : List Name) → slice_get (groups kind m) i ≡ Some g
       → names_left kind m i ≡ g ++ names_left kind m (i + 1)

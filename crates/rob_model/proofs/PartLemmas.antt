@@ -3,7 +3,7 @@ use Rattle.std.proofs.Common.{◌≡◌, ℕ, suc, ◌+◌, zero, ◌<◌, List,
 use Rattle.std.specs.Prelude.{Option, Some, None, slice_get}
 use Rattle.rob_algebra.specs.Fraction.{Fraction, ◌*ℚ◌}
 use Rattle.rob_algebra.specs.Width.{kept}
-pub use Rattle.rob_algebra.proofs.ListLemmas.{drop_at, drop_past}
+pub use Rattle.rob_algebra.proofs.ListLemmas.{drop_at, drop_all}
 use Rattle.rob_meaning.specs.Expressions.{Expression, term, factor}
 use Rattle.rob_meaning.specs.Places.{Each}
 use Rattle.rob_meaning.specs.RobustModel.{RobustModel}

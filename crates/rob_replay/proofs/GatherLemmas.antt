@@ -1,7 +1,7 @@
 -- One thing more, or many.
 use Rattle.std.proofs.Common.{◌≡◌, ℕ, ◌+◌, ◌≤◌, List, [], ◌∷◌, ◌++◌, map, length, drop, refl, sym, ap, ◌∙◌, append_assoc, append-nil}
 use Rattle.std.specs.Prelude.{Option, Some, None}
-use Rattle.rob_model.proofs.PartLemmas.{drop_past}
+use Rattle.rob_model.proofs.PartLemmas.{drop_all}
 use Rattle.rob_model.specs.Within.{◌>>=◌}
 use Rattle.rob_replay.specs.Gathering.{all_of, gathered}
 
@@ -63,7 +63,7 @@ module _ {A B : Type 0} (f : A → Option B) (xs : List A) (i : ℕ) where
   pub left_past : (so_far : List B) (o : Option (List B)) → length xs ≤ i
       → gathered so_far (map f (drop i xs)) ≡ o → o ≡ Some so_far
   left_past so_far o h e =
-      sym e ∙ ap (λ l. gathered so_far (map f l)) (drop_past xs i h) ∙ gathered_end so_far
+      sym e ∙ ap (λ l. gathered so_far (map f l)) (drop_all i xs h) ∙ gathered_end so_far
 
   module _ (x : A) (split : drop i xs ≡ x ∷ drop (i + 1) xs) where
     pub left_more : (so_far : List B) (y : B) → f x ≡ Some y

@@ -3,7 +3,7 @@ use Rattle.std.proofs.Common.{◌≡◌, ℕ, zero, suc, ◌+◌, ◌≤◌, Lis
 use Rattle.std.specs.Prelude.{Option, Some, None, bytes_eq}
 use Rattle.csv.specs.Records.{field_at}
 use Rattle.rob_meaning.specs.Names.{Name}
-use Rattle.rob_model.proofs.PartLemmas.{drop_past}
+use Rattle.rob_model.proofs.PartLemmas.{drop_all}
 use Rattle.rob_algebra.specs.Fraction.{Fraction}
 use Rattle.rob_meaning.specs.RobustModel.{Parameter}
 use Rattle.rob_model.specs.View.{parameter_of}
@@ -39,7 +39,7 @@ module _ (fields : List Name) (i : ℕ) (f name : Name) (is : drop i fields ≡ 
 
 pub place_none : (fields : List Name) (i : ℕ) (name : Name) → length fields ≤ i
     → place_from i (drop i fields) name ≡ None
-place_none fields i name h = rw (drop_past fields i h) refl
+place_none fields i name h = rw (drop_all i fields h) refl
 
 -- the place of a parameter's name
 abbrev pub named_place : {N : Type 0} → (N → Fraction) → List Name → Param N → Option ℕ

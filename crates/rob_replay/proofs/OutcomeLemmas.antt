@@ -4,7 +4,7 @@ use Rattle.std.specs.Prelude.{Option, Some, None, Result, Ok, Err, nat_le, optio
 use Rattle.std.proofs.lemmas.List.{length-map}
 use Rattle.rob_algebra.specs.Fraction.{Fraction}
 use Rattle.rob_meaning.specs.RobustModel.{RobustModel}
-use Rattle.rob_model.proofs.PartLemmas.{drop_at, drop_past}
+use Rattle.rob_model.proofs.PartLemmas.{drop_at, drop_all}
 use Rattle.rob_model.specs.Naming.{parameter_names}
 use Rattle.rob_replay.proofs.LineLemmas.{all_count}
 use Rattle.rob_replay.specs.Files.{IsFile}
@@ -31,7 +31,7 @@ module _ {R : Type 0} (fields : R → List (List ℕ)) (limit : ℕ) (m : Robust
       → behind so_far (records_outcome limit m plan places (i + 2) (map fields (drop i rows))) ≡ Ok so_far
   records_end h =
       ap (λ (l : List R). behind so_far (records_outcome limit m plan places (i + 2) (map fields l)))
-      (drop_past rows i h)
+      (drop_all i rows h)
       ∙ ap Ok (append-nil so_far)
 
   module _ (row : R) (inside : i < length rows) (is : row ≡ get_or rows i row) where

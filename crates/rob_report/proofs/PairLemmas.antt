@@ -4,7 +4,7 @@ use Rattle.std.proofs.Math.Seq.{drop-cons}
 use Rattle.std.proofs.Math.Nat.{min-eq_left, min-eq_right}
 use Rattle.std.proofs.lemmas.Bool.{cases_lt}
 use Rattle.std.specs.Prelude.{min}
-use Rattle.rob_model.proofs.PartLemmas.{drop_past}
+use Rattle.rob_model.proofs.PartLemmas.{drop_all}
 use Rattle.rob_report.specs.Lines.{for_pairs}
 
 -- the items from a place on are the item there and those behind it
@@ -38,8 +38,8 @@ module _ {A B : Type 0} (piece : A → B → List ℕ) where
       sym (append-nil old)
       ∙ ap (λ t. old ++ t) (sym (no_pair (drop i xs) (drop i ys) (elim (cases_lt (length xs) (length ys)) [
         | inl lt ↦ inl
-            (drop_past xs i (omega (arith, h, min-eq_left {n = length xs} {m = length ys} (omega (arith, lt)))))
+            (drop_all i xs (omega (arith, h, min-eq_left {n = length xs} {m = length ys} (omega (arith, lt)))))
         | inr ge ↦ inr
-            (drop_past ys i (omega (arith, h, min-eq_right {n = length ys} {m = length xs} (omega (arith, ge)))))
+            (drop_all i ys (omega (arith, h, min-eq_right {n = length ys} {m = length xs} (omega (arith, ge)))))
       ])))
       ∙ before

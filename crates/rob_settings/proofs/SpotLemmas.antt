@@ -2,7 +2,7 @@
 use Rattle.std.proofs.Common.{◌≡◌, ℕ, zero, suc, ◌+◌, ◌-◌, ◌<◌, ◌≤◌, Bool, true, false, List, [], ◌∷◌, ◌++◌, length, map, take, drop, get_or, refl, sym, ap, ◌∙◌, subst, append_assoc, append-nil, arith}
 use Rattle.std.specs.Prelude.{ℤ, Result, Ok, Err, IfOk, ◌&&◌, not, if◌then◌else◌}
 use Rattle.std.proofs.lemmas.List.{at_drop_more}
-use Rattle.rob_algebra.proofs.ListLemmas.{drop_past}
+use Rattle.rob_algebra.proofs.ListLemmas.{drop_all}
 use Rattle.rob_syntax.specs.Plain.{is_nothing}
 use Rattle.rob_index.specs.Forms.{extensions}
 use Rattle.rob_index.proofs.LinesRead.ListLemmas.{both_true}
@@ -172,4 +172,4 @@ place_apart xs ks i k one inside is one_is =
     picks_more xs ks i k inside is ∙ ap (λ (l : List Item). l ++ picks xs (drop (i + 1) ks)) (sym one_is)
 
 pub places_none : (xs : List Item) (ks : List ℕ) (i : ℕ) → length ks ≤ i → picks xs (drop i ks) ≡ []
-places_none xs ks i all = ap (picks xs) (drop_past ks i all)
+places_none xs ks i all = ap (picks xs) (drop_all i ks all)

@@ -4,7 +4,7 @@ use Rattle.std.proofs.lemmas.List.{append-nil}
 use Rattle.rob_algebra.specs.Fraction.{Fraction}
 use Rattle.rob_dualize.specs.Models.{IsWideIn}
 use Rattle.rob_meaning.specs.RobustModel.{RobustModel}
-use Rattle.rob_model.proofs.PartLemmas.{drop_at, drop_past}
+use Rattle.rob_model.proofs.PartLemmas.{drop_at, drop_all}
 use Rattle.rob_model.specs.declared.place.Spot.{Spot}
 use Rattle.rob_reach.specs.Sweeps.{Answers, SweepAnswer, Swept, with_budget}
 use Rattle.rob_sweep.specs.Answering.{AreWritten, EachAnswer, NamesEmpty}
@@ -81,7 +81,7 @@ module _ (limit : ℕ) (m : RobustModel) (n : ℕ) where
       → EachAnswer (IsAnswered limit) m n all answers
   none_left {X} value limits i all number answers h swept =
       has_swept_all all number answers
-      (subst (λ (xs : List X). HasSwept limit m n all (map value xs) number answers) (drop_past limits i h) swept)
+      (subst (λ (xs : List X). HasSwept limit m n all (map value xs) number answers) (drop_all i limits h) swept)
 
   -- one limit more
   pub has_swept_more : (all others : List Fraction) (g : Fraction) (number next : ℕ)

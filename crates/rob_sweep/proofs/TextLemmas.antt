@@ -2,7 +2,7 @@
 use Rattle.std.proofs.Common.{◌≡◌, ℕ, ◌+◌, ◌<◌, ◌≤◌, List, ◌++◌, map, length, get_or, drop, ap, ap₂, sym, ◌∙◌, append_assoc}
 use Rattle.std.proofs.lemmas.List.{append-nil}
 use Rattle.rob_algebra.specs.Fraction.{Fraction}
-use Rattle.rob_model.proofs.PartLemmas.{drop_at, drop_past}
+use Rattle.rob_model.proofs.PartLemmas.{drop_at, drop_all}
 use Rattle.rob_reach.specs.Sweeps.{SweepAnswer}
 use Rattle.rob_sweep.specs.SweepText.{answer_line, sweep_text}
 
@@ -24,5 +24,5 @@ module _ {X Y : Type 0} (value : X → Fraction) (view : Y → SweepAnswer) (lim
       → text ++ sweep_text (map value (drop i limits)) (map view (drop i answers)) ≡ all → text ≡ all
   text_all text h so_far =
       sym (append-nil text)
-      ∙ ap (λ (xs : List X). text ++ sweep_text (map value xs) (map view (drop i answers))) (sym (drop_past limits i h))
+      ∙ ap (λ (xs : List X). text ++ sweep_text (map value xs) (map view (drop i answers))) (sym (drop_all i limits h))
       ∙ so_far

@@ -4,7 +4,7 @@ use Rattle.std.specs.Prelude.{Option, Some}
 use Rattle.std.specs.List.{flat_map}
 use Rattle.rob_meaning.specs.Places.{Each}
 use Rattle.rob_meaning.specs.RobustModel.{RobustModel, Row, SetLine, joint_parameters}
-use Rattle.rob_model.proofs.PartLemmas.{drop_at, drop_past}
+use Rattle.rob_model.proofs.PartLemmas.{drop_at, drop_all}
 use Rattle.rob_rules.specs.declared.sort.Sort.{Sort}
 use Rattle.rob_rules.specs.declared.scope.Scope.{Scope}
 use Rattle.rob_syntax.specs.declared.syntax.Goal.{Goal}
@@ -147,7 +147,7 @@ module _ (words : List (List ℕ)) (scope : Scope) (all : List Statement) where
       → Grows (drop i all) m
       → n ≡ record m { parameters = joint_parameters m.parameters m.sets } → n ≡ model_of words sorts all
   grows_end i m n fits past so_far joined =
-      let g : Grows [] m = subst (λ l. Grows l m) (drop_past all i past) so_far in
+      let g : Grows [] m = subst (λ l. Grows l m) (drop_all i all past) so_far in
       let ps = sym (append-nil m.parameters) ∙ g.parameters_are in
       let names = sym (append-nil m.sets) ∙ g.sets_are in
       joined

@@ -3,7 +3,7 @@ use Rattle.std.proofs.Common.{◌≡◌, ℕ, ◌+◌, ◌<◌, ◌≤◌, List,
 use Rattle.std.specs.Prelude.{Option, None, zero, suc}
 use Rattle.rob_meaning.specs.Expressions.{Expression, term, factor}
 use Rattle.rob_model.specs.View.{Signed as SignedPart, terms_of, factors_of}
-use Rattle.rob_model.proofs.PartLemmas.{drop_at, drop_past}
+use Rattle.rob_model.proofs.PartLemmas.{drop_at, drop_all}
 use Rattle.rob_rules.specs.declared.sort.Sort.{Sort}
 use Rattle.rob_syntax.specs.declared.syntax.Member.{Member}
 use Rattle.rob_syntax.specs.declared.syntax.Syntax.{Syntax}
@@ -35,7 +35,7 @@ module _ {A B C : Type 0} (g : A → C) (f : B → C) where
   pub map_end : (list : List A) (xs : List B) (i : ℕ) → length xs ≤ i → map g list ++ map f (drop i xs) ≡ map f xs
       → map g list ≡ map f xs
   map_end list xs i all so_far =
-      sym (append-nil (map g list)) ∙ ap (λ (l : List B). map g list ++ map f l) (sym (drop_past xs i all)) ∙ so_far
+      sym (append-nil (map g list)) ∙ ap (λ (l : List B). map g list ++ map f l) (sym (drop_all i xs all)) ∙ so_far
 
 module _ (sorts : List (Option Sort)) (count S : ℕ) where
   -- a part of a sum as the set takes it, with its sign

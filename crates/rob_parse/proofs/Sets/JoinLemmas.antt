@@ -5,7 +5,7 @@ use Rattle.std.proofs.Math.ListN.{get_or-append}
 use Rattle.std.proofs.Math.Seq.{take-suc}
 use Rattle.std.proofs.lemmas.List.{length-map, map-append, take-append-le}
 use Rattle.rob_algebra.proofs.ListLemmas.{long_enough}
-use Rattle.rob_model.proofs.PartLemmas.{drop_at, drop_past}
+use Rattle.rob_model.proofs.PartLemmas.{drop_at, drop_all}
 
 get_or_map : {A P : Type 0} (view : A → P) (xs : List A) (k : ℕ) (x : A) → k < length xs → x ≡ get_or xs k x
     → view x ≡ get_or (map view xs) k (view x)
@@ -55,7 +55,7 @@ module _ {P : Type 0} (copy : List ℕ → P → P) (base : List P) (sets : List
 
   pub sets_end : (all now : List P) (i : ℕ) → length sets ≤ i → now ++ copies copy base (drop i sets) ≡ all → now ≡ all
   sets_end all now i past so_far =
-      sym (append-nil now) ∙ ap (λ (l : List (List ℕ)). now ++ copies copy base l) (sym (drop_past sets i past))
+      sym (append-nil now) ∙ ap (λ (l : List (List ℕ)). now ++ copies copy base l) (sym (drop_all i sets past))
       ∙ so_far
 
 pub front_stays : {A P : Type 0} (view : A → P) (base : List P) (now : List A) (zs : List P) (n : ℕ) {next : List P}

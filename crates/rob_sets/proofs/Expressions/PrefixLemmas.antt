@@ -13,7 +13,7 @@ use Rattle.rob_meaning.proofs.Tables.TableLemmas.{table_times-assoc, times_comm}
 use Rattle.rob_model.specs.View.{Signed, expression_of, signed_of, terms_of, factors_of}
 use Rattle.rob_model.specs.declared.expr.Expr.{Expr}
 use Rattle.rob_model.specs.declared.expr.Term.{Term}
-use Rattle.rob_model.proofs.PartLemmas.{terms_at, factors_at, signed_is, drop_past}
+use Rattle.rob_model.proofs.PartLemmas.{terms_at, factors_at, signed_is, drop_all}
 use Rattle.rob_sets.specs.Subexpressions.{with_term, with_factor, sums_from, products_from, subexpressions}
 use Rattle.rob_sets.proofs.Cells.ListLemmas.{take_one_more}
 use Rattle.rob_sets.proofs.Cells.PartedLemmas.{Parted}
@@ -97,14 +97,14 @@ module _ {N : Type 0} (value : N → Fraction) where
       → (first_terms ts i ≡ terms_of (map (signed_of value) ts)) × (other_terms ts i ≡ no_terms)
   terms_end ts i h = (
     ap (λ (xs : List (Term N)). terms_of (map (signed_of value) xs)) (take_all i ts h),
-    ap (λ (xs : List (Term N)). terms_of (map (signed_of value) xs)) (drop_past ts i h),
+    ap (λ (xs : List (Term N)). terms_of (map (signed_of value) xs)) (drop_all i ts h),
   )
 
   pub factors_end : (fs : List (Expr N)) (i : ℕ) → length fs ≤ i
       → (first_factors fs i ≡ factors_of (map (expression_of value) fs)) × (other_factors fs i ≡ no_factors)
   factors_end fs i h = (
     ap (λ (xs : List (Expr N)). factors_of (map (expression_of value) xs)) (take_all i fs h),
-    ap (λ (xs : List (Expr N)). factors_of (map (expression_of value) xs)) (drop_past fs i h),
+    ap (λ (xs : List (Expr N)). factors_of (map (expression_of value) xs)) (drop_all i fs h),
   )
 
   -- ---- the table of one term or one factor more

@@ -12,7 +12,7 @@ use Rattle.rob_meaning.specs.SetRows as lifted
 use Rattle.rob_meaning.specs.SetRows.{budget_row, down_row, member_rows, members_sum, up_row}
 use Rattle.rob_model.specs.View.{member_of}
 use Rattle.rob_model.specs.declared.model.Member.{Member as MemberData}
-use Rattle.rob_model.proofs.PartLemmas.{drop_at, drop_past}
+use Rattle.rob_model.proofs.PartLemmas.{drop_at, drop_all}
 use Rattle.rob_sets.specs.Appending.{row_of}
 use Rattle.rob_sets.proofs.WholeRows.BoundLemmas.{row_same, minus_minus}
 use Rattle.rob_sets.proofs.Cells.PartedLemmas.{Parted}
@@ -102,4 +102,4 @@ module _ {N : Type 0} (value : N → Fraction) where
   pub members_end : (hs : List (MemberData N)) (t i : ℕ) (last : lifted.SetRow) → length hs ≤ i
       → other_members hs t i ++ last ∷ [] ≡ last ∷ []
   members_end hs t i last h =
-      ap (λ (xs : List (MemberData N)). member_rows t (map (member_of value) xs) ++ last ∷ []) (drop_past hs i h)
+      ap (λ (xs : List (MemberData N)). member_rows t (map (member_of value) xs) ++ last ∷ []) (drop_all i hs h)

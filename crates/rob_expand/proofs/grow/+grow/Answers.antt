@@ -2,7 +2,7 @@ use Rattle.std.proofs.Common.{◌≡◌, ap, ◌∙◌}
 use Rattle.std.specs.Prelude.{fold}
 use Rattle.std.specs.List.{list_any}
 use Rattle.std.proofs.lemmas.Result.{IfOk-weaker, on_ok_weaker}
-use Rattle.rob_algebra.proofs.ListLemmas.{drop_at, drop_past}
+use Rattle.rob_algebra.proofs.ListLemmas.{drop_at, drop_all}
 use Rattle.rob_index.specs.Forms.{values_of}
 use Rattle.rob_index.specs.Rules.{is_long_name}
 use Rattle.rob_syntax.specs.Known.{texts}
@@ -30,7 +30,7 @@ grow_parts-loop-part-preserved t c =
 pub grow_parts-returns : goal.grow_parts-returns
 grow_parts-returns t c =
     let f = part_names_at (texts c.args.own.now.keys) c.args.values.now in
-    let none = drop_past c.args.parts.now c.loop-part.part-index c.loop-part-test.false in
+    let none = drop_all c.loop-part.part-index c.args.parts.now c.loop-part-test.false in
     let all = parts_named (texts c.args.own.now.keys) c.args.values.now c.args.parts.now in
     record {
       words = words_are f _ (texts c.args.words.now.keys) _ _ _ none all c.loop-part.invariant.words;
@@ -53,7 +53,7 @@ grow_factors-loop-factor-preserved t c =
 pub grow_factors-returns : goal.grow_factors-returns
 grow_factors-returns t c =
     let f = factor_names_at (texts c.args.own.now.keys) c.args.values.now in
-    let none = drop_past c.args.factors.now c.loop-factor.factor-index c.loop-factor-test.false in
+    let none = drop_all c.loop-factor.factor-index c.args.factors.now c.loop-factor-test.false in
     let all = factors_named (texts c.args.own.now.keys) c.args.values.now c.args.factors.now in
     record {
       words = words_are f _ (texts c.args.words.now.keys) _ _ _ none all c.loop-factor.invariant.words;

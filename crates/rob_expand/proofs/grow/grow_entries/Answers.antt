@@ -1,7 +1,7 @@
 use Rattle.std.proofs.Common.{List, ap, sym, ◌∙◌, [], ◌∷◌}
 use Rattle.std.specs.Prelude.{ℤ, fold}
 use Rattle.std.specs.List.{list_any}
-use Rattle.rob_algebra.proofs.ListLemmas.{drop_at, drop_past}
+use Rattle.rob_algebra.proofs.ListLemmas.{drop_at, drop_all}
 use Rattle.rob_index.specs.Rules.{is_long_name}
 use Rattle.rob_syntax.specs.Known.{texts}
 use Rattle.rob_expand.specs.Growing.{add_name, named_at}
@@ -30,7 +30,7 @@ loop-setting-preserved c =
 pub returns : goal.returns
 returns c =
     let f = (λ (e : List ℤ). named_at (texts c.args.own.now.keys) c.args.name.now e ∷ []) in
-    let none = drop_past c.args.settings.now c.loop-setting.setting-index c.loop-setting-test.false in
+    let none = drop_all c.loop-setting.setting-index c.args.settings.now c.loop-setting-test.false in
     let same = map_flat (named_at (texts c.args.own.now.keys) c.args.name.now) c.args.settings.now in
     record {
       words =

@@ -1,7 +1,7 @@
 use Rattle.std.proofs.Common.{◌≡◌, List, ap, ◌∙◌, map}
 use Rattle.std.specs.Prelude.{ℤ, fold}
 use Rattle.std.specs.List.{list_any}
-use Rattle.rob_algebra.proofs.ListLemmas.{drop_at, drop_past}
+use Rattle.rob_algebra.proofs.ListLemmas.{drop_at, drop_all}
 use Rattle.rob_index.specs.Rules.{is_long_name}
 use Rattle.rob_syntax.specs.Known.{texts}
 use Rattle.rob_index.specs.Forms.{extensions}
@@ -34,7 +34,7 @@ loop-item-preserved c =
 pub returns : goal.returns
 returns c =
     let f = (λ (x : Item). item_names (texts c.args.own.now.keys) x c.args.values.now) in
-    let none = drop_past c.args.items.now c.loop-item.item-index c.loop-item-test.false in
+    let none = drop_all c.loop-item.item-index c.args.items.now c.loop-item-test.false in
     record {
       words = words_all f _ _ none c.loop-item.invariant.words;
       long = long_all f c.loop-item.long _ none c.loop-item.invariant.long;

@@ -1,7 +1,7 @@
 use Rattle.std.proofs.Common.{List, ap, ◌∙◌}
 use Rattle.std.specs.Prelude.{ℤ, fold}
 use Rattle.std.specs.List.{list_any}
-use Rattle.rob_algebra.proofs.ListLemmas.{drop_at, drop_past}
+use Rattle.rob_algebra.proofs.ListLemmas.{drop_at, drop_all}
 use Rattle.rob_index.specs.Rules.{is_long_name}
 use Rattle.rob_syntax.specs.Known.{texts}
 use Rattle.rob_index.specs.Statements.{Name}
@@ -44,7 +44,7 @@ loop-spot-preserved c =
 pub returns : goal.returns
 returns c =
     let f : Spot → List Name = λ (s : Spot). line_names (texts c.args.own.now.keys) c.args.line.now s.values in
-    let none = drop_past c.args.spots.now c.loop-spot.spot-index c.loop-spot-test.false in
+    let none = drop_all c.loop-spot.spot-index c.args.spots.now c.loop-spot-test.false in
     record {
       words = words_all f _ _ none c.loop-spot.invariant.words;
       long = long_all f c.loop-spot.long _ none c.loop-spot.invariant.long;

@@ -1,4 +1,4 @@
-use Rattle.rob_algebra.proofs.ListLemmas.{drop_at, drop_past}
+use Rattle.rob_algebra.proofs.ListLemmas.{drop_at, drop_all}
 use Rattle.rob_syntax.specs.Known.{texts}
 use Rattle.rob_expand.proofs.Expanding.NameLemmas.{factor_names_at}
 use Rattle.rob_expand.proofs.Walks.WalkLemmas.{words_more, words_all, long_more, long_all}
@@ -20,7 +20,7 @@ loop-tree-preserved c =
 pub returns : goal.returns
 returns c =
     let f = factor_names_at (texts c.args.own.now.keys) c.args.values.now in
-    let none = drop_past c.args.trees.now c.loop-tree.tree-index c.loop-tree-test.false in
+    let none = drop_all c.loop-tree.tree-index c.args.trees.now c.loop-tree-test.false in
     record {
       words = words_all f _ _ none c.loop-tree.invariant.words;
       long = long_all f c.loop-tree.long _ none c.loop-tree.invariant.long;

@@ -1,6 +1,6 @@
 use Rattle.std.proofs.Common.{ℕ, List, [], ◌∷◌, ◌++◌, ap, sym, ◌∙◌}
 use Rattle.std.specs.Prelude.{ℤ}
-use Rattle.rob_algebra.proofs.ListLemmas.{drop_at, drop_past}
+use Rattle.rob_algebra.proofs.ListLemmas.{drop_at, drop_all}
 use Rattle.rob_syntax.specs.declared.syntax.Member.{Member}
 use Rattle.rob_syntax.specs.Known.{texts}
 use Rattle.rob_expand.specs.Making.{entry_at}
@@ -26,6 +26,6 @@ returns c = record {
       let f : List ℤ → Member =
       entry_at (texts c.args.names.own.now.keys) (texts c.args.names.words.now.keys) c.args.name.now c.args.spread in
       made_all (λ (e : List ℤ). f e ∷ []) c.loop-setting.members _
-      (drop_past c.args.settings.now c.loop-setting.setting-index c.loop-setting-test.false) c.loop-setting.invariant
+      (drop_all c.loop-setting.setting-index c.args.settings.now c.loop-setting-test.false) c.loop-setting.invariant
       ∙ ap (λ (l : List Member). c.args.members.now ++ l) (sym (map_flat f c.args.settings.now));
 }

@@ -1,6 +1,6 @@
 use Rattle.std.proofs.Common.{List, [], ◌∷◌, ◌++◌, ap, sym, ◌∙◌}
 use Rattle.std.specs.Prelude.{ℤ}
-use Rattle.rob_algebra.proofs.ListLemmas.{drop_at, drop_past}
+use Rattle.rob_algebra.proofs.ListLemmas.{drop_at, drop_all}
 use Rattle.rob_syntax.specs.declared.syntax.Statement.{Statement}
 use Rattle.rob_syntax.specs.Known.{texts}
 use Rattle.rob_syntax.specs.Numbered.{numbered}
@@ -44,6 +44,6 @@ returns c =
     record {
       appended =
           made_all (λ (s : Spot). f s ∷ []) c.loop-spot.list _
-          (drop_past c.args.spots.now c.loop-spot.spot-index c.loop-spot-test.false) c.loop-spot.invariant
+          (drop_all c.loop-spot.spot-index c.args.spots.now c.loop-spot-test.false) c.loop-spot.invariant
           ∙ ap (λ (l : List Statement). c.args.list.now ++ l) (sym (map_flat f c.args.spots.now));
     }

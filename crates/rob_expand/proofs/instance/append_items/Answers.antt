@@ -1,6 +1,6 @@
 use Rattle.std.proofs.Common.{◌≡◌, ℕ, List, ◌++◌, map, ap, sym, ◌∙◌}
 use Rattle.std.specs.Prelude.{ℤ}
-use Rattle.rob_algebra.proofs.ListLemmas.{drop_at, drop_past}
+use Rattle.rob_algebra.proofs.ListLemmas.{drop_at, drop_all}
 use Rattle.rob_index.specs.Forms.{extensions}
 use Rattle.rob_syntax.specs.Known.{texts}
 use Rattle.rob_syntax.specs.Symbols.{number_of}
@@ -28,7 +28,7 @@ returns c = record {
   numbers =
       made_all (item_made (texts c.args.names.own.now.keys) (texts c.args.names.words.now.keys) c.args.values.now)
       c.loop-item.numbers _
-      (drop_past c.args.items.now c.loop-item.item-index c.loop-item-test.false) c.loop-item.invariant
+      (drop_all c.loop-item.item-index c.args.items.now c.loop-item-test.false) c.loop-item.invariant
       ∙ ap (λ (l : List ℕ). c.args.numbers.now ++ l)
       (sym (numbers_made (texts c.args.names.own.now.keys) (texts c.args.names.words.now.keys) c.args.values.now
       c.args.items.now));

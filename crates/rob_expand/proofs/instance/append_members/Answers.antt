@@ -1,6 +1,6 @@
 use Rattle.std.proofs.Common.{◌≡◌, ℕ, List, [], ◌++◌, map, ap, sym, ◌∙◌}
 use Rattle.std.specs.Prelude.{ℤ}
-use Rattle.rob_algebra.proofs.ListLemmas.{drop_at, drop_past}
+use Rattle.rob_algebra.proofs.ListLemmas.{drop_at, drop_all}
 use Rattle.rob_index.specs.Forms.{Ends, extensions}
 use Rattle.rob_index.specs.Fast.{names_in, nest_of}
 use Rattle.rob_syntax.specs.declared.syntax.Member.{Member}
@@ -46,7 +46,7 @@ returns c = record {
       let own = (texts c.args.names.own.now.keys) in
       let words = (texts c.args.names.words.now.keys) in
       made_all (share_made own words c.args.values.now) c.loop-share.members _
-      (drop_past c.args.shares.now c.loop-share.share-index c.loop-share-test.false) c.loop-share.invariant
+      (drop_all c.loop-share.share-index c.args.shares.now c.loop-share-test.false) c.loop-share.invariant
       ∙ ap (λ (l : List Member). c.args.members.now ++ l)
       (sym (members_made own words c.args.values.now c.args.shares.now));
 }

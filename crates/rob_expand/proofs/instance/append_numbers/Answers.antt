@@ -1,6 +1,6 @@
 use Rattle.std.proofs.Common.{ℕ, List, [], ◌∷◌, ◌++◌, ap, sym, ◌∙◌}
 use Rattle.std.specs.Prelude.{ℤ}
-use Rattle.rob_algebra.proofs.ListLemmas.{map_map, drop_at, drop_past}
+use Rattle.rob_algebra.proofs.ListLemmas.{map_map, drop_at, drop_all}
 use Rattle.rob_syntax.specs.Known.{texts}
 use Rattle.rob_syntax.specs.Symbols.{number_of}
 use Rattle.rob_expand.specs.Growing.{named_at}
@@ -27,7 +27,7 @@ returns c = record {
       (named_at (texts c.args.names.own.now.keys) c.args.name.now e)
       in
       made_all (λ (e : List ℤ). f e ∷ []) c.loop-setting.numbers _
-      (drop_past c.args.settings.now c.loop-setting.setting-index c.loop-setting-test.false) c.loop-setting.invariant
+      (drop_all c.loop-setting.setting-index c.args.settings.now c.loop-setting-test.false) c.loop-setting.invariant
       ∙ ap (λ (l : List ℕ). c.args.numbers.now ++ l)
       (sym (map_map (number_of (texts c.args.names.words.now.keys))
       (named_at (texts c.args.names.own.now.keys) c.args.name.now)

@@ -1,6 +1,6 @@
 use Rattle.std.proofs.Common.{◌+◌, Bool, drop, get_or, refl, true, ap, sym, ◌∙◌}
 use Rattle.std.proofs.lemmas.Result.{err_from_is_err_and}
-use Rattle.rob_algebra.proofs.ListLemmas.{drop_past}
+use Rattle.rob_algebra.proofs.ListLemmas.{drop_all}
 use Rattle.rob_expand.specs.Lines.{items_left}
 use Rattle.rob_settings.specs.Spots.{picks}
 use Rattle.rob_settings.proofs.AnswerLemmas.{refused}
@@ -36,5 +36,5 @@ returns c = record {
   left =
       sym c.loop-k.invariant
       ∙ place_end c.args.items.now c.args.kept.now c.loop-k.k-index c.args.values.now c.loop-k.first c.loop-k.left
-      (drop_past c.args.kept.now c.loop-k.k-index c.loop-k-test.false);
+      (drop_all c.loop-k.k-index c.args.kept.now c.loop-k-test.false);
 }

@@ -1,7 +1,7 @@
 use Rattle.std.proofs.Common.{◌≡◌, [], ◌∷◌, ◌++◌, map, false, ap, sym, ◌∙◌}
 use Rattle.std.specs.Prelude.{ℤ}
 use Rattle.std.proofs.lemmas.Result.{IfOk-weaker}
-use Rattle.rob_algebra.proofs.ListLemmas.{drop_at, drop_past}
+use Rattle.rob_algebra.proofs.ListLemmas.{drop_at, drop_all}
 use Rattle.rob_index.specs.Forms.{values_of}
 use Rattle.rob_syntax.specs.declared.syntax.Syntax.{Syntax}
 use Rattle.rob_syntax.specs.Known.{texts}
@@ -36,7 +36,7 @@ make_parts-returns t c = record {
       let own = texts c.args.own.now.keys in
       let words = texts c.args.words.now.keys in
       made_all (λ (x : CodePart). part_made own words c.args.values.now x ∷ []) c.loop-part.made _
-      (drop_past c.args.parts.now c.loop-part.part-index c.loop-part-test.false) c.loop-part.invariant
+      (drop_all c.loop-part.part-index c.args.parts.now c.loop-part-test.false) c.loop-part.invariant
       ∙ sym (parts_made own words c.args.values.now c.args.parts.now);
 }
 
@@ -58,7 +58,7 @@ make_factors-returns t c = record {
       let own = texts c.args.own.now.keys in
       let words = texts c.args.words.now.keys in
       made_all (λ (x : Code). factor_made own words c.args.values.now x ∷ []) c.loop-factor.made _
-      (drop_past c.args.factors.now c.loop-factor.factor-index c.loop-factor-test.false) c.loop-factor.invariant
+      (drop_all c.loop-factor.factor-index c.args.factors.now c.loop-factor-test.false) c.loop-factor.invariant
       ∙ sym (factors_made own words c.args.values.now c.args.factors.now);
 }
 

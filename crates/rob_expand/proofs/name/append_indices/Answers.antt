@@ -1,4 +1,4 @@
-use Rattle.rob_algebra.proofs.ListLemmas.{drop_at, drop_past}
+use Rattle.rob_algebra.proofs.ListLemmas.{drop_at, drop_all}
 use Rattle.rob_expand.specs.Growing.{index_bytes}
 use Rattle.rob_expand.proofs.Walks.WalkLemmas.{made_more, made_all}
 use Rattle.rob_expand.proofs.name.append_indices.Goals as goal
@@ -13,5 +13,5 @@ pub returns : goal.returns
 returns c = record {
   appended =
       made_all (index_bytes c.args.values.now) c.loop-form.bytes.items _
-      (drop_past c.args.forms.now c.loop-form.form-index c.loop-form-test.false) c.loop-form.invariant;
+      (drop_all c.loop-form.form-index c.args.forms.now c.loop-form-test.false) c.loop-form.invariant;
 }

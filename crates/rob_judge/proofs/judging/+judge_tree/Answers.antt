@@ -1,7 +1,7 @@
 use Rattle.std.proofs.Common.{◌≡◌, ◌∷◌, ap, sym, ◌∙◌}
 use Rattle.std.specs.Prelude.{ℤ}
 use Rattle.std.proofs.lemmas.Result.{IfOk-weaker}
-use Rattle.rob_algebra.proofs.ListLemmas.{drop_at, drop_past}
+use Rattle.rob_algebra.proofs.ListLemmas.{drop_at, drop_all}
 use Rattle.rob_index.specs.Forms.{values_of}
 use Rattle.rob_expand.specs.Placed.{Placed, over, placed_of}
 use Rattle.rob_expand.specs.Judging.{worst, length_found, range_found, tree_found}
@@ -21,7 +21,7 @@ judge_parts-loop-part-preserved t c =
 
 pub judge_parts-returns : goal.judge_parts-returns
 judge_parts-returns t c =
-    let none = drop_past c.args.parts.now c.loop-part.part-index c.loop-part-test.false in
+    let none = drop_all c.loop-part.part-index c.args.parts.now c.loop-part-test.false in
     record {
       found =
           worst_all (part_found c.args.values.now) c.loop-part.found _ none c.loop-part.invariant
@@ -37,7 +37,7 @@ judge_factors-loop-factor-preserved t c =
 
 pub judge_factors-returns : goal.judge_factors-returns
 judge_factors-returns t c =
-    let none = drop_past c.args.factors.now c.loop-factor.factor-index c.loop-factor-test.false in
+    let none = drop_all c.loop-factor.factor-index c.args.factors.now c.loop-factor-test.false in
     record {
       found =
           worst_all (factor_found c.args.values.now) c.loop-factor.found _ none c.loop-factor.invariant

@@ -1,5 +1,5 @@
 use Rattle.std.proofs.Common.{ap, ◌∙◌}
-use Rattle.rob_algebra.proofs.ListLemmas.{drop_at, drop_past}
+use Rattle.rob_algebra.proofs.ListLemmas.{drop_at, drop_all}
 use Rattle.rob_expand.specs.Judging.{indices_found}
 use Rattle.rob_expand.proofs.Walks.FindingLemmas.{worst_more, worst_all}
 use Rattle.rob_judge.proofs.judging.judge_entries.Goals as goal
@@ -14,7 +14,7 @@ loop-setting-preserved c =
 
 pub returns : goal.returns
 returns c =
-    let none = drop_past c.args.settings.now c.loop-setting.setting-index c.loop-setting-test.false in
+    let none = drop_all c.loop-setting.setting-index c.args.settings.now c.loop-setting-test.false in
     record {
       found = worst_all (indices_found c.args.indices.now) c.loop-setting.found _ none c.loop-setting.invariant;
     }

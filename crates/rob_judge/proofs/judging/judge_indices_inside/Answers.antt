@@ -1,4 +1,4 @@
-use Rattle.rob_algebra.proofs.ListLemmas.{drop_at, drop_past}
+use Rattle.rob_algebra.proofs.ListLemmas.{drop_at, drop_all}
 use Rattle.rob_index.specs.Forms.{Form}
 use Rattle.rob_expand.specs.Judging.{index_found}
 use Rattle.rob_expand.proofs.Walks.FindingLemmas.{worst_more, worst_all}
@@ -15,5 +15,5 @@ loop-index-preserved c =
 pub returns : goal.returns
 returns c =
     let f = λ (x : Form). index_found x c.args.values.now in
-    let none = drop_past c.args.indices.now c.loop-index.index-index c.loop-index-test.false in
+    let none = drop_all c.loop-index.index-index c.args.indices.now c.loop-index-test.false in
     record { found = worst_all f c.loop-index.found _ none c.loop-index.invariant }

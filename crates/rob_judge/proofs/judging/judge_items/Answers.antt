@@ -1,5 +1,5 @@
 use Rattle.std.proofs.Common.{◌+◌, drop, sym, ◌∙◌}
-use Rattle.rob_algebra.proofs.ListLemmas.{drop_at, drop_past}
+use Rattle.rob_algebra.proofs.ListLemmas.{drop_at, drop_all}
 use Rattle.rob_settings.specs.declared.item.Item.{Item}
 use Rattle.rob_expand.specs.Judging.{item_found}
 use Rattle.rob_expand.proofs.Walks.FindingLemmas.{worst_more, worst_all, worst_stop}
@@ -29,5 +29,5 @@ returns-then-is_too_long c =
 pub returns : goal.returns
 returns c =
     let f = λ (x : Item). item_found x c.args.values.now in
-    let none = drop_past c.args.items.now c.loop-item.item-index c.loop-item-test.false in
+    let none = drop_all c.loop-item.item-index c.args.items.now c.loop-item-test.false in
     record { found = worst_all f c.loop-item.found _ none c.loop-item.invariant }

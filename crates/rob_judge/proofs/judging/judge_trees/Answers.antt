@@ -1,4 +1,4 @@
-use Rattle.rob_algebra.proofs.ListLemmas.{drop_at, drop_past}
+use Rattle.rob_algebra.proofs.ListLemmas.{drop_at, drop_all}
 use Rattle.rob_expand.proofs.Walks.FindingLemmas.{worst_more, worst_all}
 use Rattle.rob_judge.proofs.JudgeLemmas.{factor_found}
 use Rattle.rob_judge.proofs.judging.judge_trees.Goals as goal
@@ -12,5 +12,5 @@ loop-tree-preserved c =
 
 pub returns : goal.returns
 returns c =
-    let none = drop_past c.args.trees.now c.loop-tree.tree-index c.loop-tree-test.false in
+    let none = drop_all c.loop-tree.tree-index c.args.trees.now c.loop-tree-test.false in
     record { found = worst_all (factor_found c.args.values.now) c.loop-tree.found _ none c.loop-tree.invariant }

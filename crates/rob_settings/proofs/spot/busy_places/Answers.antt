@@ -1,5 +1,5 @@
 use Rattle.std.proofs.Common.{get_or, refl, List, sym, ap, ◌∙◌}
-use Rattle.rob_algebra.proofs.ListLemmas.{drop_past}
+use Rattle.rob_algebra.proofs.ListLemmas.{drop_all}
 use Rattle.rob_settings.specs.declared.item.Item.{Item}
 use Rattle.rob_settings.specs.Spots.{busy}
 use Rattle.rob_settings.proofs.SpotLemmas.{kept_more, kept_all}
@@ -21,5 +21,5 @@ returns c =
     record {
       busy = λ vs within.
           kept_all c.args.short c.args.items.now here.places c.args.kept.now here.k-index vs
-          (drop_past c.args.kept.now here.k-index c.loop-k-test.false) (here.invariant vs within);
+          (drop_all here.k-index c.args.kept.now c.loop-k-test.false) (here.invariant vs within);
     }

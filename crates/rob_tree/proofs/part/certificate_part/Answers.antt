@@ -2,7 +2,7 @@ use Rattle.std.proofs.Common.{◌≡◌, ◌+◌, ◌++◌, ◌∷◌, length, t
 use Rattle.std.proofs.lemmas.List.{take-append-drop, take_rest}
 use Rattle.std.specs.Cmp.Lexicographic.{other_text, same_text}
 use Rattle.rob_cert.specs.Reading.{Lacks}
-use Rattle.rob_model.proofs.PartLemmas.{drop_past}
+use Rattle.rob_model.proofs.PartLemmas.{drop_all}
 use Rattle.rob_tree.proofs.Readers.CutLemmas.{cut_counted, cut_counted_all, cut_ends, cut_few, cut_goes_on, cut_nothing, cut_within}
 use Rattle.rob_tree.proofs.part.certificate_part.Goals as goal
 
@@ -68,7 +68,7 @@ returns c =
     record {
       part = record {
         split = sym
-            (ap (λ t. text ++ t) (take_rest text (length text) ∙ drop_past text (length text) (omega arith))
+            (ap (λ t. text ++ t) (take_rest text (length text) ∙ drop_all (length text) text (omega arith))
             ∙ append-nil text);
         part = cut_nothing text at lacks c.loop-split.invariant.goes_on;
         counted = cut_counted_all text at c.loop-split.count lacks c.loop-split.invariant.counted;
