@@ -1,5 +1,6 @@
 pub mod DigitLemmas
 pub mod JoinLemmas
+pub mod MachineProducts
 pub mod NestLemmas
 pub mod NestLists
 pub mod SeekingLemmas

@@ -3,14 +3,14 @@ use Rattle.std.proofs.Common.{◌≡◌, ◌<◌, ◌≤◌, ◌^◌, List, [], 
 use Rattle.std.specs.Prelude.{FitsSigned, ℤ, pos, nat_abs, ◌+ℤ◌, ◌*ℤ◌}
 use Rattle.std.specs.Int.{w128}
 use Rattle.std.proofs.lemmas.Int.{ints, to_z-of_z}
-use mir.Syntax.{w32}
+use mir.Syntax.{w16, w32, w64}
 use mir.Val.{SFits, to_z, of_z}
 use Rattle.std.proofs.Math.IntN.{*ℤ-zero, zero-*ℤ}
 use Rattle.rob_algebra.specs.Integer.{add_assoc}
 use Rattle.rob_index.specs.Forms.{Form, value_of, weighed}
 use Rattle.rob_ranges.specs.declared.digits.Wide.{Wide}
 use Rattle.rob_ranges.specs.DigitLists.{wide_of}
-use Rattle.rob_ranges.specs.Digits.{base}
+use Rattle.rob_ranges.specs.Digits.{base, number_of}
 use Rattle.rob_ranges.specs.Shorts.{first_of, second_of, short_value}
 
 -- ---- a form by its numbers
@@ -92,6 +92,33 @@ pub low_alone : (w : Wide) → w.high ≡ pos 0 → w.low ≡ wide_of w
 low_alone w h =
     let e : pos base *ℤ w.high ≡ pos 0 = ap (λ (z : ℤ). pos base *ℤ z) h ∙ *ℤ-zero (pos base) in
     omega (arith, ints, e)
+
+-- the list of one number, and a number of one digit
+in_front : (xs : List ℤ) → 1 ≤ length xs → length xs < 2 → xs ≡ get_or xs 0 (pos 0) ∷ []
+in_front [] h k = absurd (omega (arith, h))
+in_front (x ∷ []) h k = refl
+in_front (x ∷ y ∷ ys) h k = absurd (omega (arith, k))
+
+one_number : (d : ℤ) → number_of (d ∷ []) ≡ d
+one_number d = omega (arith, ints)
+
+-- digits of which none, or one of 16 bits, is behind the lowest
+pub none_wide : (d : ℤ) (more xs : List ℤ) → SFits w64 d → xs ≡ more → length xs < 1
+    → number_of (d ∷ more) ≡ wide_of (record { low = to_z w64 (of_z w64 d); high = pos 0 })
+none_wide d more xs f e n =
+    let low = to_z-of_z w64 d f in
+    λ i. sym low i +ℤ (pos base *ℤ number_of ((sym e ∙ none_alone xs n) i))
+
+pub one_wide : (d a : ℤ) (more xs : List ℤ) → SFits w64 d → SFits w64 (get_or xs 0 (pos 0)) → SFits w16 a → xs ≡ more
+    → 1 ≤ length xs → length xs < 2 → to_z w64 (of_z w64 (get_or xs 0 (pos 0))) ≡ a
+    → number_of (d ∷ more) ≡ wide_of (record { low = to_z w64 (of_z w64 d); high = to_z w16 (of_z w16 a) })
+one_wide d a more xs f g h e n m is =
+    let low = to_z-of_z w64 d f in
+    let first : get_or xs 0 (pos 0) ≡ to_z w16 (of_z w16 a) =
+    sym (to_z-of_z w64 (get_or xs 0 (pos 0)) g) ∙ is ∙ sym (to_z-of_z w16 a h) in
+    let behind : number_of more ≡ to_z w16 (of_z w16 a) =
+    ap number_of (sym e ∙ in_front xs n m) ∙ one_number (get_or xs 0 (pos 0)) ∙ first in
+    λ i. sym low i +ℤ (pos base *ℤ behind i)
 
 -- a factor as it is passed
 pub passed : (a p w : ℤ) → SFits w32 a → p ≡ to_z w32 (of_z w32 a) *ℤ w → p ≡ a *ℤ w
