@@ -1,6 +1,6 @@
 -- Factors that are added from a place on, one after the other.
-use Rattle.std.proofs.Common.{◌≡◌, ◌≢◌, ◌<◌, ◌≤◌, ◌+◌, ◌-◌, ◌==◌, ℕ, zero, suc, Bool, false, List, [], ◌∷◌, ◌++◌, length, set, drop, get_or, inl, inr, refl, sym, ap, ◌∙◌, arith}
-use Rattle.std.specs.Prelude.{ℤ, pos, ◌+ℤ◌, ◌*ℤ◌, if◌then◌else◌}
+use Rattle.std.proofs.Common.{◌≡◌, ◌≢◌, ◌<◌, ◌≤◌, ◌+◌, ◌-◌, ◌==◌, ℕ, zero, suc, Bool, true, false, List, [], ◌∷◌, ◌++◌, length, set, drop, get_or, inl, inr, refl, sym, ap, ◌∙◌, subst, arith}
+use Rattle.std.specs.Prelude.{Result, OnOk, ℤ, pos, ◌+ℤ◌, ◌*ℤ◌, if◌then◌else◌}
 use Rattle.std.proofs.lemmas.Bool.Decides.{eqb_tells}
 use Rattle.std.proofs.lemmas.Int.{ints}
 use Rattle.std.proofs.lemmas.List.{at_drop_more, at_drop_all}
@@ -88,6 +88,9 @@ drop-joined_from zero c bs fs h = refl
 drop-joined_from (suc p) c bs [] h = absurd (omega (arith, h))
 drop-joined_from (suc p) c bs (f ∷ fs) h = drop-joined_from p c bs fs (omega (arith, h))
 
+pub none_yet : (n : ℕ) → n ≡ n + 0
+none_yet n = omega arith
+
 -- ---- a loop that adds one product after the other
 module _ (place i : ℕ) (c : ℤ) (fs next : List ℤ) {all : List ℤ} (within : place ≤ length fs) where
   on : (b : ℤ) (bs : List ℤ) → next ≡ joined_from place c (b ∷ []) fs → joined_from place c (b ∷ bs) fs ≡ all
@@ -122,6 +125,19 @@ module _ (place i : ℕ) (c : ℤ) (fs next : List ℤ) {all : List ℤ} (within
       on (pos 0) others (e ∙ joined_past place c fs)
       (ap (λ (b : Bool). joined_from place c (if b then pos 1 ∷ [] else pos 0 ∷ others) fs) (sym differs)
       ∙ sym (at_drop_more (λ (l : List ℕ). joined_from place c (unit_at l name) fs) names i 0 inside) ∙ so_far)
+
+  pub units_here : {T E : Type 0} (r : Result T E) (own : ℤ) (names : List ℕ) (name : ℕ) → i < length names
+      → get_or names i 0 ≡ name → own ≡ pos 1 → joined_from place c (unit_at (drop i names) name) fs ≡ all
+      → OnOk r (next ≡ joined_from place c (own ∷ []) fs) → OnOk r (next ≡ all)
+  units_here r own names name inside is one so_far given =
+      let here = get_or names i 0 in
+      let same : (here == name) ≡ true = elim (eqb_tells here name) [ inl p ↦ p.0 | inr p ↦ absurd (p.1 is) ] in
+      let others = unit_at (drop (i + 1) names) name in
+      let unit : joined_from place c (own ∷ []) fs ≡ all =
+      ap (λ (d : ℤ). joined_from place c (d ∷ []) fs) one
+      ∙ ap (λ (b : Bool). joined_from place c (if b then pos 1 ∷ [] else pos 0 ∷ others) fs) (sym same)
+      ∙ sym (at_drop_more (λ (l : List ℕ). joined_from place c (unit_at l name) fs) names i 0 inside) ∙ so_far in
+      subst (λ (l : List ℤ). OnOk r (next ≡ l)) unit given
 
   pub units_all : (names : List ℕ) (name : ℕ) → length names ≤ i
       → joined_from place c (unit_at (drop i names) name) fs ≡ all → fs ≡ all
