@@ -4,9 +4,10 @@ use Rattle.rob_meaning.specs.SetRows.{bound_rows, lower_row}
 use Rattle.rob_model.specs.View.{robust}
 use Rattle.rob_sets.specs.SetForm.{judged_rows}
 use Rattle.rob_sets.specs.declared.set_form.SetRow.{SetRow}
-use Rattle.rob_sets.proofs.WholeRows.BoundRowLemmas.{bounds_at, bounds_end, bounds_many, length-declared, upper_at}
+use Rattle.rob_sets.proofs.WholeRows.BoundRowLemmas.{bounds_end, bounds_here, length-declared, upper_at}
+use Rattle.rob_sets.proofs.WholeRows.ParameterCounts.{next_below, number_below, number_fits, rows_below}
 use Rattle.rob_number.proofs.CountLemmas.{later}
-use Rattle.rob_sets.proofs.Cells.ItemLemmas.{drop_item, drop_over}
+use Rattle.rob_sets.proofs.Cells.ItemLemmas.{drop_over}
 use Rattle.rob_sets.proofs.Judging.AppendingLemmas.{appended_length}
 use Rattle.rob_sets.proofs.Judging.ProgressLemmas.{begins, ends, so_many}
 use Rattle.rob_sets.proofs.Judging.RowSteps.{RowProgress, rows_go_on, rows_stop}
@@ -25,59 +26,59 @@ loop-parameter-init g c =
 
 pub append_bound-requires-clause-few : goal.append_bound-requires-clause-few
 append_bound-requires-clause-few g c =
-    let m = robust g.N.Exact.value c.args.model.now in
-    omega (
-      arith,
-      so_many c.loop-parameter.invariant.progress,
-      bounds_many zero m.parameters,
-      c.requires.valid.limits.parameters,
-    )
+    rows_below c.requires.valid.limits _ _ (so_many c.loop-parameter.invariant.progress)
 
 pub append_bound-requires-in-loop-parameter-clause-few : goal.append_bound-requires-in-loop-parameter-clause-few
 append_bound-requires-in-loop-parameter-clause-few g c =
-    let m = robust g.N.Exact.value c.args.model.now in
-    omega (
-      arith,
-      so_many c.loop-parameter.invariant.progress,
-      bounds_many zero m.parameters,
-      c.requires.valid.limits.parameters,
-      appended_length c.in_ok-append_bound.ensures.row,
-      length-declared (lower_row c.loop-parameter.number) (option_map g.N.Exact.value c.parameter-item.result.lower),
-    )
+    next_below c.requires.valid.limits _ _ (so_many c.loop-parameter.invariant.progress)
+    (appended_length c.in_ok-append_bound.ensures.row)
+    (length-declared (lower_row c.loop-parameter.number) (option_map g.N.Exact.value c.parameter-item.result.lower))
 
-pub returns-in_err-append_bound-clause-rows : goal.returns-in_err-append_bound-clause-rows
-returns-in_err-append_bound-clause-rows g c =
-    let at = bounds_at g.N.Exact.value c.args.model.now.params c.loop-parameter.parameter-index
-    c.loop-parameter.number c.parameter-item.result
-    (drop_item c.loop-parameter.parameter-index c.items-parameter-items.ensures.list
-    c.loop-parameter-test.true c.parameter-item.is)
-    c.loop-parameter.invariant.number in
-    rows_stop c.loop-parameter.invariant.progress at c.append_bound.new.rows
-    (g.L.Ledger.wides c.args.ledger.now) c.from_residual.result
-    c.loop-parameter.invariant.counted.wides c.in_err-append_bound.ensures.row c.from_residual.ensures.1
+pub append_bound-requires-clause-few_parameters : goal.append_bound-requires-clause-few_parameters
+append_bound-requires-clause-few_parameters g c =
+    number_below c.requires.valid c.items-parameter-items.ensures.list c.loop-parameter-test.true
+    c.loop-parameter.invariant.number
 
-pub returns-in_err-append_bound-2-clause-rows : goal.returns-in_err-append_bound-2-clause-rows
-returns-in_err-append_bound-2-clause-rows g c =
-    let at = bounds_at g.N.Exact.value c.args.model.now.params c.loop-parameter.parameter-index
-    c.loop-parameter.number c.parameter-item.result
-    (drop_item c.loop-parameter.parameter-index c.items-parameter-items.ensures.list
-    c.loop-parameter-test.true c.parameter-item.is)
-    c.loop-parameter.invariant.number in
-    rows_stop (rows_go_on c.loop-parameter.invariant.progress at c.in_ok-append_bound.ensures.row)
-    (upper_at g.N.Exact.value c.args.model.now.params c.loop-parameter.parameter-index c.loop-parameter.number
-    c.parameter-item.result) c.append_bound-in-loop-parameter.new.rows
-    (g.L.Ledger.wides c.args.ledger.now) c.from_residual-in_err-append_bound-2.result
-    (omega (arith, c.loop-parameter.invariant.counted.wides, c.append_bound.ensures.counted.wides))
-    c.in_err-append_bound-2.ensures.row
-    c.from_residual-in_err-append_bound-2.ensures.1
+pub append_bound-requires-in-loop-parameter-clause-few_parameters :
+    goal.append_bound-requires-in-loop-parameter-clause-few_parameters
+append_bound-requires-in-loop-parameter-clause-few_parameters g c =
+    number_below c.requires.valid c.items-parameter-items.ensures.list c.loop-parameter-test.true
+    c.loop-parameter.invariant.number
+
+pub overflow_add-number : goal.overflow_add-number
+overflow_add-number g c =
+    number_fits c.requires.valid c.items-parameter-items.ensures.list c.loop-parameter-test.true
+    c.loop-parameter.invariant.number
+
+pub returns-in_err-append_bound : goal.returns-in_err-append_bound
+returns-in_err-append_bound g c =
+    let at = bounds_here g.N.Exact.value c.items-parameter-items.ensures.list c.loop-parameter-test.true
+    c.parameter-item.is c.loop-parameter.invariant.number in
+    record {
+      rows = rows_stop c.loop-parameter.invariant.progress at c.append_bound.new.rows
+          (g.L.Ledger.wides c.args.ledger.now) c.from_residual.result
+          c.loop-parameter.invariant.counted.wides c.in_err-append_bound.ensures.row c.from_residual.ensures.1;
+      counted = later c.loop-parameter.invariant.counted c.append_bound.ensures.counted;
+    }
+
+pub returns-in_err-append_bound-2 : goal.returns-in_err-append_bound-2
+returns-in_err-append_bound-2 g c =
+    let at = bounds_here g.N.Exact.value c.items-parameter-items.ensures.list c.loop-parameter-test.true
+    c.parameter-item.is c.loop-parameter.invariant.number in
+    let counted = later c.loop-parameter.invariant.counted c.append_bound.ensures.counted in
+    record {
+      rows = rows_stop (rows_go_on c.loop-parameter.invariant.progress at c.in_ok-append_bound.ensures.row)
+          (upper_at g.N.Exact.value c.args.model.now.params c.loop-parameter.parameter-index c.loop-parameter.number
+          c.parameter-item.result) c.append_bound-in-loop-parameter.new.rows
+          (g.L.Ledger.wides c.args.ledger.now) c.from_residual-in_err-append_bound-2.result counted.wides
+          c.in_err-append_bound-2.ensures.row c.from_residual-in_err-append_bound-2.ensures.1;
+      counted = later counted c.append_bound-in-loop-parameter.ensures.counted;
+    }
 
 pub loop-parameter-preserved : goal.loop-parameter-preserved
 loop-parameter-preserved g c =
-    let at = bounds_at g.N.Exact.value c.args.model.now.params c.loop-parameter.parameter-index
-    c.loop-parameter.number c.parameter-item.result
-    (drop_item c.loop-parameter.parameter-index c.items-parameter-items.ensures.list
-    c.loop-parameter-test.true c.parameter-item.is)
-    c.loop-parameter.invariant.number in
+    let at = bounds_here g.N.Exact.value c.items-parameter-items.ensures.list c.loop-parameter-test.true
+    c.parameter-item.is c.loop-parameter.invariant.number in
     record {
       number = omega (arith, c.loop-parameter.invariant.number);
       progress = rows_go_on (rows_go_on c.loop-parameter.invariant.progress at c.in_ok-append_bound.ensures.row)
@@ -87,10 +88,13 @@ loop-parameter-preserved g c =
           c.append_bound-in-loop-parameter.ensures.counted;
     }
 
-pub returns-clause-rows : goal.returns-clause-rows
-returns-clause-rows g c =
+pub returns : goal.returns
+returns g c =
     let m = robust g.N.Exact.value c.args.model.now in
     let i = c.loop-parameter.parameter-index in
     let over = bounds_end g.N.Exact.value c.args.model.now.params i
     (drop_over i c.items-parameter-items.ensures.list c.loop-parameter-test.false) in
-    ends c.loop-parameter.invariant.progress over (ap (judged_rows m (length c.loop-parameter.rows)) over)
+    record {
+      rows = ends c.loop-parameter.invariant.progress over (ap (judged_rows m (length c.loop-parameter.rows)) over);
+      counted = c.loop-parameter.invariant.counted;
+    }
