@@ -1,6 +1,6 @@
 pub mod DigitLemmas
 pub mod JoinLemmas
-pub mod MachineProducts
+pub mod MachineNumbers
 pub mod NestLemmas
 pub mod NestLists
 pub mod SeekingLemmas

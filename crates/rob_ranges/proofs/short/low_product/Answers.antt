@@ -2,7 +2,7 @@ use Rattle.std.proofs.Common.{◌∙◌, ap, arith, rules}
 use Rattle.std.specs.Prelude.{ℤ, ◌*ℤ◌}
 use mir.Syntax.{w64}
 use mir.Val.{SFits}
-use Rattle.rob_ranges.proofs.MachineProducts.{product_fits, product_seen, product_size, read_32, read_64, widened_32, widened_64}
+use Rattle.rob_ranges.proofs.MachineNumbers.{product_fits, product_seen, product_size, read_32, read_64, widened_32, widened_64}
 use Rattle.rob_ranges.proofs.ShortLemmas.{low_alone}
 use Rattle.rob_ranges.proofs.short.low_product.Goals as goal
 

@@ -1,6 +1,6 @@
 use Rattle.std.proofs.Common.{◌∙◌, ap, arith}
 use Rattle.std.specs.Prelude.{ℤ, ◌*ℤ◌}
-use Rattle.rob_ranges.proofs.MachineProducts.{product_fits, product_seen, product_size, read_32, read_79, widened_32}
+use Rattle.rob_ranges.proofs.MachineNumbers.{product_fits, product_seen, product_size, read_32, read_79, widened_32}
 use Rattle.rob_ranges.proofs.short.wide_product.Goals as goal
 
 pub overflow_cast-result : goal.overflow_cast-result
