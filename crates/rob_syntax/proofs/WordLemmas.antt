@@ -1,16 +1,18 @@
 -- Words, lines and the values of digits.
 use Rattle.std.proofs.Common.{◌≡◌, ℕ, ◌+◌, ◌*◌, ◌-◌, ◌^◌, ◌<◌, ◌≤◌, min, Bool, true, false, cond, List, [], ◌∷◌, ◌++◌, length, take, drop, get_or, refl, sym, ap, ◌∙◌, arith, append_assoc, append-nil, Vec, Bor}
-use Rattle.std.specs.Prelude.{fold, position, MatchOption, nat_lt, not, ◌||◌, Option, Some, None}
+use Rattle.std.specs.Prelude.{fold, option_to_list, position, MatchOption, nat_lt, not, ◌||◌, Option, Some, None}
 use Rattle.std.specs.Str.{bytes_eq}
-use Rattle.std.specs.List.{list_any, prefix_len}
+use Rattle.std.specs.List.{flat_map, list_any, prefix_len}
 use Rattle.std.specs.declared.alloc.Global.{Global}
 use Rattle.std.proofs.lemmas.List.{at_drop_more, at_drop_all, take_more, take_all, length-drop, length-map, map-append}
 use Rattle.indexmap.specs.IndexSet.{insert_key}
 use Rattle.rob_lex.specs.declared.token.Token.{Token}
 use Rattle.rob_lex.specs.declared.token.Kind.{Kind}
 use Rattle.rob_lex.specs.declared.token.Kind.TheVariants as kind
+use Rattle.rob_index.specs.Reading.{Version}
 use Rattle.rob_syntax.specs.Known.{texts}
-use Rattle.rob_syntax.specs.Symbols.{greatest_digits, add_word, add_token, token_lines}
+use Rattle.rob_syntax.specs.Symbols.{greatest_digits, add_word, add_token, bytes_of, symbol_at, token_lines}
+use Rattle.rob_syntax.specs.declared.symbol.Symbol.{Symbol}
 
 -- the value behind one more digit
 abbrev pub digit_step : ℕ → ℕ → ℕ
@@ -181,3 +183,38 @@ line_fits line rest b whole is count small =
     let more = some_line b.now in
     let one : length (left rest) ≡ length (more.0 ∷ more.1) = ap length (ap left is ∙ more.2) in
     omega (arith, one, count, small, lines_at_most whole)
+
+-- ---- what each item of a list gives, one item after the other
+module _ {A B : Type 0} (F : A → List B) (xs : List A) where
+  pub none_given : {ys : List B} → ys ≡ [] → ys ++ flat_map F (drop 0 xs) ≡ flat_map F xs
+  none_given is = ap (λ (l : List B). l ++ flat_map F xs) is
+
+  pub given_more : (i : ℕ) (d : A) (ys here : List B) {next : List B} → i < length xs → here ≡ F (get_or xs i d)
+      → next ≡ ys ++ here → ys ++ flat_map F (drop i xs) ≡ flat_map F xs
+      → next ++ flat_map F (drop (i + 1) xs) ≡ flat_map F xs
+  given_more i d ys here inside is more so_far =
+      let rest = flat_map F (drop (i + 1) xs) in
+      ap (λ (l : List B). l ++ rest) more ∙ append_assoc ys here rest
+      ∙ ap (λ (l : List B). ys ++ l)
+      (ap (λ (l : List B). l ++ rest) is ∙ sym (at_drop_more (flat_map F) xs i d inside)) ∙ so_far
+
+  pub given_all : (i : ℕ) (ys : List B) → length xs ≤ i → ys ++ flat_map F (drop i xs) ≡ flat_map F xs
+      → ys ≡ flat_map F xs
+  given_all i ys over so_far =
+      sym (append-nil ys) ∙ ap (λ (l : List B). ys ++ l) (sym (at_drop_all (flat_map F) xs i over)) ∙ so_far
+
+-- one item is pushed, or none
+pub pushed_is : {B : Type 0} (ys : List B) {o : Option B} {x : B} {next : List B} → o ≡ Some x → next ≡ ys ++ x ∷ []
+    → next ≡ ys ++ option_to_list o
+pushed_is {B} ys is more = more ∙ ap (λ (o : Option B). ys ++ option_to_list o) (sym is)
+
+pub kept_is : {B : Type 0} (ys : List B) {o : Option B} {next : List B} → o ≡ None → next ≡ ys
+    → next ≡ ys ++ option_to_list o
+kept_is {B} ys is same =
+    same ∙ sym (append-nil ys) ∙ ap (λ (o : Option B). ys ++ option_to_list o) (sym is)
+
+-- the symbol of a token whose bytes were taken
+pub symbol_here : (version : Version) (words : List (List ℕ)) (text : List ℕ) (t : Token) {bytes : List ℕ}
+    (o : Option Symbol) → option_to_list o ≡ symbol_at version words t.kind bytes → bytes ≡ bytes_of text t
+    → option_to_list o ≡ symbol_at version words t.kind (bytes_of text t)
+symbol_here version words text t o is taken = is ∙ ap (λ (b : List ℕ). symbol_at version words t.kind b) taken
