@@ -35,12 +35,12 @@ use Rattle.rob_dualize.proofs.Soundness.{wholes_are}
 use Rattle.rob_dualize.proofs.RefusalLemmas.{refused_at}
 use Rattle.rob_dualize.proofs.SolvingLemmas.{last_basis, last_point}
 
-one_block : (n b : ℕ) → 0 < n → b ≤ n * b
+pub one_block : (n b : ℕ) → 0 < n → b ≤ n * b
 one_block zero b l = absurd (omega arith)
 one_block (suc n) b l = let e : suc n * b ≡ (n * b) + b = grind arith in omega arith
 
 module _ {limit : ℕ} (forms : Forms) (set : SetForm) (one : AreElaborated limit forms set) where
-  some_form : 0 < length forms.matrices
+  pub some_form : 0 < length forms.matrices
   some_form = subst (λ (n : ℕ). 0 < n) (sym (ap length one.are_forms.matrices)) (omega arith)
 
   pub parameters_low : forms.params ≤ set.columns

@@ -1,13 +1,13 @@
-use Rattle.std.proofs.Common.{ℕ, ◌≡◌, ◌+◌, ◌*◌, ◌<◌, map, length, sym, ap, subst, ◌∙◌, arith}
+use Rattle.std.proofs.Common.{ℕ, ◌≡◌, ◌+◌, map, length, sym, ap, subst, ◌∙◌, arith}
 use Rattle.rob_meaning.specs.Places.{1ℚ}
 use Rattle.rob_cert.specs.View.{item_of}
 use Rattle.rob_counterpart.specs.RobustProgram.{RobustProgram}
-use Rattle.rob_counterpart.specs.Reform.{block, constant_row}
-use Rattle.rob_counterpart.proofs.Pairs.Blocks.{block_in}
+use Rattle.rob_counterpart.specs.Reform.{constant_row}
 use Rattle.rob_dualize.specs.Numbers.{told}
 use Rattle.rob_counterpart.specs.ReadNumbers.{items_to, vector_at, all_zero}
 use Rattle.rob_dualize.specs.Wholes.{wholes}
-use Rattle.rob_dualize.proofs.ReadingLemmas.{told_place, item_is, item_pushed, item_skipped, base_not_zero, vector_not_zero, both_zero}
+use Rattle.rob_dualize.proofs.SizeLemmas.{constant_fits, constant_in, constant_told, double_fits, first_fits, form_fits, form_in, width_fits}
+use Rattle.rob_dualize.proofs.ReadingLemmas.{item_is, item_pushed, item_skipped, base_not_zero, vector_not_zero, both_zero}
 use Rattle.rob_dualize.proofs.reading.items.Goals as goal
 use Rattle.rob_dualize.proofs.reading.items.Goals.{then-not-is_zero+in_ok-push, then-not-is_zero-via-then-not-is_zero, then-not-is_zero-via-else-not-is_zero+then-not-are_zero, else-not-is_zero+else-not-are_zero}
 use Rattle.rob_model.proofs.KeptLemmas.{refuted}
@@ -15,23 +15,12 @@ use Rattle.rob_model.proofs.KeptLemmas.{refuted}
 pub loop-i-preserved : goal.loop-i-preserved
 loop-i-preserved g c =
     let value = g.N.Exact.value in
-    let numbers = c.args.numbers.now in
     let d : RobustProgram = wholes c.args.model.forms.now c.args.model.set.now in
     let y = told g.N.Exact.value c.args.numbers.now in
     let v = map g.N.Exact.value c.in_ok-vector.vector in
-    let n : c.loop-i.i < length c.args.model.forms.now.matrices =
-    subst (λ k. c.loop-i.i < k) (ap length c.items-i-end.ensures.list) c.loop-i-test.true in
-    let w : c.loop-i.i * (2 * c.args.model.set.now.columns + 1)
-    ≡ c.loop-i.i * block (wholes c.args.model.forms.now c.args.model.set.now) =
-    ap (λ v. c.loop-i.i * v) (omega arith) in
-    let b : ((c.loop-i.i * block (wholes c.args.model.forms.now c.args.model.set.now)) +
-    (c.args.model.set.now.columns + c.args.model.set.now.columns)) <
-    (length c.args.model.forms.now.matrices * block (wholes c.args.model.forms.now c.args.model.set.now)) =
-    block_in (length c.args.model.forms.now.matrices) (block d) c.loop-i.i
-    (c.args.model.set.now.columns + c.args.model.set.now.columns) n (omega arith) in
-    let base = told_place value numbers ((c.loop-i.i * (2 * c.args.model.set.now.columns + 1)) + 2 *
-    c.args.model.set.now.columns) (constant_row d c.loop-i.i) c.index-numbers-i.result (omega arith)
-    (omega (arith, c.requires.numbers)) c.index-numbers-i.is in
+    let n = form_in c.items-i-end.ensures.list c.loop-i-test.true in
+    let base = constant_told c.requires.model n c.args.numbers.now c.requires.numbers value c.index-numbers-i.result
+    c.index-numbers-i.is in
     elim c.if-not-is_zero.branch [
       | then-not-is_zero+in_ok-push w ↦
           subst (λ all. map (item_of g.N.Exact.value) all ≡ items_to
@@ -72,3 +61,40 @@ returns g c =
           (wholes c.args.model.forms.now c.args.model.set.now) n (told g.N.Exact.value c.args.numbers.now)) all
           c.loop-i.invariant;
     }
+
+pub overflow_mul-rows : goal.overflow_mul-rows
+overflow_mul-rows g c = double_fits c.requires.model
+
+pub overflow_add-rows : goal.overflow_add-rows
+overflow_add-rows g c = width_fits c.requires.model
+
+pub overflow_mul-base-in-loop-i : goal.overflow_mul-base-in-loop-i
+overflow_mul-base-in-loop-i g c = double_fits c.requires.model
+
+pub overflow_mul-base : goal.overflow_mul-base
+overflow_mul-base g c = first_fits c.requires.model (form_in c.items-i-end.ensures.list c.loop-i-test.true)
+
+pub overflow_add-base : goal.overflow_add-base
+overflow_add-base g c = constant_fits c.requires.model (form_in c.items-i-end.ensures.list c.loop-i-test.true)
+
+pub bounds-numbers-i : goal.bounds-numbers-i
+bounds-numbers-i g c =
+    constant_in c.requires.model (form_in c.items-i-end.ensures.list c.loop-i-test.true) c.args.numbers.now
+    c.requires.numbers
+
+pub overflow_cast-item : goal.overflow_cast-item
+overflow_cast-item g c = form_fits c.requires.model (form_in c.items-i-end.ensures.list c.loop-i-test.true)
+
+pub vector-requires : goal.vector-requires
+vector-requires g c = record {
+  model = c.requires.model;
+  numbers = c.requires.numbers;
+  pairs = c.requires.pairs;
+  form_in = form_in c.items-i-end.ensures.list c.loop-i-test.true;
+}
+
+pub whole-requires : goal.whole-requires
+whole-requires g c = record { within = g.met.N.Exact.limit_low; }
+
+pub loop-i-init : goal.loop-i-init
+loop-i-init g c = ap (map (item_of g.N.Exact.value)) c.new-all.ensures.empty
