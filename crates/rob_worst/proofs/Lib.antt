@@ -7,3 +7,4 @@ pub mod ReadingLemmas
 pub mod FinderLemmas
 pub mod SlackLemmas
 pub mod DeepLemmas
+pub mod SumLemmas
