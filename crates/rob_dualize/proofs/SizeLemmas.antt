@@ -1,6 +1,7 @@
 -- A model within the limits has a counterpart of few rows and columns; so the places at which its numbers are read, form
 -- after form, are small, and lie within the numbers.
 use Rattle.std.proofs.Common.{◌≡◌, ℕ, ◌+◌, ◌-◌, ◌*◌, ◌≤◌, length, ap, ◌∙◌, arith, suc, ◌<◌, ◌^◌, List, Fits, w32, w64}
+use Rattle.std.proofs.Math.Nat.{le-mul_of_pos_right}
 use Rattle.std.proofs.lemmas.List.{length-map}
 use Rattle.rob_meaning.specs.Forms.{matrix_of, forms}
 use Rattle.rob_meaning.specs.RobustModel.{RobustModel}
@@ -49,10 +50,6 @@ few_within_limits m all set limits f st =
     omega arith
 
 -- ---- places, form after form
--- as many rows of a form as there are forms
-once_each : (n w : ℕ) → n ≤ n * suc w
-once_each n w = let e : n * suc w ≡ n + (n * w) = grind arith in omega arith
-
 -- an index within a list that is read is one within the list itself
 pub form_in : {A : Type 0} {read all : List A} → read ≡ all → {i : ℕ} → i < length read → i < length all
 form_in e l = omega (arith, ap length e)
@@ -97,7 +94,7 @@ module _ {limit : ℕ} {model : Elaborated} (fits : FitsSolver limit model) wher
     constant_fits = omega (arith, place_low (columns + columns) (omega arith))
 
     pub form_fits : Fits w32 i
-    form_fits = omega (arith, fits.few, once_each d.forms (columns + columns))
+    form_fits = omega (arith, fits.few, le-mul_of_pos_right {m = block d} d.forms (omega arith))
 
     -- the number at the row of the constant
     module _ {N : Type 0} (numbers : List N) (many : length numbers ≡ d.forms * block d) where
