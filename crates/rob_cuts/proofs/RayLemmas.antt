@@ -1,7 +1,10 @@
--- A ray's least common denominator, and its numbers times it.
-use Rattle.std.proofs.Common.{◌≡◌, ◌≢◌, ◌⊎◌, inl, inr, ℕ, zero, suc, ◌-◌, ◌*◌, ◌<◌, ◌≤◌, ◌^◌, List, [], ◌∷◌, map, length, refl, ◌∙◌, subst, arith, Bool, true, false}
-use Rattle.std.proofs.Math.Nat.{mul-le-mul_left, mul_comm}
-use lib.IntN.{pos, nat_abs}
+-- A ray's least common denominator, and its numbers times it, as code computes them too.
+use Rattle.std.proofs.Common.{◌≡◌, ◌≢◌, ◌⊎◌, inl, inr, ℕ, zero, suc, ◌-◌, ◌*◌, ◌/◌, ◌<◌, ◌≤◌, ◌^◌, List, [], ◌∷◌, map, length, refl, sym, ap, ap₂, ◌∙◌, subst, arith, Bool, true, false, to_z, of_z, w64, SFits}
+use Rattle.std.specs.Int.{w128}
+use Rattle.std.proofs.lemmas.Int.{ints, unsigned_abs-mul}
+use Rattle.std.proofs.Math.Nat.{mul-le-mul_left, mul-le-mul_right, mul_comm}
+use lib.IntN.{ℤ, pos, negsuc, nat_abs, ◌*ℤ◌}
+use lib.Signed.{◌<ℤ◌}
 use Rattle.rob_algebra.specs.Fraction.{Fraction}
 use Rattle.rob_algebra.specs.FractionLaws.{ℚ-one-mul}
 use Rattle.rob_algebra.specs.FractionOrder.{eq_ℚ, eq_ℚ-decides}
@@ -11,11 +14,13 @@ use Rattle.rob_linear.specs.Vectors as V
 use Rattle.rob_meaning.specs.Clearing.{denominator, MakesWhole, whole_at}
 use Rattle.rob_meaning.specs.Places.{0ℚ, at, Each}
 use Rattle.rob_meaning.proofs.Lists.LeastLemmas.{denominator_least}
+use Rattle.rob_number.proofs.CastLemmas.{fits_small, seen_up, seen_within}
 use Rattle.rob_runs.specs.Cuts.{wholes}
 use Rattle.rob_runs.specs.Spots.{SomeWide}
 use Rattle.rob_runs.proofs.Clearing.DenominatorLemmas.{denominator_bounded}
 use Rattle.rob_runs.proofs.Clearing.WholeLemmas.{length-wholes}
 use Rattle.rob_sets.specs.FirstWide.{Some_of}
+use Rattle.rob_sets.proofs.WholeRows.MachineProducts.{product_fits, product_seen, product_size}
 use Rattle.rob_worst.proofs.StopLemmas.{some_at}
 
 -- all numbers are 0, or some is not
@@ -90,3 +95,70 @@ square_small limit h =
     let b : limit * (2 ^ 62 - 1) ≡ (2 ^ 62 - 1) * limit = mul_comm limit (2 ^ 62 - 1) in
     let c : (2 ^ 62 - 1) * limit ≤ (2 ^ 62 - 1) * (2 ^ 62 - 1) = mul-le-mul_left (2 ^ 62 - 1) h in
     omega arith
+
+-- ---- a number times the denominator, as code computes it in 128 bits
+natural_wide : (n : ℕ) → n < 2 ^ 62 → to_z w128 n ≡ pos n
+natural_wide n h = omega (arith, ints)
+
+pub natural_fits : (n : ℕ) → n < 2 ^ 62 → SFits w128 (pos n)
+natural_fits n h = omega (arith, ints)
+
+module _ (a : ℤ) (b : ℕ) (f : SFits w64 a) (left : nat_abs a < 2 ^ 62) (right : b < 2 ^ 62) where
+  -- the natural number as a factor of either kind
+  same : to_z w128 (of_z w128 (to_z w64 (of_z w64 (pos b)))) ≡ to_z w128 b
+  same = seen_up (pos b) (fits_small (pos b) right) ∙ sym (natural_wide b right)
+
+  abbrev times : ℤ → ℤ
+  times y = to_z w128 (of_z w128 (to_z w64 (of_z w64 a))) *ℤ y
+
+  pub multiple_fits : SFits w128 (times (to_z w128 b))
+  multiple_fits =
+      subst (λ y. SFits w128 (times y)) same (product_fits a (pos b) f (fits_small (pos b) right) left right)
+
+  pub multiple_seen : to_z w128 (of_z w128 (times (to_z w128 b))) ≡ a *ℤ pos b
+  multiple_seen =
+      subst (λ y. to_z w128 (of_z w128 (times y)) ≡ a *ℤ pos b) same
+      (product_seen a (pos b) f (fits_small (pos b) right) left right)
+
+  pub multiple_size : nat_abs (to_z w128 (of_z w128 (times (to_z w128 b)))) < 2 ^ 124
+  multiple_size =
+      subst (λ y. nat_abs (to_z w128 (of_z w128 (times y))) < 2 ^ 124) same
+      (product_size a (pos b) f (fits_small (pos b) right) left right)
+
+some_size : (num : ℤ) → (of_z w64 num ≡ 0 → ⊥) → 1 ≤ nat_abs num
+some_size (pos zero) h = absurd (h refl)
+some_size (pos (suc n)) h = omega arith
+some_size (negsuc n) h = omega arith
+
+module _ (limit : ℕ) (high : limit ≤ 2 ^ 62 - 1) where
+  pub still_positive : (den : ℤ) → nat_abs den ≤ limit → pos 0 <ℤ den → pos 0 <ℤ to_z w64 (of_z w64 den)
+  still_positive den l h = subst (λ z. pos 0 <ℤ z) (sym (seen_within limit den high l)) h
+
+  module _ (common : ℕ) (q : Fraction) (num : ℤ) (num_is : num ≡ q.num) (num_low : nat_abs num ≤ limit) where
+    none : (n : ℕ) → pos 0 *ℤ pos n ≡ pos 0
+    none n = omega (arith, ints)
+
+    -- a zero is whole
+    pub zero_whole : of_z w64 num ≡ 0 → (pos 0 ≡ whole_at common q) × (0 ≤ limit)
+    zero_whole e =
+        let z : q.num ≡ pos 0 =
+        sym num_is ∙ sym (seen_within limit num high num_low) ∙ ap (to_z w64) e in
+        (sym (ap (λ x. x *ℤ pos (common / q.den)) z ∙ none (common / q.den)), omega arith)
+
+    module _ (times : ℕ) (den : ℤ) (den_is : den ≡ pos q.den) (den_low : nat_abs den ≤ limit)
+        (is : times ≡ common / nat_abs (to_z w64 (of_z w64 den))) where
+      times_is : times ≡ common / q.den
+      times_is = is ∙ ap (λ z. common / nat_abs z) (seen_within limit den high den_low ∙ den_is)
+
+      -- where the denominator goes in too often, the number is wide
+      pub wide_times : (of_z w64 num ≡ 0 → ⊥) → limit < times → IsWideWhole limit (whole_at common q)
+      wide_times some wide =
+          let one : 1 ≤ nat_abs q.num = subst (λ z. 1 ≤ nat_abs z) num_is (some_size num some) in
+          let l : 1 * times ≤ nat_abs q.num * times = mul-le-mul_right times one in
+          let e : nat_abs (q.num *ℤ pos times) ≡ nat_abs q.num * times = unsigned_abs-mul q.num (pos times) in
+          subst (λ n. limit < nat_abs (q.num *ℤ pos n)) times_is (omega arith)
+
+      pub whole_number : (product : ℤ) → product ≡ to_z w64 (of_z w64 num) *ℤ pos times
+          → product ≡ whole_at common q
+      whole_number product e =
+          e ∙ ap₂ ◌*ℤ◌ (seen_within limit num high num_low ∙ num_is) (ap pos times_is)
