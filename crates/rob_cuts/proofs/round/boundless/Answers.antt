@@ -1,10 +1,11 @@
 use Rattle.std.proofs.Common.{ap, ◌∙◌, length}
-use Rattle.rob_model.specs.View.{scenario_of}
+use Rattle.rob_number.proofs.CountLemmas.{later}
 use Rattle.rob_simplex.specs.Solutions.{ray_of}
 use Rattle.rob_cuts.proofs.LookLemmas.{look_count}
 use Rattle.rob_cuts.proofs.OutcomeLemmas.{step_cut_off, step_refused, point_cut_off, plan_stopped, unbounded_out}
 use Rattle.rob_cuts.proofs.RoundLemmas.{round_of, columns_are_pairs, boundless_one, direction_one, step_stopped}
-use Rattle.rob_cuts.proofs.RouteLemmas.{route_set}
+use Rattle.rob_cuts.proofs.RouteLemmas.{of_route, route_set}
+use Rattle.rob_cuts.proofs.SolvingLemmas.{counts_stop}
 use Rattle.rob_cuts.proofs.round.boundless.Goals as goal
 
 pub look_at_step-requires : goal.look_at_step-requires
@@ -29,23 +30,19 @@ look_at_plan-requires g c =
 
 pub boundless_round-requires-clause-within : goal.boundless_round-requires-clause-within
 boundless_round-requires-clause-within g c =
-    let e = c.requires.model.elaborated in
-    let look = c.in-Ok-Broken.ensures.look e.model c.requires.model.is_model e.are_forms e.is_set in
-    let told = rw c.in-Ok-Broken.field-0-is at look in told.1.base
+    let told = rw c.in-Ok-Broken.field-0-is at (of_route c.requires.model c.in-Ok-Broken.ensures.look) in told.1.base
 
 pub boundless_round-requires-in-Ok-Broken-look_at_plan-clause-within :
     goal.boundless_round-requires-in-Ok-Broken-look_at_plan-clause-within
 boundless_round-requires-in-Ok-Broken-look_at_plan-clause-within g c =
-    let e = c.requires.model.elaborated in
-    let look = c.in-Ok-Broken-look_at_plan.ensures.look e.model c.requires.model.is_model e.are_forms e.is_set in
+    let look = of_route c.requires.model c.in-Ok-Broken-look_at_plan.ensures.look in
     let told = rw c.in-Ok-Broken-look_at_plan.field-0-is at look in told.1.base
 
 pub whole_step-requires : goal.whole_step-requires
 whole_step-requires g c =
-    let e = c.requires.model.elaborated in
-    let look = c.in-Ok-Kept.ensures.look e.model c.requires.model.is_model e.are_forms e.is_set in
-    let away = rw c.in-Ok-Kept.field-0-is at look in
-    let count = look_count g.N.Exact.value e.are_forms c.in-Ok-Kept.step (ray_of c.args.solver.now) away.0 in
+    let away = rw c.in-Ok-Kept.field-0-is at (of_route c.requires.model c.in-Ok-Kept.ensures.look) in
+    let count = look_count g.N.Exact.value c.requires.model.elaborated.are_forms c.in-Ok-Kept.step
+    (ray_of c.args.solver.now) away.0 in
     record { size = ap length c.items.ensures.list ∙ count }
 
 pub inside-requires : goal.inside-requires
@@ -53,7 +50,6 @@ inside-requires g c =
     let e = c.requires.model.elaborated in
     record { finder = (c.args.model.set.now, e, route_set c.requires.model, c.look_at_plan.ensures.finder) }
 
--- ---- where it leads
 pub returns-in-Ok-Broken-clause-outcome : goal.returns-in-Ok-Broken-clause-outcome
 returns-in-Ok-Broken-clause-outcome g c = λ m model f st.
     step_cut_off g.N.Exact.value g.N.Exact.limit (round_of f c.requires.run.master c.requires.ended.answer)
@@ -91,10 +87,14 @@ pub returns-clause-outcome : goal.returns-clause-outcome
 returns-clause-outcome g c = λ m model f st.
     unbounded_out g.N.Exact.value g.N.Exact.limit (round_of f c.requires.run.master c.requires.ended.answer) model
     c.in-Ok-Kept.step c.in-Ok-Kept.held (rw c.in-Ok-Kept.field-0-is at (c.in-Ok-Kept.ensures.look m model f st))
-    (c.requires.run.tells m model f st) c.requires.ended.few
-    c.in-Ok-Kept-look_at_plan.plan c.in-Ok-Kept-look_at_plan.kept
+    (c.requires.run.tells m model f st) c.requires.ended.few c.in-Ok-Kept-look_at_plan.plan
+    c.in-Ok-Kept-look_at_plan.kept
     (rw c.in-Ok-Kept-look_at_plan.field-0-is at (c.in-Ok-Kept-look_at_plan.ensures.look m model f st))
-    c.in-Ok.step c.items.ensures.list c.in-Ok.ensures.columns c.in-Ok.ensures.bound
-    (scenario_of g.N.Exact.value c.in_ok-inside.inside)
+    c.in-Ok.step c.items.ensures.list c.in-Ok.ensures.columns c.in-Ok.ensures.bound _
     (c.in_ok-inside.ensures.scenario m c.args.model.set.now model f st c.look_at_plan.ensures.finder)
     c.unbounded.ensures.certificate
+
+pub returns-in-Err-whole_step-clause-counted : goal.returns-in-Err-whole_step-clause-counted
+returns-in-Err-whole_step-clause-counted g c =
+    counts_stop (later c.look_at_step.ensures.counted c.look_at_plan.ensures.counted) c.count.ensures.unchanged
+    c.unclear-stop.result c.count.ensures.counted
