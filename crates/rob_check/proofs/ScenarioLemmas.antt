@@ -1,12 +1,15 @@
--- One set condition more.
-use Rattle.std.proofs.Common.{◌≡◌, ℕ, suc, ◌+◌, ◌<◌, ◌≤◌, List, [], ◌∷◌, ◌++◌, map, length, get_or, drop, arith, refl, sym, ◌∙◌, ap, ap₂, add-one, append_assoc, length-append, Bool}
+-- One set condition more, and the numbers of the conditions.
+use Rattle.std.proofs.Common.{◌≡◌, ℕ, suc, ◌+◌, ◌<◌, ◌≤◌, List, [], ◌∷◌, ◌++◌, map, length, get_or, drop, arith, refl, sym, ◌∙◌, ap, ap₂, add-one, append_assoc, length-append, Bool, ◌*◌, Fits, w32}
+use Rattle.std.proofs.lemmas.List.{length-map}
 use Rattle.std.specs.Prelude.{Option, Some, None, option_map, option_to_list}
 use Rattle.rob_algebra.specs.Fraction.{Fraction}
 use Rattle.rob_meaning.specs.RobustModel.{RobustModel}
 use Rattle.rob_meaning.specs.SetConditions.{SetCondition, all_stated, bounds_from, bounds_of, if_declared, lower_bound, stated, upper_bound}
-use Rattle.rob_model.proofs.PartLemmas.{drop_at}
+use Rattle.rob_model.proofs.PartLemmas.{drop_at, drop_past}
 use Rattle.rob_model.specs.View.{parameter_of, set_line_of}
+use Rattle.rob_model.specs.Valid.{IsValid}
 use Rattle.rob_model.specs.Within.{declared_within, holds_within}
+use Rattle.rob_model.specs.declared.model.Model.{Model}
 use Rattle.rob_model.specs.declared.model.Param.{Param}
 use Rattle.rob_model.specs.declared.model.SetLine.{SetLine}
 use Rattle.rob_model.specs.declared.place.Place.{Place}
@@ -174,3 +177,42 @@ module _ (limit : ℕ) (m : RobustModel) (place : ℕ → Place) (s : Fraction) 
             (set_tests limit m place s p (i + 1) (all_stated (map (set_line_of value) (drop (k + 1) ls))))
             (accepted ∙ judged_is at (place i) test _ v judged at_is same)
             ∙ ap verdict (sym statement_split)
+
+-- behind the last parameter the statements are left
+pub parameters_end : (limit : ℕ) (m : RobustModel) (place : ℕ → Place) (s : Fraction) (p : List Fraction)
+    → {N : Type 0} (value : N → Fraction) (params : List (Param N)) (k index : ℕ) (behind : List SetCondition)
+    → length params ≤ k
+    → verdict (set_tests limit m place s p index behind)
+    ≡ verdict (set_tests limit m place s p index (bounds_from k (map (parameter_of value) (drop k params)) ++ behind))
+parameters_end limit m place s p {N} value params k index behind past =
+    sym (ap (λ (xs : List (Param N)). verdict (set_tests limit m place s p index
+    (bounds_from k (map (parameter_of value) xs) ++ behind))) (drop_past params k past))
+
+-- ---- the numbers of conditions are small
+declared_few : {A : Type 0} (o p : Option A) {a b : ℕ} → a ≡ length (option_to_list o) → b ≡ length (option_to_list p)
+    → a + b ≤ 2
+declared_few o p e f = omega (arith, few_declared o, few_declared p)
+
+pub declared_fits : {A : Type 0} (o p : Option A) {a b : ℕ} → a ≡ length (option_to_list o)
+    → b ≡ length (option_to_list p) → Fits w32 (a + b)
+declared_fits o p e f = omega (arith, declared_few o p e f)
+
+module _ {N : Type 0} {value : N → Fraction} {model : Model N} (valid : IsValid value model) where
+  few_parameters : length model.params ≤ 96
+  few_parameters = omega (arith, valid.limits.parameters, length-map model.params (parameter_of value))
+
+  few_statements : length model.set_lines ≤ 64
+  few_statements = omega (arith, valid.limits.set_lines, length-map model.set_lines (set_line_of value))
+
+  module _ {params : List (Param N)} (same : params ≡ model.params) {index k : ℕ} (small : index ≤ 2 * k)
+      (inside : k ≤ length params) where
+    pub index_small : index ≤ 1000
+    index_small = omega (arith, few_parameters, ap length same)
+
+    pub index_fits : {A : Type 0} (o p : Option A) {a b : ℕ} → a ≡ length (option_to_list o)
+        → b ≡ length (option_to_list p) → Fits w32 (index + (a + b))
+    index_fits o p e f = omega (arith, few_parameters, ap length same, declared_few o p e f)
+
+  pub number_fits : {lines : List (SetLine N)} → lines ≡ model.set_lines → {first index k : ℕ} → first ≤ 1000
+      → index ≡ first + k → k < length lines → Fits w32 (index + 1)
+  number_fits same low is inside = omega (arith, few_statements, ap length same)

@@ -1,16 +1,21 @@
--- One part of a sum more.
-use Rattle.std.proofs.Common.{◌≡◌, ℕ, zero, suc, ◌-◌, ◌<◌, ◌≤◌, ℤ, pos, nat_abs, List, [], ◌∷◌, length, map, get_or, drop, arith, refl, sym, ◌∙◌, ap, subst, ◌^◌, to_z, of_z, w64, SFits, to_z-of_z}
-use Rattle.std.specs.Prelude.{Option, Some, None}
+-- One part of a sum more, and what it counts.
+use Rattle.std.proofs.Common.{◌≡◌, ℕ, zero, suc, ◌-◌, ◌<◌, ◌≤◌, ℤ, pos, nat_abs, List, [], ◌∷◌, length, map, get_or, drop, arith, refl, sym, ◌∙◌, ap, ap₂, subst, ◌^◌, ◌+◌, to_z, of_z, w64, SFits, to_z-of_z}
+use Rattle.std.specs.Prelude.{Option, Some, None, Result, Ok, Err}
 use Rattle.rob_number.proofs.CastLemmas.{seen_within}
+use Rattle.rob_number.proofs.CountLemmas.{rise_later, rose_later}
+use Rattle.rob_number.specs.Counts.{CountsTold, NeverFell}
 use Rattle.rob_algebra.proofs.WidthLaws.{kept-fits, kept-of_int}
 use Rattle.rob_algebra.specs.Fraction.{Fraction, of_int, ◌+ℚ◌, ◌*ℚ◌}
 use Rattle.rob_algebra.specs.FractionLaws as Q
 use Rattle.rob_algebra.specs.Polynomials.{lit, ◌:+◌, ◌:*◌, v0}
 use Rattle.rob_algebra.specs.Width.{Fits, kept}
 use Rattle.rob_meaning.specs.Places.{0ℚ, at, Each}
+use Rattle.rob_model.proofs.PartLemmas.{drop_at, drop_past}
 use Rattle.rob_model.specs.Within.{◌>>=◌}
 use Rattle.rob_meaning.specs.Clearing.{fractions}
-use Rattle.rob_check.specs.Sums.{with_part, added_within, products, column as column_of}
+use Rattle.rob_check.specs.Verdicts.{Counted, is_wide}
+use Rattle.rob_check.specs.declared.verdict.Verdict.{Verdict}
+use Rattle.rob_check.specs.Sums.{with_part, added_within, dot_within, products, column as column_of}
 
 -- ---- a product with an entry
 module _ (limit : ℕ) (so_far number : Fraction) where
@@ -88,3 +93,98 @@ module _ {N : Type 0} (value : N → Fraction) (limit column : ℕ) where
   cut_left vector k form i so_far =
       added_within limit so_far
       (products limit (map value (drop k vector)) (column_of column (fractions (drop i form))))
+
+  -- the sum so far with a number times its row's entry
+  abbrev part_of : N → List ℤ → Fraction → Option Fraction
+  part_of number entries so_far = with_part limit so_far (kept limit (value number *ℚ at (map of_int entries) column))
+
+  module _ (vector : List N) (k : ℕ) (form : List (List ℤ)) (i : ℕ) (number : N) (row entries : List ℤ)
+      (so_far : Fraction) (inside : k < length vector) (is : number ≡ get_or vector k number)
+      (some : i < length form) (row_is : row ≡ get_or form i row) (same : entries ≡ row) where
+    cut_step : cut_left vector k form i so_far
+        ≡ added_within limit so_far
+        (kept limit (value number *ℚ at (map of_int entries) column)
+        ∷ products limit (map value (drop (k + 1) vector)) (column_of column (fractions (drop (i + 1) form))))
+    cut_step =
+        ap₂ (λ (xs : List N) (rows : List (List ℤ)).
+        added_within limit so_far (products limit (map value xs) (column_of column (fractions rows))))
+        (drop_at vector k number inside is) (drop_at form i row some row_is)
+        ∙ ap (λ (es : List ℤ). added_within limit so_far
+        (kept limit (value number *ℚ at (map of_int es) column)
+        ∷ products limit (map value (drop (k + 1) vector)) (column_of column (fractions (drop (i + 1) form)))))
+        (sym same)
+
+    pub cut_stops : None ≡ part_of number entries so_far → None ≡ cut_left vector k form i so_far
+    cut_stops none = part_wide limit so_far _ _ none ∙ sym cut_step
+
+    pub cut_goes : (next : Fraction) → Some next ≡ part_of number entries so_far
+        → cut_left vector (k + 1) form (i + 1) next ≡ cut_left vector k form i so_far
+    cut_goes next h = part_added limit so_far _ _ next h ∙ sym cut_step
+
+  pub cut_ends : (vector : List N) (k : ℕ) (form : List (List ℤ)) (i : ℕ) (so_far : Fraction) → length vector ≤ k
+      → Some so_far ≡ cut_left vector k form i so_far
+  cut_ends vector k form i so_far past =
+      sym (ap (λ (xs : List N). added_within limit so_far
+      (products limit (map value xs) (column_of column (fractions (drop i form))))) (drop_past vector k past))
+
+  -- the base, with the row of the constant
+  module _ (base : N) (vector : List N) (form : List (List ℤ)) (row entries : List ℤ) (nothing : Fraction)
+      (none : nothing ≡ 0ℚ) (some : 0 < length form) (row_is : row ≡ get_or form 0 row) (same : entries ≡ row) where
+    base_step : dot_within limit (value base ∷ map value vector) (column_of column (fractions form))
+        ≡ added_within limit nothing
+        (kept limit (value base *ℚ at (map of_int entries) column)
+        ∷ products limit (map value vector) (column_of column (fractions (drop 1 form))))
+    base_step =
+        ap (λ (rows : List (List ℤ)). dot_within limit (value base ∷ map value vector)
+        (column_of column (fractions rows))) (drop_at form 0 row some row_is)
+        ∙ ap₂ (λ (es : List ℤ) (z : Fraction). added_within limit z
+        (kept limit (value base *ℚ at (map of_int es) column)
+        ∷ products limit (map value vector) (column_of column (fractions (drop 1 form)))))
+        (sym same) (sym none)
+
+    pub base_stops : None ≡ part_of base entries nothing
+        → None ≡ dot_within limit (value base ∷ map value vector) (column_of column (fractions form))
+    base_stops wide = part_wide limit nothing _ _ wide ∙ sym base_step
+
+    pub base_goes : (next : Fraction) → Some next ≡ part_of base entries nothing
+        → cut_left vector 0 form 1 next
+        ≡ dot_within limit (value base ∷ map value vector) (column_of column (fractions form))
+    base_goes next h = part_added limit nothing _ _ next h ∙ sym base_step
+
+-- the entries of a row of a matrix that fits
+pub row_fits : (limit : ℕ) (form : List (List ℤ)) (i : ℕ) (row entries : List ℤ) → i < length form
+    → row ≡ get_or form i row → entries ≡ row → Each (Each (λ a. nat_abs a ≤ limit)) form
+    → Each (λ a. nat_abs a ≤ limit) entries
+row_fits limit [] i row entries inside is same all = absurd (omega arith)
+row_fits limit (x ∷ form) zero row entries inside is same all =
+    subst (Each (λ a. nat_abs a ≤ limit)) (sym (same ∙ is)) all.0
+row_fits limit (x ∷ form) (suc i) row entries inside is same all =
+    row_fits limit form i row entries (omega arith) is same all.1
+
+-- ---- what a part more counts, behind what never fell
+module _ {S : Type 0} {ops wides : S → ℕ} {a b : S} where
+  pub never_told : {T E : Type 0} {r : Result T E} → CountsTold ops wides a b r → NeverFell ops wides a b
+  never_told h = record { ops = h.ops; wides = h.told.never_fell }
+
+  pub sum_counted : {T E : Type 0} {x : T} → NeverFell ops wides a b → CountsTold {E = E} ops wides a b (Ok x)
+  sum_counted f = record { ops = f.ops; told = record { never_fell = f.wides; refused = tt } }
+
+  pub refused_later : {c : S} {T U E : Type 0} {e g : E} → NeverFell ops wides a b
+      → CountsTold {T = T} ops wides b c (Err e) → CountsTold {T = U} ops wides a c (Err g)
+  refused_later {c = c} f h =
+      record {
+        ops = omega (arith, f.ops, h.ops);
+        told = record {
+          never_fell = omega (arith, f.wides, h.told.never_fell);
+          refused = rose_later (wides a) (wides b) (wides c) f.wides h.told.refused;
+        };
+      }
+
+  -- a verdict counts behind it too
+  pub counted_later : {c : S} {v : Verdict} → NeverFell ops wides a b → Counted ops wides b c v → Counted ops wides a c v
+  counted_later {c = c} {v = v} f h =
+      record {
+        ops = omega (arith, f.ops, h.ops);
+        wides = omega (arith, f.wides, h.wides);
+        rose = rise_later (is_wide v) (wides a) (wides b) (wides c) f.wides h.rose;
+      }

@@ -2,7 +2,7 @@ use Rattle.std.proofs.Common.{map, arith, ◌∙◌, get_or, ap, length, refl}
 use Rattle.std.specs.Result.{result_ok}
 use Rattle.rob_check.specs.Scenario.{taken_place}
 use Rattle.rob_check.specs.declared.verdict.Verdict.TheVariants.{Accepted}
-use Rattle.rob_check.proofs.ScenarioLemmas.{statement_goes, statement_stops}
+use Rattle.rob_check.proofs.ScenarioLemmas.{number_fits, statement_goes, statement_stops}
 use Rattle.rob_meaning.specs.WellFormed.{IsSetLine}
 use Rattle.rob_model.proofs.PartLemmas.{each_at_map}
 use Rattle.rob_model.specs.View.{robust, set_line_of}
@@ -47,3 +47,19 @@ loop-line-preserved g c =
         wides = omega (arith, c.loop-line.invariant.counted.wides, c.holds-test.ensures.counted.told.never_fell);
       };
     }
+
+pub overflow_add-index : goal.overflow_add-index
+overflow_add-index g c =
+    number_fits c.requires.valid c.items-line-items.ensures.list c.requires.small c.loop-line.invariant.number
+    c.loop-line-test.true
+
+pub holds-test-requires-clause-few : goal.holds-test-requires-clause-few
+holds-test-requires-clause-few g c = c.requires.valid.limits.columns
+
+pub holds-test-requires-clause-line : goal.holds-test-requires-clause-line
+holds-test-requires-clause-line g c =
+    let m = robust g.N.Exact.value c.args.model.now in
+    (each_at_map (IsSetLine m) (set_line_of g.N.Exact.value) c.args.model.now.set_lines c.loop-line.line-index
+    c.line-item.result (omega (arith, c.loop-line-test.true, ap length c.items-line-items.ensures.list))
+    (c.line-item.is ∙ ap (λ xs. get_or xs c.loop-line.line-index c.line-item.result) c.items-line-items.ensures.list)
+    c.loop-line.invariant.lines).0

@@ -3,7 +3,8 @@ use Rattle.rob_check.specs.Scenario.{taken_place}
 use Rattle.rob_meaning.specs.SetConditions.{all_stated}
 use Rattle.rob_model.specs.View.{robust, set_line_of}
 use Rattle.rob_model.specs.declared.model.Param.{Param}
-use Rattle.rob_check.proofs.ScenarioLemmas.{few_declared, parameter_stops, parameter_goes}
+use Rattle.rob_check.proofs.ScenarioLemmas.{declared_fits, few_declared, index_fits, index_small, parameter_goes, parameter_stops, parameters_end}
+use Rattle.rob_check.proofs.SumLemmas.{counted_later}
 use Rattle.rob_check.proofs.scenario.check_vector.Goals as goal
 
 pub returns-in_default-clause-exact : goal.returns-in_default-clause-exact
@@ -48,3 +49,39 @@ loop-k-preserved g c =
         wides = omega (arith, c.loop-k.invariant.counted.wides, c.in-Accepted.ensures.counted.wides);
       };
     }
+
+pub overflow_add-index : goal.overflow_add-index
+overflow_add-index g c =
+    declared_fits c.param-item.result.lower c.param-item.result.upper c.declared.ensures.count
+    c.declared-in-loop-k.ensures.count
+
+pub overflow_add-index-in-loop-k : goal.overflow_add-index-in-loop-k
+overflow_add-index-in-loop-k g c =
+    index_fits c.requires.valid c.items-param-items.ensures.list c.loop-k.invariant.small
+    (omega (arith, c.loop-k-test.true)) c.param-item.result.lower c.param-item.result.upper c.declared.ensures.count
+    c.declared-in-loop-k.ensures.count
+
+pub check_bounds-requires : goal.check_bounds-requires
+check_bounds-requires g c = record {
+  small = index_small c.requires.valid c.items-param-items.ensures.list c.loop-k.invariant.small
+      (omega (arith, c.loop-k-test.true));
+}
+
+pub check_statements-requires-clause-small : goal.check_statements-requires-clause-small
+check_statements-requires-clause-small g c =
+    index_small c.requires.valid c.items-param-items.ensures.list c.loop-k.invariant.small c.loop-k.auto.k-end
+
+pub returns-in_default-clause-counted : goal.returns-in_default-clause-counted
+returns-in_default-clause-counted g c = counted_later c.loop-k.invariant.counted c.check_bounds.ensures.counted
+
+pub returns-clause-exact : goal.returns-clause-exact
+returns-clause-exact g c =
+    let value = g.N.Exact.value in
+    c.check_statements.ensures.exact
+    ∙ parameters_end g.N.Exact.limit (robust value c.args.model.now) (taken_place c.args.taken) (value c.args.base)
+    (map value c.args.vector.now) value c.args.model.now.params c.loop-k.k c.loop-k.index
+    (all_stated (map (set_line_of value) c.args.model.now.set_lines))
+    (omega (arith, c.loop-k-test.false, ap length c.items-param-items.ensures.list)) ∙ c.loop-k.invariant.rest
+
+pub returns-clause-counted : goal.returns-clause-counted
+returns-clause-counted g c = counted_later c.loop-k.invariant.counted c.check_statements.ensures.counted
