@@ -77,6 +77,13 @@ module _ {N : Type 0} (value : N → Fraction) (limit : ℕ) where
         ≡ rows_left (numbers_in (lifted_of set) column) mine k so_far
     rows_go_on next some = part_added limit so_far _ _ next some ∙ sym rows_split
 
+  pub rows_end : (numbers : List Fraction) (mine : List (Cover N)) (k : ℕ) (so_far : Fraction) → length mine ≤ k
+      → Some so_far ≡ rows_left numbers mine k so_far
+  rows_end numbers mine k so_far past =
+      sym (ap (λ (xs : List (Cover N)). added_within limit so_far
+      (map (λ (c : meaning.Cover). kept limit (c.amount *ℚ at numbers c.set_row)) (map (cover_of value) xs)))
+      (drop_past mine k past))
+
 -- ---- a row of a form at a vector
 row_split : (row : List ℤ) (j : ℕ) → j < length row
     → map of_int (drop j row) ≡ at (map of_int row) j ∷ map of_int (drop (j + 1) row)

@@ -1,11 +1,11 @@
 use Rattle.std.proofs.lemmas.Result.{err_from_is_err_and}
-use Rattle.std.proofs.Common.{◌≡◌, List, length, get_or, arith, ◌∙◌, subst}
+use Rattle.std.proofs.Common.{◌≡◌, List, length, get_or, arith, ap, sym, ◌∙◌, subst}
 use Rattle.rob_cert.specs.View.{cover_of}
 use Rattle.rob_meaning.specs.Certificates.{Cover}
 use Rattle.rob_model.proofs.PartLemmas.{each_at_map}
 use Rattle.rob_sets.specs.declared.set_form.SetRow.{SetRow}
 use Rattle.std.proofs.Common.{◌<◌}
-use Rattle.rob_check.proofs.CoverLemmas.{rows_stop, rows_go_on}
+use Rattle.rob_check.proofs.CoverLemmas.{rows_end, rows_go_on, rows_stop}
 use Rattle.rob_check.proofs.covers.rows_sum.Goals as goal
 
 pub returns-in_err-sum-clause-exact : goal.returns-in_err-sum-clause-exact
@@ -46,3 +46,15 @@ loop-cover-preserved g c =
         wides = omega (arith, c.loop-cover.invariant.counted.wides, c.in_ok-sum.ensures.counted.told.never_fell);
       };
     }
+
+pub bounds-items-cover : goal.bounds-items-cover
+bounds-items-cover g c =
+    subst (λ n. c.cover-item.result.set_row < n) (sym (ap length c.items.ensures.list))
+    (each_at_map (λ (x : Cover). x.set_row < length c.args.set.now.rows) (cover_of g.N.Exact.value) c.args.mine.now
+    c.loop-cover.cover-index c.cover-item.result c.loop-cover-test.true c.cover-item.is
+    c.loop-cover.invariant.names).0
+
+pub returns-clause-exact : goal.returns-clause-exact
+returns-clause-exact g c =
+    rows_end g.N.Exact.value g.N.Exact.limit _ c.args.mine.now c.loop-cover.cover-index
+    (g.N.Exact.value c.loop-cover.sum) (omega (arith, c.loop-cover-test.false)) ∙ c.loop-cover.invariant.rest
