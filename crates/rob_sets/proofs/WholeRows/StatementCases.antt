@@ -1,6 +1,6 @@
 -- A statement by its kind: what a valid model says of its parts, and its rows when they are appended.
 use Rattle.std.specs.Prelude.{◌≡◌, ℕ, ◌+◌, ◌*◌, ◌<◌, List, [], ◌∷◌, ◌++◌, length, map, Result}
-use Rattle.std.proofs.Common.{sym, ap, arith, subst}
+use Rattle.std.proofs.Common.{sym, ap, arith, subst, append-nil}
 use Rattle.std.proofs.lemmas.List.{length-map}
 use Rattle.rob_algebra.specs.Fraction.{Fraction}
 use Rattle.rob_meaning.specs.Forms.{sides}
@@ -21,7 +21,6 @@ use Rattle.rob_sets.specs.FirstWide.{Judged}
 use Rattle.rob_sets.specs.SetForm.{judged_rows, judged_sides, judged_statements}
 use Rattle.rob_sets.specs.declared.error.ElabErr.{ElabErr}
 use Rattle.rob_sets.specs.declared.set_form.SetRow.{SetRow}
-use Rattle.rob_sets.proofs.Cells.ListLemmas.{append-nil}
 use Rattle.rob_sets.proofs.WholeRows.StatementLemmas.{line_judged, line_rows}
 
 module _ {N : Type 0} (value : N → Fraction) (m : RobustModel) where
