@@ -183,7 +183,7 @@ module _ {N : Type 0} (value : N → Fraction) (model : Model N) (cuts : List Cu
         variables = variables_with vars list name v n pushed i;
         adaptives = map (adaptive_of value) (a i);
         objective =
-            (variable_is (robust value model) 0 value count
+            (variable_is value count
             ∙ ap variable (k ∙ sym (length-map model.vars (variable_of value)))) i;
         rows = map (row_of value) (r i);
         row_sets = rs i;

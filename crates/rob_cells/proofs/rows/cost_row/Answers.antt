@@ -20,7 +20,7 @@ returns g c =
         name = (c.in_ok-numbered.ensures.numbered
             ∙ ap (λ (word : List ℕ). numbered word c.args.c) c.in_ok-word.ensures.equal) i;
         left =
-            (variable_is m c.args.c value (length c.items.result.now)
+            (variable_is value (length c.items.result.now)
             ∙ ap variable (ap length c.items.ensures.list ∙ sym (length-map model.vars (variable_of value)))) i;
         relation = c.cost_rel.ensures.relation m c.args.c i;
         right = c.in_ok-expr_over.ensures.over i;
