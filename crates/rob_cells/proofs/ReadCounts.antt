@@ -1,6 +1,6 @@
 -- What the program counts of a valid model: what is taken away is there, what is multiplied is little, and the counts
 -- of the split model are those that come of it.
-use Rattle.std.proofs.Common.{◌≡◌, ℕ, ◌+◌, ◌-◌, ◌*◌, ◌≤◌, List, map, length, ap, sym, ◌∙◌, subst, arith, Fits, w64}
+use Rattle.std.proofs.Common.{◌≡◌, ℕ, ◌+◌, ◌-◌, ◌*◌, ◌≤◌, List, map, length, refl, ap, sym, ◌∙◌, subst, arith, Fits, w64}
 use Rattle.std.proofs.lemmas.List.{length-map}
 use Rattle.rob_algebra.specs.Fraction.{Fraction}
 use Rattle.rob_cells.proofs.CountLemmas.{less_of}
@@ -50,9 +50,16 @@ module _ {N : Type 0} {value : N → Fraction} {model : Model N} (valid : IsVali
       let all = valid.limits.members in
       let e = mem ∙ ap (λ cs. lift_count (map (set_line_of value) cs)) list in subst (λ n. n ≤ 64) (sym e) all
 
+  pub members_within : {lines : List (SetLine N)} → lines ≡ model.set_lines
+      → lift_count (map (set_line_of value) lines) ≤ 64
+  members_within list = members_few refl list
+
   -- ---- what is added up and multiplied by the number of cells fits
   pub vars_fit : {vars : List (Var N)} → vars ≡ model.vars → Fits w64 (length vars + 1)
   vars_fit list = omega (arith, few_vars valid list)
+
+  pub rows_fit : {rows : List (RowDef N)} → rows ≡ model.rows → Fits w64 (1 + length rows)
+  rows_fit list = omega (arith, few_rows valid list)
 
   pub row_bounds_fit : {rows : List (RowDef N)} {bounds : ℕ} → rows ≡ model.rows → bounds ≤ 1200
       → Fits w64 (1 + length rows + bounds)
@@ -108,6 +115,10 @@ module _ {N : Type 0} {value : N → Fraction} {model : Model N} (valid : IsVali
     pub forms_times : {forms : ℕ} (bounds : ℕ) → forms ≡ length (form_names (robust value model))
         → Fits w64 (cells * (forms - bounds))
     forms_times bounds f = omega (arith, cell_forms_few bounds f)
+
+    pub own_forms_fit : {forms : ℕ} (bounds : ℕ) → forms ≡ length (form_names (robust value model))
+        → Fits w64 (1 + cells * (forms - bounds))
+    own_forms_fit bounds f = omega (arith, cell_forms_few bounds f)
 
     pub forms_fit : {forms bounds : ℕ} → forms ≡ length (form_names (robust value model)) → bounds ≤ 1200
         → Fits w64 (1 + cells * (forms - bounds) + bounds)

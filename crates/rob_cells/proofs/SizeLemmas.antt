@@ -1,6 +1,6 @@
 -- How large the split model is, by the parts of the model.
-use Rattle.std.proofs.Common.{◌≡◌, ℕ, zero, suc, ◌+◌, ◌*◌, List, [], ◌∷◌, ◌++◌, map, length, refl, ap, ◌∙◌, arith, length-append, suc-mul, zero-mul}
-use Rattle.std.specs.Prelude.{codes, flat_map, Option, Some, None, option_to_list}
+use Rattle.std.proofs.Common.{◌≡◌, ℕ, zero, suc, ◌+◌, ◌*◌, ◌<◌, ◌≤◌, List, [], ◌∷◌, ◌++◌, map, length, get_or, drop, refl, ap, sym, ◌∙◌, arith, length-append, suc-mul, zero-mul}
+use Rattle.std.specs.Prelude.{codes, flat_map, Option, Some, None, option_map, option_to_list}
 use Rattle.std.proofs.lemmas.List.{length-map}
 use Rattle.rob_algebra.specs.Fraction.{Fraction}
 use Rattle.rob_meaning.specs.Forms.{row_forms, sides}
@@ -9,6 +9,17 @@ use Rattle.rob_meaning.specs.RobustModel.{AdaptiveVariable, RobustModel, Row, Se
 use Rattle.rob_meaning.specs.SetConditions.{if_declared}
 use Rattle.rob_meaning.specs.Sizes.{adaptive_bounds, variable_bounds}
 use Rattle.rob_meaning.proofs.Tables.SizeLemmas.{inequalities, length-declared, length-sides}
+use Rattle.rob_meaning.specs.SetRows.{lift_count}
+use Rattle.rob_model.proofs.ConditionLemmas.{few_declared}
+use Rattle.rob_model.proofs.PartLemmas.{drop_at}
+use Rattle.rob_model.specs.View.{adaptive_of, member_of, set_line_of, variable_of}
+use Rattle.rob_model.specs.declared.expr.Expr.{Expr}
+use Rattle.rob_model.specs.declared.model.Adaptive.{Adaptive}
+use Rattle.rob_model.specs.declared.model.Member.{Member}
+use Rattle.rob_model.specs.declared.model.Rel.{Rel}
+use Rattle.rob_model.specs.declared.model.SetLine.{SetLine}
+use Rattle.rob_model.specs.declared.model.SetLine.TheVariants as lines
+use Rattle.rob_model.specs.declared.model.Var.{Var}
 use Rattle.rob_pieces.specs.SplitModel.{bound_row, bound_rows, cell_rows, copy_in, cost_relation, cost_row, row_over}
 
 -- ---- one block for each cell
@@ -126,3 +137,69 @@ module _ (m : RobustModel) (c : ℕ) where
         length-map m.rows (row_over m c),
         length-bound_rows 0 m.adaptives,
       )
+
+-- ---- what is counted item by item
+-- of two bounds at most two are declared
+pub two_declared : {A B : Type 0} (a : Option A) (b : Option B) {lower upper : ℕ}
+    → lower ≡ length (option_to_list a) → upper ≡ length (option_to_list b) → lower + upper ≤ 2
+two_declared a b l u = omega (arith, l, u, few_declared a, few_declared b)
+
+module _ {N : Type 0} (value : N → Fraction) where
+  declared_same : (o : Option N) → length (option_to_list (option_map value o)) ≡ length (option_to_list o)
+  declared_same None = refl
+  declared_same (Some x) = refl
+
+  -- one variable, adaptive variable or statement more
+  pub variable_more : (xs : List (Var N)) (i : ℕ) (x : Var N) (count : ℕ) {lower upper all : ℕ} → i < length xs
+      → x ≡ get_or xs i x → lower ≡ length (option_to_list x.lower) → upper ≡ length (option_to_list x.upper)
+      → count + variable_bounds (map (variable_of value) (drop i xs)) ≡ all
+      → count + (lower + upper) + variable_bounds (map (variable_of value) (drop (i + 1) xs)) ≡ all
+  variable_more xs i x count h e l u so_far =
+      omega (
+        arith,
+        ap (λ ys. variable_bounds (map (variable_of value) ys)) (drop_at xs i x h e),
+        declared_same x.lower,
+        declared_same x.upper,
+        l,
+        u,
+        so_far,
+      )
+
+  pub adaptive_more : (ys : List (Adaptive N)) (i : ℕ) (y : Adaptive N) (count : ℕ) {lower upper all : ℕ}
+      → i < length ys → y ≡ get_or ys i y → lower ≡ length (option_to_list y.lower)
+      → upper ≡ length (option_to_list y.upper)
+      → count + adaptive_bounds (map (adaptive_of value) (drop i ys)) ≡ all
+      → count + (lower + upper) + adaptive_bounds (map (adaptive_of value) (drop (i + 1) ys)) ≡ all
+  adaptive_more ys i y count h e l u so_far =
+      omega (
+        arith,
+        ap (λ zs. adaptive_bounds (map (adaptive_of value) zs)) (drop_at ys i y h e),
+        declared_same y.lower,
+        declared_same y.upper,
+        l,
+        u,
+        so_far,
+      )
+
+  module _ (cs : List (SetLine N)) (i : ℕ) (line : SetLine N) (count : ℕ) {all : ℕ} (h : i < length cs)
+      (e : line ≡ get_or cs i line) (so_far : count + lift_count (map (set_line_of value) (drop i cs)) ≡ all) where
+    -- the statement there is what is counted next
+    next : count + lift_count (map (set_line_of value) (line ∷ drop (i + 1) cs)) ≡ all
+    next = ap (λ ds. count + lift_count (map (set_line_of value) ds)) (sym (drop_at cs i line h e)) ∙ so_far
+
+    pub budget_more : {limit : N} {members items : List (Member N)} → line ≡ lines.Budget limit members
+        → items ≡ members
+        → count + length items + lift_count (map (set_line_of value) (drop (i + 1) cs)) ≡ all
+    budget_more {limit} {members} {items} is same =
+        omega (
+          arith,
+          ap (λ d. count + lift_count (map (set_line_of value) (d ∷ drop (i + 1) cs))) is,
+          next,
+          ap length same,
+          length-map members (member_of value),
+        )
+
+    pub line_more : {left right : Expr N} {rel : Rel} → line ≡ lines.Line left rel right
+        → count + lift_count (map (set_line_of value) (drop (i + 1) cs)) ≡ all
+    line_more is =
+        sym (ap (λ d. count + lift_count (map (set_line_of value) (d ∷ drop (i + 1) cs))) is) ∙ next

@@ -82,7 +82,7 @@ module _ {N : Type 0} (value : N → Fraction) (limit : ℕ) where
   rows_end numbers mine k so_far past =
       sym (ap (λ (xs : List (Cover N)). added_within limit so_far
       (map (λ (c : meaning.Cover). kept limit (c.amount *ℚ at numbers c.set_row)) (map (cover_of value) xs)))
-      (drop_past mine k past))
+      (drop_all k mine past))
 
 -- ---- a row of a form at a vector
 row_split : (row : List ℤ) (j : ℕ) → j < length row

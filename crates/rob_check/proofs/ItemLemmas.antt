@@ -8,7 +8,7 @@ use Rattle.rob_cert.specs.declared.certificate.Item.{Item}
 use Rattle.rob_meaning.specs.Clearing.{fractions}
 use Rattle.rob_meaning.specs.Forms.{matrix_at}
 use Rattle.rob_meaning.specs.RobustModel.{RobustModel}
-use Rattle.rob_model.proofs.PartLemmas.{drop_at, drop_past}
+use Rattle.rob_model.proofs.PartLemmas.{drop_at, drop_all}
 use Rattle.rob_model.specs.Within.{◌>>=◌}
 use Rattle.rob_check.specs.Conditions.{item_tests, item_within, items_tests}
 use Rattle.rob_check.specs.Sums.{added_within, column, dot_within, with_part}
@@ -72,7 +72,7 @@ module _ {N : Type 0} (value : N → Fraction) (limit : ℕ) (forms : List (List
       → Some so_far ≡ column_left items k so_far
   column_ends items k so_far past =
       sym (ap (λ (xs : List (Item N)). added_within limit so_far
-      (map (item_within limit forms j) (map (item_of value) xs))) (drop_past items k past))
+      (map (item_within limit forms j) (map (item_of value) xs))) (drop_all k items past))
 
 -- ---- the verdict on items
 module _ {N : Type 0} (value : N → Fraction) (limit : ℕ) (m : RobustModel)

@@ -5,7 +5,7 @@ use Rattle.std.specs.Prelude.{Option, Some, None, option_map, option_to_list}
 use Rattle.rob_algebra.specs.Fraction.{Fraction}
 use Rattle.rob_meaning.specs.RobustModel.{RobustModel}
 use Rattle.rob_meaning.specs.SetConditions.{SetCondition, all_stated, bounds_from, bounds_of, if_declared, lower_bound, stated, upper_bound}
-use Rattle.rob_model.proofs.PartLemmas.{drop_at, drop_past}
+use Rattle.rob_model.proofs.PartLemmas.{drop_at, drop_all}
 use Rattle.rob_model.specs.View.{parameter_of, set_line_of}
 use Rattle.rob_model.specs.Valid.{IsValid}
 use Rattle.rob_model.specs.Within.{declared_within, holds_within}
@@ -186,7 +186,7 @@ pub parameters_end : (limit : ℕ) (m : RobustModel) (place : ℕ → Place) (s 
     ≡ verdict (set_tests limit m place s p index (bounds_from k (map (parameter_of value) (drop k params)) ++ behind))
 parameters_end limit m place s p {N} value params k index behind past =
     sym (ap (λ (xs : List (Param N)). verdict (set_tests limit m place s p index
-    (bounds_from k (map (parameter_of value) xs) ++ behind))) (drop_past params k past))
+    (bounds_from k (map (parameter_of value) xs) ++ behind))) (drop_all k params past))
 
 -- ---- the numbers of conditions are small
 declared_few : {A : Type 0} (o p : Option A) {a b : ℕ} → a ≡ length (option_to_list o) → b ≡ length (option_to_list p)

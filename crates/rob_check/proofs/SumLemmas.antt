@@ -10,7 +10,7 @@ use Rattle.rob_algebra.specs.FractionLaws as Q
 use Rattle.rob_algebra.specs.Polynomials.{lit, ◌:+◌, ◌:*◌, v0}
 use Rattle.rob_algebra.specs.Width.{Fits, kept}
 use Rattle.rob_meaning.specs.Places.{0ℚ, at, Each}
-use Rattle.rob_model.proofs.PartLemmas.{drop_at, drop_past}
+use Rattle.rob_model.proofs.PartLemmas.{drop_at, drop_all}
 use Rattle.rob_model.specs.Within.{◌>>=◌}
 use Rattle.rob_meaning.specs.Clearing.{fractions}
 use Rattle.rob_check.specs.Verdicts.{Counted, is_wide}
@@ -125,7 +125,7 @@ module _ {N : Type 0} (value : N → Fraction) (limit column : ℕ) where
       → Some so_far ≡ cut_left vector k form i so_far
   cut_ends vector k form i so_far past =
       sym (ap (λ (xs : List N). added_within limit so_far
-      (products limit (map value xs) (column_of column (fractions (drop i form))))) (drop_past vector k past))
+      (products limit (map value xs) (column_of column (fractions (drop i form))))) (drop_all k vector past))
 
   -- the base, with the row of the constant
   module _ (base : N) (vector : List N) (form : List (List ℤ)) (row entries : List ℤ) (nothing : Fraction)
