@@ -1,6 +1,7 @@
 -- The names of a model's parts by their numbers, and how many conditions and columns the set has.
-use Rattle.std.proofs.Common.{◌≡◌, ℕ, zero, suc, ◌+◌, ◌<◌, List, [], ◌∷◌, ◌++◌, length, arith, refl, ap, ap₂, sym, ◌∙◌, length-append}
+use Rattle.std.proofs.Common.{◌≡◌, ℕ, zero, suc, ◌+◌, ◌*◌, ◌<◌, ◌≤◌, List, [], ◌∷◌, ◌++◌, map, length, arith, refl, ap, ap₂, sym, ◌∙◌, length-append}
 use Rattle.std.specs.Prelude.{codes}
+use Rattle.std.proofs.lemmas.List.{length-map}
 use Rattle.std.proofs.lemmas.Option.{get_or_from_slice_get}
 use Rattle.rob_cert.specs.Spelling.{name_at}
 use Rattle.rob_meaning.proofs.Naming.NameLemmas.{both_declared}
@@ -8,7 +9,13 @@ use Rattle.rob_meaning.specs.Names.{Name, set_column_names, set_condition_names}
 use Rattle.rob_meaning.specs.RobustModel.{Parameter, SetLine, RobustModel}
 use Rattle.rob_meaning.specs.SetConditions.{if_declared, all_stated, bounds_from, lower_bound, upper_bound, set_conditions}
 use Rattle.rob_model.specs.GroupNames.{bound_names, dotted, parameter_bound_names}
+use Rattle.rob_model.specs.Limits.{most_parameters}
 use Rattle.rob_model.specs.Naming.{AppendsName, set_place_names}
+use Rattle.rob_model.specs.Valid.{IsValid}
+use Rattle.rob_model.specs.View.{parameter_of, set_line_of}
+use Rattle.rob_model.specs.declared.model.Model.{Model}
+use Rattle.rob_model.specs.declared.model.Param.{Param}
+use Rattle.rob_model.specs.declared.model.SetLine as statement
 
 -- the name that is told stands at its number
 pub named_at : (names : List Name) (k : ℕ) (old new : List ℕ) → AppendsName names k old new
@@ -56,3 +63,21 @@ module _ (m : RobustModel) where
   -- the places of the set are its conditions and its columns
   pub length-set_place_names : length (set_place_names m) ≡ length (set_condition_names m) + length (set_column_names m)
   length-set_place_names = length-append (set_condition_names m) (set_column_names m)
+
+-- the parameters and statements of a valid model are few, and its conditions too
+module _ {N : Type 0} {value : N → Fraction} {m : Model N} (valid : IsValid value m) {params : List (Param N)}
+    (same : params ≡ m.params) where
+  pub params_few : length params ≤ most_parameters
+  params_few = omega (arith, ap length same, length-map m.params (parameter_of value), valid.limits.parameters)
+
+  pub conditions_few : {lines : List (statement.SetLine N)} {bounds : ℕ} → bounds ≤ 2 * length params
+      → lines ≡ m.set_lines → bounds + length lines ≤ 256
+  conditions_few few list =
+      omega (
+        arith,
+        few,
+        params_few,
+        ap length list,
+        length-map m.set_lines (set_line_of value),
+        valid.limits.set_lines,
+      )
