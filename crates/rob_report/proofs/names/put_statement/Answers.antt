@@ -6,7 +6,7 @@ use Rattle.rob_meaning.specs.Names.{set_condition_names}
 use Rattle.rob_meaning.specs.SetConditions.{bounds_from}
 use Rattle.rob_model.specs.GroupNames.{parameter_bound_names}
 use Rattle.rob_model.specs.View.{parameter_of, robust, set_line_of}
-use Rattle.rob_report.proofs.NameLemmas.{length-parameter_bound_names, length-set_conditions}
+use Rattle.rob_report.proofs.NameLemmas.{length-parameter_bound_names, length-set_conditions, params_few}
 use Rattle.rob_report.proofs.names.put_statement.Goals as goal
 
 pub put_condition-requires-clause-inside : goal.put_condition-requires-clause-inside
@@ -38,3 +38,6 @@ returns g c =
           (λ e. e ∙ ap (λ n. c.args.out.now ++ name_at (set_condition_names m) (n + c.args.index)) bounds)
           c.put_condition.ensures.appended;
     }
+
+pub bound_count-requires : goal.bound_count-requires
+bound_count-requires g c = record { few = params_few c.requires.valid c.items.ensures.list }
