@@ -3,6 +3,7 @@ use Rattle.std.proofs.Common.{◌≡◌, ℕ, zero, suc, ◌+◌, ◌*◌, ◌<�
 use Rattle.std.specs.Prelude.{codes}
 use Rattle.std.proofs.lemmas.List.{length-map}
 use Rattle.std.proofs.lemmas.Option.{get_or_from_slice_get}
+use Rattle.rob_algebra.specs.Fraction.{Fraction}
 use Rattle.rob_cert.specs.Spelling.{name_at}
 use Rattle.rob_meaning.proofs.Naming.NameLemmas.{both_declared}
 use Rattle.rob_meaning.specs.Names.{Name, set_column_names, set_condition_names}
