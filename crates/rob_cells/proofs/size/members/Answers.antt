@@ -19,10 +19,10 @@ loop-line-preserved g c =
     let value = g.N.Exact.value in
     let rest = lift_count (map (set_line_of value) (drop (c.loop-line.line-index + 1) c.args.lines.now)) in
     elim c.match-line.branch [
-      in-Budget w ↦ ap (λ n. n + rest) w.count-is
+      | in-Budget w ↦ ap (λ n. n + rest) w.count-is
           ∙ budget_more value c.args.lines.now c.loop-line.line-index c.line-item.result c.loop-line.count
           c.loop-line-test.true c.line-item.is c.loop-line.invariant w.in-Budget.is w.items.ensures.list
-    | in_default w ↦ ap (λ n. n + rest) w.count-is
+      | in_default w ↦ ap (λ n. n + rest) w.count-is
           ∙ line_more value c.args.lines.now c.loop-line.line-index c.line-item.result c.loop-line.count
           c.loop-line-test.true c.line-item.is c.loop-line.invariant w.in_default.is
     ]

@@ -94,7 +94,7 @@ vector-requires g c = record {
 }
 
 pub whole-requires : goal.whole-requires
-whole-requires g c = record { within = g.met.N.Exact.limit_low; }
+whole-requires g c = record { within = g.met.N.Exact.limit_low }
 
 pub loop-i-init : goal.loop-i-init
 loop-i-init g c = ap (map (item_of g.N.Exact.value)) c.new-all.ensures.empty
