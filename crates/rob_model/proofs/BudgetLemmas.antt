@@ -45,12 +45,6 @@ module _ {N : Type 0} (value : N → Fraction) (m : RobustModel) where
       budget_stops none = stops _ budget_test none ∙ sym budget_step
 
       module _ (total : Fraction) (some : Some total ≡ total_within limit m s p (map (member_of value) xs) 0ℚ) where
-        pub limit_stops : None ≡ kept limit (s *ℚ value most)
-            → None ≡ holds_within limit m s p (stated (set_line_of value line))
-        unfolding budget_test
-        limit_stops none =
-            stops _ (λ scaled. Some (is_at_most total scaled)) none ∙ goes _ budget_test total some ∙ sym budget_step
-
         pub budget_is : (scaled : Fraction) (b : Bool) → Some scaled ≡ kept limit (s *ℚ value most)
             → b ≡ is_at_most total scaled
             → Some b ≡ holds_within limit m s p (stated (set_line_of value line))

@@ -82,10 +82,6 @@ told_last nest (q ∷ front) r [] t h e k = absurd (omega (arith, e))
 told_last nest [] r (u ∷ ts) t h e k = absurd h
 told_last nest (q ∷ front) r (u ∷ ts) t h e k = (h.0, told_last (q ∷ nest) front r ts t h.1 (omega (arith, e)) k)
 
-told_longer : (ts : List Told) (t : Told) → length (ts ++ t ∷ []) ≡ length ts + 1
-told_longer [] t = refl
-told_longer (u ∷ ts) t = omega (arith, told_longer ts t)
-
 module _ (rs front : List Ends) (r : Ends) (ts : List Told) (t : Told) (apart : front ++ r ∷ [] ≡ rs)
     (all : length ts ≡ length front) where
   pub told_too : AreTold [] front ts → IsTold (onto (front ++ r ∷ []) []) t → AreTold [] rs (ts ++ t ∷ [])

@@ -1,19 +1,11 @@
 -- A table in which a row loses an amount at one place: the entries that are written before, and the row that clears.
-use Rattle.std.proofs.Common.{◌≡◌, ◌≢◌, ℕ, ◌+◌, ◌*◌, ◌<◌, ◌≤◌, sym, ap, ◌∙◌, subst, arith, inl, inr, List, length, set, nat_abs}
+use Rattle.std.proofs.Common.{◌≡◌, ℕ, ◌+◌, ◌*◌, ◌<◌, ◌≤◌, sym, ap, ◌∙◌, subst, arith, inl, inr, List, length, set, nat_abs}
 use Rattle.std.proofs.lemmas.Bool.{cases_eq}
-use Rattle.std.proofs.lemmas.Bool.Decides.{nat_tests}
 use Rattle.std.proofs.lemmas.List.{get_or-set_same, get_or-set_other, length-set}
-use lib.IntN.{ℤ, pos}
+use lib.IntN.{ℤ}
 use Rattle.rob_table.specs.Tables.{row_at, bound_at, HasBounds}
-use Rattle.rob_table.specs.Lowering.{step_row}
 use Rattle.rob_table.proofs.Places.{set_here, set_elsewhere}
 use Rattle.rob_table.proofs.Clearing.{row_in}
-
-step_is_one : (one place : ℕ) (number : ℤ) (k : ℕ) → k ≡ one → step_row one place number k ≡ pos 1
-step_is_one one place number k e = grind (arith, nat_tests)
-
-step_is_number : (one place : ℕ) (number : ℤ) (k : ℕ) → k ≢ one → k ≡ place → step_row one place number k ≡ number
-step_is_number one place number k d e = grind (arith, nat_tests)
 
 -- ---- one entry written, and the row's bound raised to it
 module _ (limit width : ℕ) (rows : List ℤ) (bounds : List ℕ) (i : ℕ) (il : i < length bounds) (place : ℕ)

@@ -1,11 +1,11 @@
 -- What is judged in order: the first wide spot, and why a call stops there.
-use Rattle.std.specs.Prelude.{◌≡◌, ℕ, ◌≤◌, List, [], ◌∷◌, ◌++◌, Result, Err, IfErr, refl}
+use Rattle.std.specs.Prelude.{◌≡◌, ℕ, ◌≤◌, List, [], ◌∷◌, ◌++◌, refl}
 use Rattle.std.proofs.Common.{sym, ◌∙◌, ap, arith, subst, append_assoc}
 use Rattle.rob_number.specs.Counts.{Rose}
 use Rattle.rob_meaning.specs.RobustModel.{RobustModel}
 use Rattle.rob_model.specs.declared.place.Spot.{Spot}
 use Rattle.rob_sets.specs.Appending.{StopsAt}
-use Rattle.rob_sets.specs.FirstWide.{Judged, HasCause, IsFirstWide, IsWideThere, NothingWide, spot_of}
+use Rattle.rob_sets.specs.FirstWide.{Judged, IsFirstWide, IsWideThere, NothingWide, spot_of}
 use Rattle.rob_sets.proofs.Judging.JudgingLemmas.{Judging}
 use Rattle.rob_sets.specs.Stops.{StopsFor, error_of}
 use Rattle.rob_sets.specs.declared.error.ElabErr.{ElabErr}
@@ -83,10 +83,3 @@ module _ (limit : ℕ) (m : RobustModel) where
       (ap (λ (ks : List Judged). p.done ++ ks) (sym j.is) ∙ p.order)
       (stops_right p.done (here ++ more) e first before last least p.none_wide
       (stops_left here more e before before last (omega arith) h))
-
-  -- the cause of an answer
-  pub cause_err : {T : Type 0} (js : List Judged) (r : Result T ElabErr) (e d : ElabErr) → r ≡ Err d → d ≡ e
-      → HasCause limit m js e → IfErr r (HasCause limit m js)
-  cause_err {T} js r e d is same h =
-      subst (λ (x : Result T ElabErr). IfErr x (HasCause limit m js)) (sym is)
-      (subst (HasCause limit m js) (sym same) h)

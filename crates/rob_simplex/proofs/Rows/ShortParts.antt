@@ -1,5 +1,5 @@
 -- Two numbers over what divides both: the same quotient, whose parts they are.
-use Rattle.std.proofs.Common.{◌≡◌, ℕ, ◌-◌, ◌^◌, ◌<◌, ◌≤◌, sym, ap, ap₂, ◌∙◌, subst, arith, inl, inr}
+use Rattle.std.proofs.Common.{◌≡◌, ◌-◌, ◌^◌, ◌<◌, ◌≤◌, sym, ap, ap₂, ◌∙◌, subst, arith, inl, inr}
 use Rattle.std.proofs.Math.Nat.{pos_of_dvd_of_pos}
 use Rattle.std.proofs.lemmas.Int.{ints}
 use lib.IntN.{ℤ, pos, nat_abs, ◌*ℤ◌}
@@ -59,8 +59,3 @@ module _ (n d first second : ℤ) (parts : ArePartsOf n d first second) (positiv
     pub wide_second : 2 ^ 62 ≤ nat_abs second → IsWide (2 ^ 62 - 1) (of_pair n (nat_abs d))
     wide_second l =
         subst (IsWide (2 ^ 62 - 1)) same_parts (inr (subst (λ v. 2 ^ 62 - 1 < v) (sym own_parts.1) (omega arith)))
-
--- ---- what an answer tells of them
-module _ (limit : ℕ) (n d p q p' q' : ℤ) (h : AreShortParts n d p q) (ep : p' ≡ p) (eq : q' ≡ q) where
-  seen : of_pair p' (nat_abs q') ≡ of_pair n (nat_abs d)
-  seen = ap₂ (λ a b. of_pair a (nat_abs b)) ep eq ∙ h.same

@@ -28,7 +28,7 @@ use Rattle.rob_linear.proofs.BasisPaths.Phases.{place_low, place_high}
 use Rattle.rob_entries.specs.Updates.{IsWideCleared}
 use Rattle.rob_simplex.specs.Dictionaries.{Table, positions, width_of, columns_of, spare_column, shape, rows_of, IsFree, IsClosed, IsPivoted, FirstNegative}
 use Rattle.rob_simplex.specs.Phases.{StandsFor, TurnsOn, HasRefused, EndsIn, turns_left}
-use Rattle.rob_simplex.proofs.Turns.Ranks.{own_last, shorter, IsSmall, within_second, left_is, falls}
+use Rattle.rob_simplex.proofs.Turns.Ranks.{shorter, IsSmall, within_second, left_is, falls}
 use Rattle.rob_simplex.proofs.Rows.ReadRows.{basic_low, basic_high}
 use Rattle.rob_simplex.proofs.Places.FreeColumns.{basic_column_low}
 use Rattle.rob_simplex.proofs.Pivoting.PivotLemmas.{zero_stays}
@@ -47,13 +47,6 @@ module _ {P : Program} {t : Table} (h : StandsFor P t) where
       let p : auxiliary_place P (own_of (system_of P) (columns_of t.basis) i) ≡ columns_of t.basis i =
       ap (auxiliary_place P) (own_is i l) ∙ place_low P (columns_of t.basis i) (basic_column_low h i l) in
       ap (rows_of t P.m) (sym p) ∙ z
-
-  pub objective_positive : pos 0 <ℤ rows_of t P.m (suc (P.n + P.m))
-  objective_positive =
-      let p = (h.stands.multiples.rows_of P.m (omega arith)).positive in
-      let e : auxiliary_place P (own_of (system_of P) (columns_of t.basis) P.m) ≡ suc (P.n + P.m) =
-      ap (auxiliary_place P) (own_last P (columns_of t.basis)) ∙ place_high P (P.n + P.m) (omega arith) in
-      subst (λ k. pos 0 <ℤ rows_of t P.m k) e p
 
   size_is : t.columns + positions t ≡ P.n + P.m
   size_is = omega (arith, h.rows_are, h.columns_are)
