@@ -181,7 +181,8 @@ module _ {S : Type 0} {ops wides : S → ℕ} {a b : S} where
       }
 
   -- a verdict counts behind it too
-  pub counted_later : {c : S} {v : Verdict} → NeverFell ops wides a b → Counted ops wides b c v → Counted ops wides a c v
+  pub counted_later : {c : S} {v : Verdict} → NeverFell ops wides a b → Counted ops wides b c v
+      → Counted ops wides a c v
   counted_later {c = c} {v = v} f h =
       record {
         ops = omega (arith, f.ops, h.ops);

@@ -1,5 +1,5 @@
--- A model within the limits has a counterpart of few rows and columns; so the places at which its numbers are read, form
--- after form, are small, and lie within the numbers.
+-- A model within the limits has a counterpart of few rows and columns; so the places at which its numbers are read,
+-- form after form, are small, and lie within the numbers.
 use Rattle.std.proofs.Common.{◌≡◌, ℕ, ◌+◌, ◌-◌, ◌*◌, ◌≤◌, length, ap, ◌∙◌, arith, suc, ◌<◌, ◌^◌, List, Fits, w32, w64}
 use Rattle.std.proofs.Math.Nat.{le-mul_of_pos_right}
 use Rattle.std.proofs.lemmas.List.{length-map}

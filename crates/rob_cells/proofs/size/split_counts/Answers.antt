@@ -26,7 +26,6 @@ pub overflow_sub-set_rows : goal.overflow_sub-set_rows
 overflow_sub-set_rows g c = bounds_in_set_rows g.N.Exact.value c.args.model.now c.set_row_count.ensures.count
     c.bound_count-parameter_bounds.ensures.count c.items-3.ensures.list
 
--- ---- what is added up, and multiplied by the number of cells
 pub overflow_mul-result : goal.overflow_mul-result
 overflow_mul-result g c = params_times c.requires.valid c.cell_count-cells.ensures.few c.items.ensures.list
 

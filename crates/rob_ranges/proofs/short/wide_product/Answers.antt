@@ -18,5 +18,6 @@ returns-clause-value c =
 pub returns-clause-size : goal.returns-clause-size
 returns-clause-size c =
     let few =
-    product_size (read_32 c.args.a c.ranges.a) (read_79 c.value-value.result c.value-value.ensures.size) (omega arith) in
+    product_size (read_32 c.args.a c.ranges.a) (read_79 c.value-value.result c.value-value.ensures.size)
+    (omega arith) in
     omega (arith, few)
