@@ -1,6 +1,6 @@
 //! The declared names of the split model, made before it is built.
 
-ghost use Rattle.std.specs.Prelude.{◌≡◌, ◌≤◌, ◌++◌, [], ℕ, IfOk, OnOk, codes, flat_map, length, map, option_map, suc};
+ghost use Rattle.std.specs.Prelude.{◌≡◌, ◌≤◌, ◌++◌, ℕ, IfOk, OnOk, codes, flat_map, length, map, option_map, suc};
 ghost use Rattle.std.specs.Bool.{Decides};
 ghost use Rattle.rob_cells.specs.View.{cut_of};
 ghost use Rattle.rob_meaning.specs.Named.{AreDistinct, declared_names};

@@ -1,6 +1,6 @@
 //! The rows over a cell.
 
-ghost use Rattle.std.specs.Prelude.{◌≡◌, ◌<◌, ◌≤◌, ◌++◌, [], IfOk, OnOk, ℕ, map, option_map};
+ghost use Rattle.std.specs.Prelude.{◌≡◌, ◌<◌, ◌≤◌, ◌++◌, IfOk, OnOk, ℕ, map, option_map};
 ghost use Rattle.rob_meaning.specs.RobustModel.{RobustModel};
 ghost use Rattle.rob_meaning.specs.SetConditions.{if_declared};
 ghost use Rattle.rob_meaning.specs.WellFormed.{IsExpression};

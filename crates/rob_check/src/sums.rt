@@ -1,6 +1,6 @@
 //! Parts of sums, and the tests that sums are put to.
 
-ghost use Rattle.std.specs.Prelude.{◌≡◌, ◌≤◌, ℕ, [], map, nat_abs};
+ghost use Rattle.std.specs.Prelude.{◌≡◌, ◌≤◌, map, nat_abs};
 ghost use Rattle.rob_algebra.specs.Fraction.{of_int, ◌*ℚ◌};
 ghost use Rattle.rob_algebra.specs.FractionOrder.{eq_ℚ};
 ghost use Rattle.rob_algebra.specs.Width.{kept};

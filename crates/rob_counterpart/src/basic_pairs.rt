@@ -13,7 +13,7 @@ ghost use Rattle.rob_counterpart.specs.Splitting.{plus, minus, OneIsZero};
 ghost use Rattle.rob_linear.specs.Optimality.{IsBasicPoint};
 ghost use Rattle.rob_linear.specs.Programs.{Program, system_of};
 ghost use Rattle.rob_linear.specs.Systems.{IsBasis};
-ghost use Rattle.std.specs.Prelude.{◌≡◌, ◌<◌, ◌≤◌, ◌⊎◌, ℕ, ℤ};
+ghost use Rattle.std.specs.Prelude.{◌≡◌, ◌<◌, ◌≤◌, ◌⊎◌, ℕ};
 
 /// In every basis of the counterpart, and at every infeasible ending of its auxiliary form, the columns of a pair
 /// are never basic together, and of two equating rows one slack is basic. In every basis of a program over the set,

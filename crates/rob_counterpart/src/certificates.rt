@@ -11,7 +11,7 @@ ghost use Rattle.rob_meaning.specs.Proves.{Proves, ProvesOptimal, ProvesInfeasib
 ghost use Rattle.rob_meaning.specs.RobustModel.{RobustModel};
 ghost use Rattle.rob_meaning.specs.UncertaintySet.{Admits};
 ghost use Rattle.rob_meaning.specs.WellFormed.{IsModel};
-ghost use Rattle.std.specs.Prelude.{ℕ, ℤ, List};
+ghost use Rattle.std.specs.Prelude.{ℕ, List};
 
 /// Where a certificate is read off an ending, and its scenario is admitted, it proves.
 pub fn ending_laws()

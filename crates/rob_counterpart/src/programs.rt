@@ -12,7 +12,7 @@ ghost use Rattle.rob_linear.specs.Paths.{Last, LastFrom};
 ghost use Rattle.rob_linear.specs.Turns.{own_of};
 ghost use Rattle.rob_linear.specs.WideRows.{HasWideRow, HasWideRowFrom};
 ghost use Rattle.rob_linear.specs.Programs.{Program, system_of, auxiliary_of};
-ghost use Rattle.std.specs.Prelude.{◌≡◌, ℕ, ℤ};
+ghost use Rattle.std.specs.Prelude.{◌≡◌, ℕ};
 
 /// Each function gives the program that is described by its places.
 pub fn place_laws()

@@ -12,7 +12,7 @@ ghost use Rattle.rob_meaning.specs.Multipliers.{ShowsEmpty, ShowsEmptyIn};
 ghost use Rattle.rob_meaning.specs.RobustModel.{RobustModel};
 ghost use Rattle.rob_meaning.specs.UncertaintySet.{Admits, IsEmptyIn, IsEmptySet};
 ghost use Rattle.rob_meaning.specs.WellFormed.{IsModel};
-ghost use Rattle.std.specs.Prelude.{ℕ, ℤ};
+ghost use Rattle.std.specs.Prelude.{ℕ};
 
 /// What the set's program says of scenarios. Where it ends infeasible, its Farkas weights show that no scenario is
 /// admitted; where it stands at a feasible basis, the parameters of the basic solution are an admitted scenario.

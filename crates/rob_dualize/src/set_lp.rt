@@ -2,7 +2,7 @@
 //!     maximise 0  subject to  g * (v - w) <= h  for each set row, and v, w >= 0
 //! Set column c is the difference of the columns 2 c and 2 c + 1. (Chvatal, Linear Programming, chapter 1.)
 
-ghost use Rattle.std.specs.Prelude.{◌≡◌, ◌+◌, ◌-◌, ◌*◌, ◌^◌, ◌<◌, ◌≤◌, ◌↔◌, ℕ, pos, nat_abs, length, map, IfOk};
+ghost use Rattle.std.specs.Prelude.{◌≡◌, ◌+◌, ◌-◌, ◌*◌, ◌^◌, ◌<◌, ◌↔◌, ℕ, pos, nat_abs, length, map, IfOk};
 ghost use Rattle.rob_counterpart.specs.Counterpart.{robust_of, set_program};
 ghost use Rattle.rob_counterpart.specs.SamePrograms.{AreSame};
 ghost use Rattle.rob_linear.specs.Optimality.{IsInfeasible};

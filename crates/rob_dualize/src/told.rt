@@ -1,6 +1,6 @@
 //! The numbers that a solver tells, as lists.
 
-ghost use Rattle.std.specs.Prelude.{◌≡◌, ◌≤◌, ℕ, map, nat_abs, IfOk};
+ghost use Rattle.std.specs.Prelude.{◌≡◌, ◌≤◌, map, nat_abs, IfOk};
 ghost use Rattle.rob_algebra.specs.Fraction.{of_int};
 ghost use Rattle.rob_meaning.specs.Places.{Each, tabulate};
 ghost use Rattle.rob_simplex.specs.Solvers.{positions, HasPoint, HasOptimum, HasRay, HasWeights};

@@ -1,6 +1,6 @@
 //! The forms of the declared bounds of variables and of adaptive variables.
 
-ghost use Rattle.std.specs.Prelude.{◌<◌, ◌+◌, [], zero, length, option_map, if◌then◌else◌};
+ghost use Rattle.std.specs.Prelude.{◌<◌, ◌+◌, zero, length, option_map, if◌then◌else◌};
 ghost use Rattle.rob_number.specs.Counts.{NeverFell};
 ghost use Rattle.rob_meaning.specs.Expressions.{number as constant};
 ghost use Rattle.rob_meaning.specs.SetConditions.{if_declared};

@@ -1,6 +1,6 @@
 //! One form: its table in whole numbers, row by row.
 
-ghost use Rattle.std.specs.Prelude.{◌≡◌, ◌≤◌, ◌<◌, ◌++◌, ℕ, List, nat_abs, map, length, OnOk, IfOk, IfErr, MatchOption};
+ghost use Rattle.std.specs.Prelude.{◌≡◌, ◌≤◌, ◌<◌, ◌++◌, List, nat_abs, map, length, OnOk, IfOk, IfErr, MatchOption};
 ghost use Rattle.rob_algebra.specs.Fraction.{Fraction};
 ghost use Rattle.rob_algebra.specs.Width.{IsWideWhole};
 ghost use Rattle.rob_number.specs.Counts.{Rose, NeverFell};

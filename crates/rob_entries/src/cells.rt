@@ -1,6 +1,6 @@
 //! The numbers of rows, one row behind another. A row of a given width begins at its start.
 
-ghost use Rattle.std.specs.Prelude.{◌≡◌, ◌≢◌, ◌⊎◌, ℕ, ℤ, ◌<◌, ◌≤◌, ◌+◌, ◌^◌, ◌*ℤ◌, pos, neg_ℤ, nat_abs, set, take, drop, length, slice_index_or, IsFalse, IfOk, OnErr};
+ghost use Rattle.std.specs.Prelude.{◌≡◌, ◌⊎◌, ℕ, ℤ, ◌<◌, ◌≤◌, ◌+◌, ◌^◌, pos, neg_ℤ, nat_abs, set, take, drop, length, slice_index_or, IsFalse, IfOk, OnErr};
 ghost use Rattle.rob_linear.specs.Vectors.{at};
 ghost use Rattle.rob_linear.specs.Multiples.{IsClearedBy};
 ghost use Rattle.rob_rows.specs.PrimitiveParts.{content};

@@ -1,6 +1,6 @@
 //! What stands inside sums over ranges that have one value each: such a sum is the expression inside it.
 
-ghost use Rattle.std.specs.Prelude.{◌≡◌, ◌≤◌, IfOk};
+ghost use Rattle.std.specs.Prelude.{◌≤◌, IfOk};
 ghost use Rattle.rob_expand.specs.declared.placed.Placed.{size-Placed};
 ghost use Rattle.rob_expand.specs.Inmost.{IsInmost};
 

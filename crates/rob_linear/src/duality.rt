@@ -1,6 +1,6 @@
 //! Duality, and the fundamental theorem of linear programming. Chvatal, chapters 3, 5 and 9.
 
-ghost use Rattle.std.specs.Prelude.{◌≡◌, ℕ, ℤ, ◌⊎◌};
+ghost use Rattle.std.specs.Prelude.{◌≡◌, ℕ, ◌⊎◌};
 ghost use Rattle.rob_algebra.specs.Fraction.{Fraction, ◌≤ℚ◌};
 ghost use Rattle.rob_linear.specs.Vectors.{Vector};
 ghost use Rattle.rob_linear.specs.Programs.{Program, ShowsEmpty};

@@ -1,7 +1,7 @@
 //! The path of bases: one from each start, without return, and finite. Chvatal, chapter 3 (the
 //! lexicographic rule).
 
-ghost use Rattle.std.specs.Prelude.{ℕ, suc, ◌+◌, ◌^◌, ◌<◌, ℤ, ◌⊎◌};
+ghost use Rattle.std.specs.Prelude.{ℕ, suc, ◌+◌, ◌^◌, ◌<◌, ◌⊎◌};
 ghost use Rattle.rob_linear.specs.Vectors.{Columns, Matrix};
 ghost use Rattle.rob_linear.specs.Systems.{System, IsTagged};
 ghost use Rattle.rob_linear.specs.Programs.{Program};

@@ -1,6 +1,6 @@
 //! Pivots, the lexicographic rule, and the rank that rises with each turn. Chvatal, chapter 3.
 
-ghost use Rattle.std.specs.Prelude.{ℕ, ◌<◌, ℤ};
+ghost use Rattle.std.specs.Prelude.{ℕ, ◌<◌};
 ghost use Rattle.rob_linear.specs.Vectors.{Columns, Matrix, Vector};
 ghost use Rattle.rob_linear.specs.Systems.{System, IsTagged, IsBasis};
 ghost use Rattle.rob_linear.specs.Turns.{IsPivotable, IsExchange, IsPivot, IsTurn, IsLexFeasible, Rises, own_of, IsSameBasis, TurnsTo};

@@ -1,7 +1,7 @@
 //! The values around a place inside sums. The range of a sum starts at 0, and inside a long chain of sums nearly all
 //! values are 0: these are counted, not kept, and a form is evaluated without a look at their factors.
 
-ghost use Rattle.std.specs.Prelude.{◌≡◌, ◌∷◌, ◌++◌, ◌+ℤ◌, drop, false, true, List as Items, ℤ, IfOk, IfSome, OnOk};
+ghost use Rattle.std.specs.Prelude.{◌≡◌, ◌∷◌, ◌+ℤ◌, drop, false, true, List as Items, ℤ, IfOk, IfSome, OnOk};
 ghost use Rattle.rob_index.specs.Forms.{value_of, weighed};
 ghost use Rattle.rob_ranges.specs.Values.{spread};
 

@@ -1,6 +1,6 @@
 //! Sums of terms, as they are printed.
 
-ghost use Rattle.std.specs.Prelude.{◌≡◌, ◌++◌, [], ℕ, List as Items, length, OnOk};
+ghost use Rattle.std.specs.Prelude.{◌≡◌, ◌++◌, ℕ, List as Items, length, OnOk};
 ghost use Rattle.rob_report.specs.Lines.{line};
 ghost use Rattle.rob_report.specs.Rows.{limit_text, matrix_text, or_zero, term_text, terms_text};
 

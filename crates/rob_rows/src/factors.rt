@@ -1,6 +1,6 @@
 //! The two factors of a combination, over their greatest common divisor.
 
-ghost use Rattle.std.specs.Prelude.{ℕ, ◌^◌, ◌<◌, ◌≤◌, nat_abs};
+ghost use Rattle.std.specs.Prelude.{◌^◌, ◌<◌, ◌≤◌, nat_abs};
 ghost use Rattle.rob_algebra.specs.Gcd.{gcd};
 ghost use Rattle.rob_rows.specs.Factors.{IsMultiple};
 

@@ -1,6 +1,6 @@
 //! The set rows of the declared bounds of the parameters.
 
-ghost use Rattle.std.specs.Prelude.{◌≡◌, ◌<◌, ◌+◌, [], zero, ℕ, length, Option, option_map, if◌then◌else◌, IfOk};
+ghost use Rattle.std.specs.Prelude.{◌≡◌, ◌<◌, ◌+◌, [], zero, length, Option, option_map, if◌then◌else◌, IfOk};
 ghost use Rattle.rob_number.specs.Counts.{NeverFell};
 ghost use Rattle.rob_meaning.specs.SetConditions.{if_declared};
 ghost use Rattle.rob_meaning.specs.SetRows.{bound_rows, lower_row, upper_row};

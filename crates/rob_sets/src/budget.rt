@@ -1,6 +1,6 @@
 //! The set rows of budgets of uncertainty: two for each member, and one for the sum.
 
-ghost use Rattle.std.specs.Prelude.{◌≡◌, ◌<◌, ◌+◌, ◌*◌, ◌++◌, ◌∷◌, [], ℕ, List, map, length, if◌then◌else◌, IfOk};
+ghost use Rattle.std.specs.Prelude.{◌≡◌, ◌<◌, ◌+◌, ◌*◌, ◌++◌, ◌∷◌, [], List, map, length, if◌then◌else◌, IfOk};
 ghost use Rattle.rob_number.specs.Counts.{NeverFell};
 ghost use Rattle.rob_meaning.specs.RobustModel.{Member as MemberOf};
 ghost use Rattle.rob_meaning.specs.SetRows.{budget_row, down_row, member_rows, up_row};

@@ -1,6 +1,6 @@
 //! The lifted set, statement by statement.
 
-ghost use Rattle.std.specs.Prelude.{◌<◌, ◌+◌, ◌*◌, ◌∷◌, [], zero, ℕ, length, IfOk, IfErr, OnOk};
+ghost use Rattle.std.specs.Prelude.{◌<◌, ◌+◌, ◌*◌, ◌∷◌, [], zero, length, IfOk, IfErr, OnOk};
 ghost use Rattle.rob_number.specs.Counts.{NeverFell};
 ghost use Rattle.rob_meaning.specs.SetRows.{lift_count as lift_count_of, statement_rows};
 ghost use Rattle.rob_meaning.specs.WellFormed.{IsSetLine};

@@ -1,6 +1,6 @@
 //! Which column enters: the first with a negative entry in a row.
 
-ghost use Rattle.std.specs.Prelude.{◌≡◌, ◌<◌, ◌≤◌, ◌+◌, ◌≤ℤ◌, ℕ, pos, MatchOption};
+ghost use Rattle.std.specs.Prelude.{◌<◌, ◌≤◌, ◌+◌, ◌≤ℤ◌, ℕ, pos, MatchOption};
 ghost use Rattle.rob_simplex.specs.Dictionaries.{positions, rows_of, basic_columns, FirstNegative};
 
 use crate::dictionary::Dictionary;

@@ -1,7 +1,7 @@
 //! The slack columns that are not basic. In the others two rows are 0, but for their own columns: so where rows tie,
 //! the first ones of these columns are looked at, and of the first ones no others before a row's own one.
 
-ghost use Rattle.std.specs.Prelude.{◌≡◌, ◌≢◌, ◌<◌, ◌≤◌, ◌+◌, ℕ, take, length};
+ghost use Rattle.std.specs.Prelude.{◌≢◌, ◌<◌, ◌≤◌, ◌+◌, ℕ, take, length};
 ghost use Rattle.rob_simplex.specs.Dictionaries.{positions, columns_of};
 ghost use Rattle.rob_simplex.specs.FreeSlacks.{AreFree};
 

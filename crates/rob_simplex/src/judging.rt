@@ -1,6 +1,6 @@
 //! The numbers that the last rows tell, judged at the width of the answer.
 
-ghost use Rattle.std.specs.Prelude.{◌≡◌, ◌<◌, ◌≤◌, ◌+◌, ◌<ℤ◌, ℕ, pos, IfSome, MatchOption};
+ghost use Rattle.std.specs.Prelude.{◌<◌, ◌≤◌, ◌+◌, ◌<ℤ◌, ℕ, pos, IfSome, MatchOption};
 ghost use Rattle.std.specs.Bool.{OnTrue, OnFalse};
 ghost use Rattle.rob_algebra.specs.Width.{Fits, IsWide};
 ghost use Rattle.rob_simplex.specs.Dictionaries.{positions, width_of, rows_of};

@@ -1,7 +1,7 @@
 //! Which row leaves: of the rows that are positive in the entering column, the one whose right side and then slack
 //! entries, all over its entry in that column, come first. (Dantzig, Orden, Wolfe 1955.)
 
-ghost use Rattle.std.specs.Prelude.{◌≡◌, ◌≢◌, ◌<◌, ◌≤◌, ◌^◌, ◌-◌, ◌+◌, ◌<ℤ◌, ◌≤ℤ◌, ◌*ℤ◌, ◌-ℤ◌, ◌↔◌, ℕ, pos, IsTrue, IfSome, MatchOption};
+ghost use Rattle.std.specs.Prelude.{◌≡◌, ◌≢◌, ◌<◌, ◌≤◌, ◌-◌, ◌+◌, ◌<ℤ◌, ◌≤ℤ◌, ◌*ℤ◌, ◌-ℤ◌, ◌↔◌, ℕ, pos, IsTrue, IfSome, MatchOption};
 ghost use Rattle.rob_linear.specs.Turns.{ComesBefore, Leaves};
 ghost use Rattle.rob_simplex.specs.Dictionaries.{positions, width_of, rows_of, columns_of, shape, GoesFirst, Decided};
 ghost use Rattle.rob_simplex.specs.FreeSlacks.{AreFree, lead};

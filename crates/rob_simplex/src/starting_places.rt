@@ -1,6 +1,6 @@
 //! Where each column of a dictionary stands at the start.
 
-ghost use Rattle.std.specs.Prelude.{◌≡◌, ◌<◌, ◌≤◌, ◌+◌, ◌^◌, ℕ, slice_index_or, length};
+ghost use Rattle.std.specs.Prelude.{◌≡◌, ◌<◌, ◌+◌, ◌^◌, ℕ, slice_index_or, length};
 ghost use Rattle.rob_simplex.specs.Starts.{start_place, start_column};
 
 /// The place of a column.

@@ -6,7 +6,7 @@ use lib.Signed.{◌<ℤ◌, ◌≤ℤ◌}
 use Rattle.rob_linear.specs.Vectors.{Matrix, Columns, sum_to, dot}
 use Rattle.rob_linear.specs.Systems.{IsBasis, IsSolution, Feasible, Point}
 use Rattle.rob_linear.specs.Programs.{Program, Admits, Keeps, system_of, ShowsEmpty}
-use Rattle.rob_algebra.specs.Integer.{ring, zero-mul, *ℤ_comm, mul-neg}
+use Rattle.rob_algebra.specs.Integer.{ring, zero-mul, mul-neg}
 use Rattle.rob_linear.proofs.LinearPrograms.Sums.{sum_ext, sum_neg}
 use Rattle.rob_linear.proofs.Meaning.Endings.{point_is_solution}
 use Rattle.rob_linear.proofs.LinearPrograms.Programs.{admits_from_solution}

@@ -4,7 +4,6 @@ use Rattle.std.proofs.Common.{sym, ◌∙◌, ap, ap₂, subst, arith, append_as
 use Rattle.rob_algebra.specs.Fraction.{Fraction, ◌+ℚ◌, ◌-ℚ◌, ◌*ℚ◌, neg_ℚ, ◌≤ℚ◌, ◌<ℚ◌}
 use Rattle.rob_algebra.specs.FractionLaws as Q
 use Rattle.rob_algebra.specs.FractionOrderLaws.{le_refl_ℚ, le_antisym_ℚ, add_mono_ℚ, le_trans_ℚ}
-use Rattle.rob_algebra.specs.FractionLaws.{ℚ_ring}
 use Rattle.rob_algebra.specs.Polynomials.{lit, minus, ◌:+◌, ◌:-◌, ◌:*◌, v0, v1, v2, v3, v4}
 use Rattle.rob_meaning.proofs.Lists.AlongLemmas.{along-zero, along-same, along-unit, along-neg, along-plus, along-scale}
 use Rattle.rob_meaning.proofs.Lists.EachLemmas.{each_append, each_left, each_right, declared}

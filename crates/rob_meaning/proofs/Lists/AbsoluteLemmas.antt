@@ -7,7 +7,6 @@ use Rattle.rob_algebra.specs.FractionPairs.{same_is, is_self, is_neg, is_int}
 use Rattle.rob_algebra.specs.PairOrder.{is_le_in, is_nonneg_in, is_pos_in}
 use Rattle.rob_algebra.specs.FractionLaws as Q
 use Rattle.rob_algebra.specs.FractionOrderLaws.{le_refl_ℚ, le_total_ℚ, not_lt_ℚ, le_of_lt_ℚ, le_one, le_two, int_nonneg, cancel_le_ℚ, lt_irrefl_ℚ}
-use Rattle.rob_algebra.specs.FractionLaws.{ℚ_ring}
 use Rattle.rob_algebra.specs.Polynomials.{lit, minus, ◌:*◌, v0, v1}
 use Rattle.rob_meaning.specs.Places.{0ℚ, 1ℚ}
 use Rattle.rob_meaning.specs.UncertaintySet.{abs_ℚ}

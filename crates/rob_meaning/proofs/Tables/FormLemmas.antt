@@ -3,7 +3,6 @@ use Rattle.std.specs.Prelude.{◌≡◌, ℕ, zero, suc, ◌+◌, ◌≤◌, pos
 use Rattle.std.proofs.Common.{sym, subst, arith}
 use Rattle.rob_algebra.specs.Fraction.{Fraction, ◌+ℚ◌, neg_ℚ, ◌≤ℚ◌}
 use Rattle.rob_algebra.specs.FractionOrderLaws as Q
-use Rattle.rob_algebra.specs.FractionLaws.{ℚ_ring}
 use Rattle.rob_algebra.specs.Polynomials.{lit, minus, ◌:+◌, v0, v1}
 use Rattle.rob_meaning.proofs.Lists.EachLemmas.{each_append, each_left, each_right}
 use Rattle.rob_meaning.proofs.Lists.LinearLemmas.{le_by}

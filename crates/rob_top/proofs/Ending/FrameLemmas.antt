@@ -1,5 +1,5 @@
 -- What a call answers, from what came of its files and what the work on them answers.
-use Rattle.std.proofs.Common.{◌≡◌, ℕ, Result, Ok, Err, IfOk, subst, sym}
+use Rattle.std.proofs.Common.{◌≡◌, Result, Ok, Err, IfOk, subst, sym}
 use Rattle.rob_meaning.specs.Places.{Each}
 use Rattle.rob_number.specs.declared.memory.Memory.{Memory as Want}
 use Rattle.rob_outside.specs.Files.{whole}

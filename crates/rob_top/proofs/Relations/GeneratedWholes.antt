@@ -18,7 +18,7 @@ use Rattle.rob_meaning.specs.Clearing.{denominator, entries, lcm, whole_at}
 use Rattle.rob_meaning.specs.Coefficients.{rule_table, single, sum_table, table}
 use Rattle.rob_meaning.specs.Expressions.{Expression, number, parameter, variable, adaptive, adaptive_in, sum, product, Terms, no_terms, term}
 use Rattle.rob_meaning.specs.Forms.{entries_of, form_columns, form_rows, forms}
-use Rattle.rob_meaning.specs.Places.{0ℚ, 1ℚ, Each, tabulate}
+use Rattle.rob_meaning.specs.Places.{0ℚ, Each, tabulate}
 use Rattle.rob_meaning.specs.RobustModel.{RobustModel, column_of, list_in_set, list_of}
 use Rattle.rob_meaning.specs.Values.{signed}
 use Rattle.rob_sets.specs.FirstWide.{IsWideCleared, IsWideThere, Judged, NothingWide, Some_of, clearing, coefficients}
