@@ -1,4 +1,4 @@
--- What a finder holds, and how a search on it ends.
+-- What a search asks of a model, what a finder holds, and how a search on it ends.
 use Rattle.std.specs.Prelude.{◌≡◌, ◌<◌, ℕ, ℤ, Bool, List, length}
 use Rattle.rob_algebra.specs.Fraction.{Fraction}
 use Rattle.rob_linear.specs.Vectors.{Columns, at}
@@ -15,6 +15,8 @@ use Rattle.rob_simplex.specs.Endings.{HasAnswered}
 use Rattle.rob_simplex.specs.Resuming.{HasResumed, HasStoppedFrom, IsCausedFrom}
 use Rattle.rob_simplex.specs.Solvers.{Solver, positions}
 use Rattle.rob_simplex.specs.declared.state.LpStop.{LpStop}
+use Rattle.rob_elab.specs.Elaborated.{AreElaborated}
+use Rattle.rob_elab.specs.declared.forms.Forms.{Forms}
 use Rattle.rob_dualize.specs.SetSolving.{program_of_set, IsFewSet, IsSolved}
 use Rattle.rob_worst.specs.Finding.{Tells}
 use Rattle.rob_worst.specs.Tasks.{FitsSet, IsTaskOf}
@@ -32,6 +34,12 @@ pub record IsFinderFor {N : Type 0} (Q : Program) (f : Finder N) : Type 0 where
 -- it is a finder for this set
 abbrev pub IsFinder : {N : Type 0} → SetForm → Finder N → Type 0
 IsFinder set f = IsFinderFor (program_of_set set) f
+
+-- the forms and the set rows are those of one model, no number of theirs is over the limit, and the set's program has
+-- as few rows and columns together as a solver takes
+pub record FitsSearch (limit : ℕ) (forms : Forms) (set : SetForm) : Type 0 where
+  pub elaborated : AreElaborated limit forms set
+  pub few : IsFewSet set
 
 -- the solver can go on with the task's cost: it stands at the last basis of the set's program, whose rows and
 -- columns together are as few as a solver takes, and the task fits its columns

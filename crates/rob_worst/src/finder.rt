@@ -14,7 +14,7 @@ ghost use Rattle.rob_elab.specs.Elaborated.{AreElaborated};
 ghost use Rattle.rob_elab.specs.Forms.{IsForms};
 ghost use Rattle.rob_dualize.specs.Solving.{CountsAnswer, HasScenario, IsLastScenario};
 ghost use Rattle.rob_dualize.specs.SetSolving.{IsSetOfModel, IsFewSet};
-ghost use Rattle.rob_worst.specs.Finders.{IsFinder};
+ghost use Rattle.rob_worst.specs.Finders.{FitsSearch, IsFinder};
 ghost use Rattle.rob_dualize.specs.SetSolving.{HasSetCause};
 ghost use Rattle.rob_dualize.specs.Wholes.{HoldsOfEach};
 ghost use Rattle.rob_worst.specs.Finding.{HasConstantWithin, HasSearchCause, Searches};
@@ -86,8 +86,7 @@ impl<N: Exact> Finder<N> {
         plan: &Plan<N>,
         ledger: &mut L,
     ) -> Result<Worst<N>, Stop>
-        requires model { AreElaborated N.limit forms.now set.now }
-        requires few { IsFewSet set.now }
+        requires model { FitsSearch N.limit forms.now set.now }
         requires finder { IsFinder set.now self.old }
         requires form_in { form < length forms.now.matrices }
         requires size { length plan.now.columns ≡ forms.now.columns }
@@ -113,8 +112,7 @@ impl<N: Exact> Finder<N> {
         step: &[N],
         ledger: &mut L,
     ) -> Result<Worst<N>, Stop>
-        requires model { AreElaborated N.limit forms.now set.now }
-        requires few { IsFewSet set.now }
+        requires model { FitsSearch N.limit forms.now set.now }
         requires finder { IsFinder set.now self.old }
         requires form_in { form < length forms.now.matrices }
         requires size { length step.now ≡ suc forms.now.columns }

@@ -6,21 +6,19 @@ use Rattle.rob_dualize.proofs.MakingLemmas.{set_of_few}
 use Rattle.rob_cuts.proofs.scan.search.Goals as goal
 
 pub at_plan-requires-clause-model : goal.at_plan-requires-clause-model
-at_plan-requires-clause-model g c = c.requires.model.elaborated
-
-pub at_plan-requires-clause-few : goal.at_plan-requires-clause-few
-at_plan-requires-clause-few g c =
-    set_of_few c.args.model.forms.now c.args.model.set.now c.requires.model.elaborated c.requires.model.few
+at_plan-requires-clause-model g c = record {
+  elaborated = c.requires.model.elaborated;
+  few = set_of_few c.args.model.forms.now c.args.model.set.now c.requires.model.elaborated c.requires.model.few;
+}
 
 pub at_plan-requires-clause-size : goal.at_plan-requires-clause-size
 at_plan-requires-clause-size g c = subst (FitsTarget c.args.model.forms.now.columns) c.in-Plan.is c.requires.target
 
 pub at_step-requires-clause-model : goal.at_step-requires-clause-model
-at_step-requires-clause-model g c = c.requires.model.elaborated
-
-pub at_step-requires-clause-few : goal.at_step-requires-clause-few
-at_step-requires-clause-few g c =
-    set_of_few c.args.model.forms.now c.args.model.set.now c.requires.model.elaborated c.requires.model.few
+at_step-requires-clause-model g c = record {
+  elaborated = c.requires.model.elaborated;
+  few = set_of_few c.args.model.forms.now c.args.model.set.now c.requires.model.elaborated c.requires.model.few;
+}
 
 pub at_step-requires-clause-size : goal.at_step-requires-clause-size
 at_step-requires-clause-size g c = subst (FitsTarget c.args.model.forms.now.columns) c.in-Step.is c.requires.target

@@ -6,7 +6,7 @@ use Rattle.rob_dualize.proofs.MakingLemmas.{set_of_one}
 use Rattle.rob_worst.proofs.finder.Finder.at_plan.Goals as goal
 
 pub search-requires-clause-model : goal.search-requires-clause-model
-search-requires-clause-model g c = set_of_one c.args.forms.now c.args.set.now c.requires.model
+search-requires-clause-model g c = set_of_one c.args.forms.now c.args.set.now c.requires.model.elaborated
 
 pub returns-clause-answer : goal.returns-clause-answer
 returns-clause-answer g c = λ m model f s.
