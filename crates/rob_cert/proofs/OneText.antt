@@ -7,5 +7,5 @@ pub mod Decisions
 pub mod SomeEntries
 pub mod SomeCovers
 pub mod SomeItems
-pub mod SomeHead
+pub mod SomeFirstLines
 pub mod SomeCertificate

@@ -7,5 +7,5 @@ pub mod ItemLemmas
 pub mod RankLemmas
 pub mod PartLemmas
 pub mod EndLemmas
-pub mod HeadLemmas
+pub mod FirstLinesLemmas
 pub mod WholeLemmas

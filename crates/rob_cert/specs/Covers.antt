@@ -12,7 +12,7 @@ use Rattle.rob_cert.specs.Lines.{Line, cover_line, cover_lines}
 use Rattle.rob_cert.specs.Kinds.{multipliers}
 use Rattle.rob_cert.specs.Reading.{Stage, IsAtLeast, IsNotZeroWord, Leads}
 use Rattle.rob_cert.specs.Spelling.{Naming, multipliers_word, name_at, words_of, spelled}
-use Rattle.rob_cert.specs.Sections.{HasNoLineOf, IsSection, StandsBehind, IsThereOrIn}
+use Rattle.rob_cert.specs.ReaderLines.{HasNoLineOf, IsSection, StandsBehind, IsThereOrIn}
 
 module _ (names : Naming) (limit : ℕ) where
   -- the words are a cover of that form and set row, which is at least that form and place

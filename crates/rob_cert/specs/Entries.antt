@@ -12,7 +12,7 @@ use Rattle.rob_cert.specs.Lines.{Line, entry_line, entry_lines}
 use Rattle.rob_cert.specs.Kinds.{Kind, entries}
 use Rattle.rob_cert.specs.Reading.{Stage, IsNotZeroWord, Leads}
 use Rattle.rob_cert.specs.Spelling.{Naming, entry_names, vector_word, words_of, spelled}
-use Rattle.rob_cert.specs.Sections.{HasNoLineOf, IsSection, StandsAt, IsThereOrIn}
+use Rattle.rob_cert.specs.ReaderLines.{HasNoLineOf, IsSection, StandsAt, IsThereOrIn}
 
 -- a vector of that many zeros
 pub record IsZeroVector (count : ℕ) (qs : List Fraction) : Type 0 where

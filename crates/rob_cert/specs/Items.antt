@@ -15,7 +15,7 @@ use Rattle.rob_cert.specs.Kinds.{Kind, items, entries, rank, may_follow}
 use Rattle.rob_cert.specs.Reading.{from, Stage, behind, Leads}
 use Rattle.rob_cert.specs.Causes.{HasCause, rule_of}
 use Rattle.rob_cert.specs.Spelling.{Naming, words_of, spelled}
-use Rattle.rob_cert.specs.Sections.{HasNoLineOf, IsSection, StandsAt}
+use Rattle.rob_cert.specs.ReaderLines.{HasNoLineOf, IsSection, StandsAt}
 use Rattle.rob_cert.specs.Entries.{AreEntries}
 
 -- an item's line may stand at the stage, and has at least that form there

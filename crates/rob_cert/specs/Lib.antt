@@ -6,11 +6,11 @@ pub mod NamesView
 pub mod Kinds
 pub mod Reading
 pub mod Causes
-pub mod Sections
+pub mod ReaderLines
 pub mod Entries
 pub mod Covers
 pub mod Items
-pub mod Head
-pub mod Parts
+pub mod FirstLines
+pub mod ReadSoFar
 pub mod Whole
 pub mod Apart

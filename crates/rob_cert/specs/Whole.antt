@@ -11,7 +11,7 @@ use Rattle.rob_cert.specs.declared.kind.Multipliers.TheVariants.{Covers, Holds}
 use Rattle.rob_cert.specs.declared.kind.Vector.{Vector}
 use Rattle.rob_cert.specs.declared.kind.Vector.TheVariants.{Inside, Plan, Move}
 use Rattle.rob_cert.specs.Lines.{Line, entry_lines, cover_lines, item_lines, end_line}
-use Rattle.rob_cert.specs.Parts.{SoFar}
+use Rattle.rob_cert.specs.ReadSoFar.{SoFar}
 use Rattle.rob_cert.specs.Kinds.{entries, multipliers, items, is_used}
 use Rattle.rob_cert.specs.Covers.{AreGoodCovers}
 use Rattle.rob_cert.specs.Items.{AreGoodItems}

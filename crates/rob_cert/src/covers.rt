@@ -8,7 +8,7 @@ ghost use Rattle.rob_cert.specs.Causes.{HasCause};
 ghost use Rattle.rob_cert.specs.NamesView.{naming};
 ghost use Rattle.rob_cert.specs.Kinds.{multipliers as multipliers_kind};
 ghost use Rattle.rob_cert.specs.Reading.{Stage, words_in};
-ghost use Rattle.rob_cert.specs.Sections.{HasFirst, StandsBehind};
+ghost use Rattle.rob_cert.specs.ReaderLines.{HasFirst, StandsBehind};
 ghost use Rattle.rob_cert.specs.Covers.{AreCovers, HasCoverFault, IsCoverLine, IsPair};
 ghost use Rattle.rob_cert.specs.Spelling.{multipliers_word};
 ghost use Rattle.rob_cert.specs.View.{cover_of};

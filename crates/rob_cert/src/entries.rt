@@ -7,7 +7,7 @@ ghost use Rattle.rob_cert.specs.Causes.{HasCause};
 ghost use Rattle.rob_cert.specs.NamesView.{naming};
 ghost use Rattle.rob_cert.specs.Kinds.{entries as entries_kind};
 ghost use Rattle.rob_cert.specs.Reading.{Stage};
-ghost use Rattle.rob_cert.specs.Sections.{StandsAt};
+ghost use Rattle.rob_cert.specs.ReaderLines.{StandsAt};
 ghost use Rattle.rob_cert.specs.Entries.{AreEntries, IsZeroVector};
 ghost use Rattle.rob_cert.specs.Spelling.{entry_names};
 

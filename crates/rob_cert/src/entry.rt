@@ -4,7 +4,7 @@ ghost use Rattle.std.specs.Prelude.{◌≡◌, ◌↔◌, codes, IsTrue, MatchOp
 ghost use Rattle.rob_number.specs.Counts.{NeverFell};
 ghost use Rattle.rob_cert.specs.NamesView.{naming};
 ghost use Rattle.rob_cert.specs.Reading.{BeginsWithLine, words_in};
-ghost use Rattle.rob_cert.specs.Sections.{HasFirst, HasNoLineOf};
+ghost use Rattle.rob_cert.specs.ReaderLines.{HasFirst, HasNoLineOf};
 ghost use Rattle.rob_cert.specs.Entries.{HasEntryFault, IsEntry};
 ghost use Rattle.rob_cert.specs.Spelling.{vector_word};
 

@@ -6,7 +6,7 @@ ghost use Rattle.rob_meaning.specs.Certificates.{Status as StatusOf};
 ghost use Rattle.rob_cert.specs.Causes.{HasCause};
 ghost use Rattle.rob_cert.specs.NamesView.{naming};
 ghost use Rattle.rob_cert.specs.Reading.{Stage, words_in};
-ghost use Rattle.rob_cert.specs.Sections.{HasFirst};
+ghost use Rattle.rob_cert.specs.ReaderLines.{HasFirst};
 ghost use Rattle.rob_cert.specs.Items.{AreItems, HasItemFault, HasItemReadFault, IsItemLine, IsItemRead, StandsItem};
 ghost use Rattle.rob_cert.specs.View.{item_of};
 

@@ -1,7 +1,7 @@
 //! Kinds of lines of a certificate's text, and their first words.
 
 ghost use Rattle.std.specs.Prelude.{◌≡◌};
-ghost use Rattle.rob_cert.specs.Head.{bound_kind};
+ghost use Rattle.rob_cert.specs.FirstLines.{bound_kind};
 ghost use Rattle.rob_cert.specs.Kinds.{entries, is_used, multipliers, word_of};
 ghost use Rattle.rob_cert.specs.Spelling.{multipliers_word, status_word, vector_word};
 ghost use Rattle.rob_cert.specs.View.{status_of};

@@ -10,7 +10,7 @@ mod entries;
 mod entry;
 pub mod error;
 mod find;
-mod head;
+mod first_lines;
 mod items;
 mod kind;
 pub mod laws;

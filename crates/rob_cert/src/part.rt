@@ -6,7 +6,7 @@ ghost use Rattle.rob_algebra.specs.Fraction.{Fraction};
 ghost use Rattle.rob_meaning.specs.Named.{AreDistinct};
 ghost use Rattle.rob_cert.specs.Lines.{Line, cover_lines, end_line, entry_lines, item_lines};
 ghost use Rattle.rob_cert.specs.NamesView.{naming};
-ghost use Rattle.rob_cert.specs.Parts.{Extends, Fails, SoFar};
+ghost use Rattle.rob_cert.specs.ReadSoFar.{Extends, Fails, SoFar};
 ghost use Rattle.rob_cert.specs.Kinds.{entries as entries_kind, is_used, items as items_kind, multipliers as multipliers_kind, rank};
 ghost use Rattle.rob_cert.specs.Covers.{AreGoodCovers};
 ghost use Rattle.rob_cert.specs.Items.{AreGoodItems};

@@ -10,7 +10,7 @@ ghost use Rattle.rob_cert.specs.Apart.{FitsLines, IsNamedInWords};
 ghost use Rattle.rob_cert.specs.Causes.{HasCause};
 ghost use Rattle.rob_cert.specs.Lines.{lines_of};
 ghost use Rattle.rob_cert.specs.NamesView.{naming};
-ghost use Rattle.rob_cert.specs.Parts.{Extends, Fails};
+ghost use Rattle.rob_cert.specs.ReadSoFar.{Extends, Fails};
 ghost use Rattle.rob_cert.specs.Reading.{start};
 ghost use Rattle.rob_cert.specs.Spelling.{lines_text, naming_of};
 ghost use Rattle.rob_cert.specs.View.{certificate_of, cover_of, item_of, status_of};
@@ -19,7 +19,7 @@ ghost use Rattle.rob_cert.specs.Whole.{AreGoodLists, EndsWith, HasSizes, IsMoved
 use crate::certificate::{Cert, Cover, Item, Status};
 use crate::entries::Cursor;
 use crate::error::CertErr;
-use crate::head::{Front, read_front};
+use crate::first_lines::{Front, read_front};
 use crate::kind::{Multipliers, Vector};
 use crate::names::Names;
 use crate::part::{covers_part, end_part, entries_part, items_part};

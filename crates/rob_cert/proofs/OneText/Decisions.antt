@@ -8,7 +8,7 @@ use Rattle.rob_algebra.specs.FractionPairs.{of_pair_parts}
 use Rattle.rob_algebra.specs.Width.{Fits}
 use Rattle.rob_meaning.specs.Names.{Name}
 use Rattle.rob_cert.specs.Reading.{Lacks, BeginsWithLine, words_in, IsAtLeast}
-use Rattle.rob_cert.specs.Sections.{HasNoLineOf}
+use Rattle.rob_cert.specs.ReaderLines.{HasNoLineOf}
 use Rattle.rob_cert.specs.Covers.{IsPair}
 use Rattle.rob_cert.specs.Spelling.{Naming, name_at, number_text}
 use Rattle.rob_cert.proofs.Readers.EntryLemmas.{no_line, one_line}

@@ -16,12 +16,12 @@ use Rattle.rob_cert.specs.declared.kind.Multipliers.{Multipliers}
 use Rattle.rob_cert.specs.declared.kind.Multipliers.TheVariants.{Covers, Holds}
 use Rattle.rob_cert.specs.declared.kind.Vector.{Vector}
 use Rattle.rob_cert.specs.declared.kind.Vector.TheVariants.{Inside, Plan, Move}
-use Rattle.rob_cert.specs.Head.{status_bytes}
+use Rattle.rob_cert.specs.FirstLines.{status_bytes}
 use Rattle.rob_cert.specs.Lines.{Line, status_line, value_line, scale_line, end_line, bound_lines, entry_lines, cover_lines, item_lines, lines_of}
-use Rattle.rob_cert.specs.Parts.{SoFar}
+use Rattle.rob_cert.specs.ReadSoFar.{SoFar}
 use Rattle.rob_cert.specs.Kinds.{entries, multipliers, items, rank, is_used}
 use Rattle.rob_cert.specs.Reading.{Lacks, BeginsWithLine, start, behind, FitsLine}
-use Rattle.rob_cert.specs.Sections.{IsSection}
+use Rattle.rob_cert.specs.ReaderLines.{IsSection}
 use Rattle.rob_cert.specs.Covers.{AreGoodCovers}
 use Rattle.rob_cert.specs.Items.{AreGoodItems}
 use Rattle.rob_cert.specs.Spelling.{Naming, naming_of, entry_names, lines_text}
@@ -29,7 +29,7 @@ use Rattle.rob_cert.specs.Whole.{HasSize, IsTextOf, IsWellRead}
 use Rattle.rob_cert.proofs.OneText.Decisions.{Decided, same_word, first_line}
 use Rattle.rob_cert.proofs.Readers.EndLemmas.{items_part, unused_items, end_reads, end_missing, end_followed, no_end, end_line_is, whole_end}
 use Rattle.rob_cert.proofs.Readers.EntryLemmas.{no_line}
-use Rattle.rob_cert.proofs.Readers.HeadLemmas.{value_fails, scale_fails, status_fails, bounds_fail, front_alone, front_is}
+use Rattle.rob_cert.proofs.Readers.FirstLinesLemmas.{value_fails, scale_fails, status_fails, bounds_fail, front_alone, front_is}
 use Rattle.rob_cert.proofs.Readers.RankLemmas.{low_entries, low_multipliers, apart_multipliers}
 use Rattle.rob_cert.proofs.Readers.PartLemmas.{unused_part, entries_part, entries_fails, covers_part, covers_fails, items_fails}
 use Rattle.rob_cert.proofs.Readers.SectionLemmas.{section_further}
@@ -37,7 +37,7 @@ use Rattle.rob_cert.proofs.Writing.ShapeLemmas.{well_read}
 use Rattle.rob_cert.proofs.OneText.SomeEntries.{some_entries}
 use Rattle.rob_cert.proofs.OneText.SomeCovers.{some_covers}
 use Rattle.rob_cert.proofs.OneText.SomeItems.{some_items}
-use Rattle.rob_cert.proofs.OneText.SomeHead.{leads_fit, some_direction, and_then, BoundRead, some_bound, some_status}
+use Rattle.rob_cert.proofs.OneText.SomeFirstLines.{leads_fit, some_direction, and_then, BoundRead, some_bound, some_status}
 
 -- ---- part behind part
 module _ (names : Naming) (limit : ℕ) (text : List ℕ) where

@@ -12,7 +12,7 @@ use Rattle.rob_cert.specs.declared.error.Offence.TheVariants.{NoLine, NoShape, N
 use Rattle.rob_cert.specs.declared.kind.Multipliers.{Multipliers}
 use Rattle.rob_cert.specs.Kinds.{multipliers}
 use Rattle.rob_cert.specs.Reading.{BeginsWithLine, words_in, Stage}
-use Rattle.rob_cert.specs.Sections.{StandsBehind}
+use Rattle.rob_cert.specs.ReaderLines.{StandsBehind}
 use Rattle.rob_cert.specs.Covers.{IsCoverLine, HasCoverFault, IsPair, AreCovers}
 use Rattle.rob_cert.specs.Spelling.{Naming, multipliers_word, name_at}
 use Rattle.rob_cert.proofs.Readers.CoverLemmas.{CoversSoFar, covers_start, covers_more, covers_fault}

@@ -14,7 +14,7 @@ use Rattle.rob_cert.specs.declared.error.Offence.TheVariants.{NoLine, NoShape, N
 use Rattle.rob_cert.specs.declared.kind.Vector.{Vector}
 use Rattle.rob_cert.specs.Kinds.{entries}
 use Rattle.rob_cert.specs.Reading.{BeginsWithLine, words_in, Stage}
-use Rattle.rob_cert.specs.Sections.{StandsAt}
+use Rattle.rob_cert.specs.ReaderLines.{StandsAt}
 use Rattle.rob_cert.specs.Entries.{IsEntry, HasEntryFault, AreEntries, IsZeroVector}
 use Rattle.rob_cert.specs.Spelling.{Naming, entry_names, name_at, number_text, vector_word}
 use Rattle.rob_cert.proofs.Readers.CauseLemmas.{entries_fault}

@@ -10,7 +10,7 @@ use Rattle.rob_cert.specs.declared.kind.Vector.{Vector}
 use Rattle.rob_cert.specs.Lines.{Line, entry_line, entry_lines}
 use Rattle.rob_cert.specs.Kinds.{Kind, entries, word_of, kind_of, argument_count, may_follow}
 use Rattle.rob_cert.specs.Reading.{BeginsWithLine, words_in, Stage, behind, Follows, FitsLine, IsNotZero, IsNotZeroWord, IsShapedAt, IsCause, BreaksFrom, from}
-use Rattle.rob_cert.specs.Sections.{StandsAt}
+use Rattle.rob_cert.specs.ReaderLines.{StandsAt}
 use Rattle.rob_cert.specs.Entries.{IsEntryShape, HasEntryFault}
 use Rattle.rob_cert.specs.Spelling.{Naming, words_of, spelled}
 use Rattle.rob_cert.proofs.Readers.EntryLemmas.{one_line}

@@ -16,7 +16,7 @@ use Rattle.rob_cert.specs.declared.kind.Multipliers.TheVariants.{Covers, Holds}
 use Rattle.rob_cert.specs.Lines.{Line, cover_line, cover_lines}
 use Rattle.rob_cert.specs.Kinds.{Kind, claims, values, scales, items, ends, entries, multipliers, may_follow, word_of, kind_of}
 use Rattle.rob_cert.specs.Reading.{BeginsWithLine, words_in, Stage, behind, advanced, Follows, FitsLine, IsNotZero, IsNotZeroWord, IsAtLeast, IsCause, BreaksFrom, from}
-use Rattle.rob_cert.specs.Sections.{IsSection, StandsBehind}
+use Rattle.rob_cert.specs.ReaderLines.{IsSection, StandsBehind}
 use Rattle.rob_cert.specs.Covers.{IsCoverLine, IsCoverShape, HasCoverFault, CoversLeadOn, IsGoodCover, IsPair}
 use Rattle.rob_cert.specs.Spelling.{Naming, name_at, words_of, spelled}
 use Rattle.rob_cert.proofs.Readers.CauseLemmas.{cause_line, cause_shape, cause_number}

@@ -9,10 +9,10 @@ use Rattle.rob_cert.specs.declared.error.Offence.TheVariants.{NoLine}
 use Rattle.rob_cert.specs.declared.kind.Multipliers.TheVariants.{Covers, Holds}
 use Rattle.rob_cert.specs.declared.kind.Vector.TheVariants.{Inside, Plan, Move, At}
 use Rattle.rob_cert.specs.Lines.{Line, item_lines, end_line}
-use Rattle.rob_cert.specs.Parts.{IsReady, SoFar, Extends}
+use Rattle.rob_cert.specs.ReadSoFar.{IsReady, SoFar, Extends}
 use Rattle.rob_cert.specs.Kinds.{Kind, claims, values, scales, items, ends, entries, multipliers, rank, is_used, is_behind, may_follow, word_of, argument_count}
 use Rattle.rob_cert.specs.Reading.{Lacks, BeginsWithLine, words_in, Stage, start, behind, Leads, BreaksFrom, IsLineAt}
-use Rattle.rob_cert.specs.Sections.{IsSection, HasNoLineOf}
+use Rattle.rob_cert.specs.ReaderLines.{IsSection, HasNoLineOf}
 use Rattle.rob_cert.specs.Items.{AreItems, IsThereOrInItem}
 use Rattle.rob_cert.specs.Spelling.{Naming, lines_text, spaced}
 use Rattle.rob_cert.proofs.Readers.EntryLemmas.{one_line}

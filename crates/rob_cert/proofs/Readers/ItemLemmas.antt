@@ -15,7 +15,7 @@ use Rattle.rob_cert.specs.declared.kind.Vector.TheVariants.{At}
 use Rattle.rob_cert.specs.Lines.{Line, item_line, item_lines, entry_lines}
 use Rattle.rob_cert.specs.Kinds.{Kind, claims, values, scales, items, ends, entries, multipliers, may_follow, word_of, rank}
 use Rattle.rob_cert.specs.Reading.{BeginsWithLine, words_in, Stage, behind, advanced, Follows, FitsLine, IsNotZero, IsNotZeroWord, IsCause, BreaksFrom, from}
-use Rattle.rob_cert.specs.Sections.{HasNoLineOf, IsSection, StandsAt, IsThereOrIn}
+use Rattle.rob_cert.specs.ReaderLines.{HasNoLineOf, IsSection, StandsAt, IsThereOrIn}
 use Rattle.rob_cert.specs.Items.{StandsItem, IsItemLine, HasItemFault, IsItemRead, HasItemReadFault, ItemsLeadOn, IsGoodItem}
 use Rattle.rob_cert.specs.Spelling.{Naming, words_of, spelled}
 use Rattle.rob_cert.proofs.Readers.CauseLemmas.{cause_line, cause_shape, cause_number}

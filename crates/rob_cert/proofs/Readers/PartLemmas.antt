@@ -10,10 +10,10 @@ use Rattle.rob_cert.specs.declared.kind.Multipliers.{Multipliers}
 use Rattle.rob_cert.specs.declared.kind.Vector.{Vector}
 use Rattle.rob_cert.specs.declared.kind.Vector.TheVariants.{At}
 use Rattle.rob_cert.specs.Lines.{Line, entry_lines, cover_lines}
-use Rattle.rob_cert.specs.Parts.{IsReady, SoFar, Extends, Fails}
+use Rattle.rob_cert.specs.ReadSoFar.{IsReady, SoFar, Extends, Fails}
 use Rattle.rob_cert.specs.Kinds.{Kind, items, entries, multipliers, rank, is_used, may_follow, word_of}
 use Rattle.rob_cert.specs.Reading.{from, Stage, start, behind, Leads}
-use Rattle.rob_cert.specs.Sections.{IsSection, HasNoLineOf, StandsAt, StandsBehind, IsThereOrIn}
+use Rattle.rob_cert.specs.ReaderLines.{IsSection, HasNoLineOf, StandsAt, StandsBehind, IsThereOrIn}
 use Rattle.rob_cert.specs.Entries.{AreEntries}
 use Rattle.rob_cert.specs.Covers.{AreCovers}
 use Rattle.rob_cert.specs.Items.{StandsItem}

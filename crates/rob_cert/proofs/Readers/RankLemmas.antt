@@ -7,7 +7,7 @@ use Rattle.rob_cert.specs.declared.kind.Multipliers.{Multipliers}
 use Rattle.rob_cert.specs.declared.kind.Multipliers.TheVariants.{Covers, Holds}
 use Rattle.rob_cert.specs.declared.kind.Vector.{Vector}
 use Rattle.rob_cert.specs.declared.kind.Vector.TheVariants.{Inside, Plan, Move, At}
-use Rattle.rob_cert.specs.Parts.{IsReady}
+use Rattle.rob_cert.specs.ReadSoFar.{IsReady}
 use Rattle.rob_cert.specs.Kinds.{Kind, claims, values, scales, items, ends, entries, multipliers, rank, is_used, is_behind, may_follow}
 use Rattle.std.proofs.lemmas.Bool.{and_parts, and_from}
 

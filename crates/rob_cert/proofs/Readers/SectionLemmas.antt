@@ -13,7 +13,7 @@ use Rattle.rob_cert.specs.declared.kind.Vector.{Vector}
 use Rattle.rob_cert.specs.Lines.{Line, entry_line, entry_lines}
 use Rattle.rob_cert.specs.Kinds.{entries}
 use Rattle.rob_cert.specs.Reading.{BeginsWithLine, with_first, words_in, Stage, behind, advanced, Follows, FitsLine, IsNotZero, IsCause, Leads, BreaksFrom}
-use Rattle.rob_cert.specs.Sections.{IsSection, StandsAt}
+use Rattle.rob_cert.specs.ReaderLines.{IsSection, StandsAt}
 use Rattle.rob_cert.specs.Entries.{IsZeroVector, IsEntry, LeadOn}
 use Rattle.rob_cert.specs.Spelling.{Naming, entry_names, words_of, spelled, spaced, line_text, lines_text}
 use Rattle.rob_cert.proofs.Words.KindLemmas.{entries_again, from_entries}

@@ -6,7 +6,7 @@ use Rattle.rob_cert.specs.declared.error.CertErr.{CertErr}
 use Rattle.rob_cert.specs.declared.kind.Multipliers.TheVariants.{Covers, Holds}
 use Rattle.rob_cert.specs.declared.kind.Vector.TheVariants.{Inside, Plan, Move}
 use Rattle.rob_cert.specs.Lines.{Line, status_line, bound_lines, entry_lines, cover_lines, item_lines, end_line, lines_of}
-use Rattle.rob_cert.specs.Parts.{SoFar, Extends, Fails}
+use Rattle.rob_cert.specs.ReadSoFar.{SoFar, Extends, Fails}
 use Rattle.rob_cert.specs.Spelling.{Naming, lines_text}
 use Rattle.rob_cert.specs.Whole.{vector_lines, list_lines, EndsWith, IsMoved}
 

@@ -14,18 +14,18 @@ use Rattle.rob_cert.specs.declared.kind.Multipliers.{Multipliers}
 use Rattle.rob_cert.specs.declared.kind.Multipliers.TheVariants.{Covers, Holds}
 use Rattle.rob_cert.specs.declared.kind.Vector.{Vector}
 use Rattle.rob_cert.specs.declared.kind.Vector.TheVariants.{Inside, Plan, Move}
-use Rattle.rob_cert.specs.Head.{status_bytes}
+use Rattle.rob_cert.specs.FirstLines.{status_bytes}
 use Rattle.rob_cert.specs.Lines.{Line, status_line, end_line, bound_lines, entry_lines, cover_lines, item_lines, lines_of}
-use Rattle.rob_cert.specs.Parts.{IsReady}
+use Rattle.rob_cert.specs.ReadSoFar.{IsReady}
 use Rattle.rob_cert.specs.Kinds.{Kind, claims, items, ends, entries, multipliers, rank, is_used, may_follow}
 use Rattle.rob_cert.specs.Reading.{Stage, start, behind, FitsLine, IsAtLeast, Leads}
-use Rattle.rob_cert.specs.Sections.{IsThereOrIn}
+use Rattle.rob_cert.specs.ReaderLines.{IsThereOrIn}
 use Rattle.rob_cert.specs.Covers.{IsGoodCover}
 use Rattle.rob_cert.specs.Items.{IsThereOrInItem, IsGoodItem}
 use Rattle.rob_cert.specs.Shape.{HasShape, HasParts, AreCoversOf, AreItemsOf, IsCoverOf, IsItemOf}
 use Rattle.rob_cert.specs.Spelling.{Naming, naming_of, entry_names, lines_text}
 use Rattle.rob_cert.proofs.Readers.EndLemmas.{ready_eight}
-use Rattle.rob_cert.proofs.Readers.HeadLemmas.{front_is, ready_claims}
+use Rattle.rob_cert.proofs.Readers.FirstLinesLemmas.{front_is, ready_claims}
 use Rattle.rob_cert.proofs.Words.NameListLemmas.{length-parameter_names}
 use Rattle.rob_cert.proofs.Readers.RankLemmas.{ready_entries, ready_multipliers, ready_more}
 use Rattle.rob_cert.proofs.Readers.SectionLemmas.{Leads-append, line_of_zero}

@@ -12,7 +12,7 @@ use Rattle.rob_cert.specs.declared.kind.Vector.TheVariants.{At}
 use Rattle.rob_cert.specs.Lines.{Line, entry_line, cover_line, item_line, entry_lines, cover_lines, item_lines}
 use Rattle.rob_cert.specs.Kinds.{Kind, entries, multipliers, rank}
 use Rattle.rob_cert.specs.Reading.{Stage, behind, advanced, FitsLine, IsAtLeast, Leads}
-use Rattle.rob_cert.specs.Sections.{StandsAt, StandsBehind, IsThereOrIn}
+use Rattle.rob_cert.specs.ReaderLines.{StandsAt, StandsBehind, IsThereOrIn}
 use Rattle.rob_cert.specs.Covers.{IsGoodCover}
 use Rattle.rob_cert.specs.Items.{StandsItem, IsThereOrInItem, IsGoodItem}
 use Rattle.rob_cert.specs.Spelling.{Naming, entry_names}

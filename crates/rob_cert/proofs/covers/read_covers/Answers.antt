@@ -2,7 +2,7 @@ use Rattle.std.proofs.Common.{◌+◌, ◌∷◌, [], arith, map, ap, sym, subst
 use Rattle.std.proofs.lemmas.List.{map-append}
 use Rattle.rob_number.proofs.CountLemmas.{later}
 use Rattle.rob_cert.specs.NamesView.{naming}
-use Rattle.rob_cert.specs.Sections.{HasNoLineOf}
+use Rattle.rob_cert.specs.ReaderLines.{HasNoLineOf}
 use Rattle.rob_cert.specs.View.{cover_of}
 use Rattle.rob_cert.proofs.Readers.CoverLemmas.{CoversSoFar, covers_more, covers_fault}
 use Rattle.rob_cert.proofs.Readers.SectionLemmas.{shorter}

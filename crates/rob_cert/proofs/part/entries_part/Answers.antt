@@ -3,7 +3,7 @@ use Rattle.std.proofs.lemmas.Result.{IfErr-weaker, IfOk-weaker}
 use Rattle.std.specs.Prelude.{suc}
 use Rattle.rob_cert.specs.Lines.{entry_lines}
 use Rattle.rob_cert.specs.NamesView.{naming}
-use Rattle.rob_cert.specs.Parts.{Extends}
+use Rattle.rob_cert.specs.ReadSoFar.{Extends}
 use Rattle.rob_cert.specs.Kinds.{entries, rank}
 use Rattle.rob_cert.specs.View.{status_of}
 use Rattle.rob_cert.proofs.Readers.PartLemmas as part

@@ -2,7 +2,7 @@ use Rattle.std.proofs.Common.{map, sym, subst, ◌∙◌}
 use Rattle.std.proofs.lemmas.Result.{IfErr-weaker, IfOk-weaker}
 use Rattle.rob_cert.specs.Lines.{item_lines}
 use Rattle.rob_cert.specs.NamesView.{naming}
-use Rattle.rob_cert.specs.Parts.{Extends}
+use Rattle.rob_cert.specs.ReadSoFar.{Extends}
 use Rattle.rob_cert.specs.View.{item_of, status_of}
 use Rattle.rob_cert.proofs.Readers.EndLemmas.{items_part, unused_items}
 use Rattle.rob_cert.proofs.Readers.PartLemmas as part

@@ -1,5 +1,5 @@
-use Rattle.rob_cert.proofs.Readers.HeadLemmas.{other_status}
-use Rattle.rob_cert.proofs.head.read_status.Goals as goal
+use Rattle.rob_cert.proofs.Readers.FirstLinesLemmas.{other_status}
+use Rattle.rob_cert.proofs.first_lines.read_status.Goals as goal
 
 pub returns-in-None-status_of_line : goal.returns-in-None-status_of_line
 returns-in-None-status_of_line c = record {

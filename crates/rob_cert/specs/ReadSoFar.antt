@@ -8,7 +8,7 @@ use Rattle.rob_cert.specs.declared.kind.Vector.TheVariants.{At}
 use Rattle.rob_cert.specs.Lines.{Line}
 use Rattle.rob_cert.specs.Kinds.{Kind, entries, rank, is_used, may_follow, word_of}
 use Rattle.rob_cert.specs.Reading.{start, behind, Leads}
-use Rattle.rob_cert.specs.Sections.{IsSection, HasNoLineOf}
+use Rattle.rob_cert.specs.ReaderLines.{IsSection, HasNoLineOf}
 use Rattle.rob_cert.specs.Spelling.{Naming}
 
 -- behind a line of that kind the used kinds from that rank on may stand, and begin anew; an item's entries do not count

@@ -1,7 +1,7 @@
-use Rattle.rob_cert.proofs.Readers.HeadLemmas.{status_fails, bounds_fail, front_is}
+use Rattle.rob_cert.proofs.Readers.FirstLinesLemmas.{status_fails, bounds_fail, front_is}
 use Rattle.rob_cert.specs.declared.error.Offence.TheVariants.{NoLine}
 use Rattle.rob_cert.specs.View.{status_of}
-use Rattle.rob_cert.proofs.head.read_front.Goals as goal
+use Rattle.rob_cert.proofs.first_lines.read_front.Goals as goal
 
 pub returns-in-None-clause-fault : goal.returns-in-None-clause-fault
 returns-in-None-clause-fault g c names =

@@ -1,8 +1,8 @@
 use Rattle.std.proofs.Common.{◌∷◌, []}
 use Rattle.rob_cert.specs.Lines.{value_line, scale_line}
-use Rattle.rob_cert.proofs.Readers.HeadLemmas.{value_fails, scale_fails}
+use Rattle.rob_cert.proofs.Readers.FirstLinesLemmas.{value_fails, scale_fails}
 use Rattle.rob_cert.proofs.Readers.SectionLemmas.{section_further}
-use Rattle.rob_cert.proofs.head.read_both.Goals as goal
+use Rattle.rob_cert.proofs.first_lines.read_both.Goals as goal
 
 pub returns-in-Err-clause-fault : goal.returns-in-Err-clause-fault
 returns-in-Err-clause-fault g c names s plan =

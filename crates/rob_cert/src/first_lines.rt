@@ -5,12 +5,12 @@ ghost use Rattle.rob_number.specs.Counts.{NeverFell};
 ghost use Rattle.rob_meaning.specs.Certificates.{Status as StatusOf, infeasible};
 ghost use Rattle.rob_meaning.specs.Places.{0ℚ, 1ℚ};
 ghost use Rattle.rob_cert.specs.Causes.{HasCause};
-ghost use Rattle.rob_cert.specs.Head.{HasBoundFault, bound_line, status_bytes};
+ghost use Rattle.rob_cert.specs.FirstLines.{HasBoundFault, bound_line, status_bytes};
 ghost use Rattle.rob_cert.specs.Lines.{bound_lines, scale_line, status_line, value_line};
-ghost use Rattle.rob_cert.specs.Parts.{SoFar};
+ghost use Rattle.rob_cert.specs.ReadSoFar.{SoFar};
 ghost use Rattle.rob_cert.specs.Kinds.{claims};
 ghost use Rattle.rob_cert.specs.Reading.{behind, start};
-ghost use Rattle.rob_cert.specs.Sections.{IsSection};
+ghost use Rattle.rob_cert.specs.ReaderLines.{IsSection};
 ghost use Rattle.rob_cert.specs.Spelling.{Naming};
 ghost use Rattle.rob_cert.specs.View.{status_of};
 

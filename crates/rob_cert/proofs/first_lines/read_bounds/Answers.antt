@@ -1,4 +1,4 @@
-use Rattle.rob_cert.proofs.head.read_bounds.Goals as goal
+use Rattle.rob_cert.proofs.first_lines.read_bounds.Goals as goal
 
 pub returns-in-Optimal-clause-read : goal.returns-in-Optimal-clause-read
 returns-in-Optimal-clause-read g c names = rw c.in-Optimal.is (c.read_both.ensures.read names)

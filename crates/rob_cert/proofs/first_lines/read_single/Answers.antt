@@ -1,5 +1,5 @@
-use Rattle.rob_cert.proofs.Readers.HeadLemmas.{bound_count, bound_read}
-use Rattle.rob_cert.proofs.head.read_single.Goals as goal
+use Rattle.rob_cert.proofs.Readers.FirstLinesLemmas.{bound_count, bound_read}
+use Rattle.rob_cert.proofs.first_lines.read_single.Goals as goal
 
 pub returns-in-None-two_words-clause-fault : goal.returns-in-None-two_words-clause-fault
 returns-in-None-two_words-clause-fault g c =

@@ -10,16 +10,16 @@ use Rattle.rob_cert.specs.declared.error.Offence.{Offence}
 use Rattle.rob_cert.specs.declared.error.Offence.TheVariants.{NoLine, NoNumber}
 use Rattle.rob_cert.specs.declared.kind.Bound.{Bound}
 use Rattle.rob_cert.specs.declared.kind.Vector.TheVariants.{Move}
-use Rattle.rob_cert.specs.Head.{bound_kind, bound_line, status_bytes, HasBoundFault}
+use Rattle.rob_cert.specs.FirstLines.{bound_kind, bound_line, status_bytes, HasBoundFault}
 use Rattle.rob_cert.specs.Lines.{Line, entry_lines}
 use Rattle.rob_cert.specs.Kinds.{word_of}
 use Rattle.rob_cert.specs.Reading.{Lacks, BeginsWithLine, words_in, Stage, FitsLine, Leads}
-use Rattle.rob_cert.specs.Sections.{IsSection, HasNoLineOf}
+use Rattle.rob_cert.specs.ReaderLines.{IsSection, HasNoLineOf}
 use Rattle.rob_cert.specs.Spelling.{Naming}
 use Rattle.rob_cert.specs.Whole.{IsMoved}
 use Rattle.rob_cert.proofs.OneText.Decisions.{Decided, same_number, same_word, first_line, next_line, one_word, Spells, some_number}
 use Rattle.rob_cert.proofs.Words.NumberLemmas.{cut_lacks}
-use Rattle.rob_cert.proofs.Readers.HeadLemmas.{other_status, bound_count, bound_read}
+use Rattle.rob_cert.proofs.Readers.FirstLinesLemmas.{other_status, bound_count, bound_read}
 use Rattle.rob_cert.proofs.Readers.SectionLemmas.{line_of_zero}
 use Rattle.rob_cert.proofs.OneText.SomeEntries.{count_more}
 

@@ -14,12 +14,12 @@ use Rattle.rob_cert.specs.declared.kind.Bound.{Bound}
 use Rattle.rob_cert.specs.declared.kind.Bound.TheVariants.{Value, Scale}
 use Rattle.rob_cert.specs.declared.kind.Multipliers.TheVariants.{Covers, Holds}
 use Rattle.rob_cert.specs.declared.kind.Vector.TheVariants.{Inside, Plan, Move, At}
-use Rattle.rob_cert.specs.Head.{bound_kind, bound_line, status_bytes, HasBoundFault}
+use Rattle.rob_cert.specs.FirstLines.{bound_kind, bound_line, status_bytes, HasBoundFault}
 use Rattle.rob_cert.specs.Lines.{Line, status_line, value_line, scale_line, entry_line, cover_line, item_line, end_line, bound_lines}
-use Rattle.rob_cert.specs.Parts.{IsReady, SoFar}
+use Rattle.rob_cert.specs.ReadSoFar.{IsReady, SoFar}
 use Rattle.rob_cert.specs.Kinds.{Kind, claims, values, scales, items, ends, entries, multipliers, rank, is_used, is_behind, may_follow, word_of, argument_count, kind_of}
 use Rattle.rob_cert.specs.Reading.{Lacks, BeginsWithLine, words_in, Stage, start, behind, Leads, Follows, FitsLine, IsNotZeroWord, BreaksFrom, IsCause, HasWords}
-use Rattle.rob_cert.specs.Sections.{IsSection}
+use Rattle.rob_cert.specs.ReaderLines.{IsSection}
 use Rattle.rob_cert.specs.Spelling.{Naming, words_of, spelled, number_text, status_word}
 use Rattle.rob_cert.proofs.Readers.CauseLemmas.{cause_number}
 use Rattle.rob_cert.proofs.Readers.EndLemmas.{line_by_words}
