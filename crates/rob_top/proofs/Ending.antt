@@ -1,5 +1,5 @@
 -- What was put, and how a call ends.
-pub mod CallLemmas
-pub mod FrameLemmas
+pub mod EndsLemmas
+pub mod FetchedAnswers
 pub mod PutLemmas
 pub mod LinesLemmas

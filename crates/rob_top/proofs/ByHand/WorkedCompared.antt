@@ -11,7 +11,7 @@ use Rattle.rob_meaning.specs.Certificates.{Certificate, Status, optimal}
 use Rattle.rob_meaning.specs.Places.{0ℚ, 1ℚ}
 use Rattle.rob_meaning.specs.Proves.{HasStatus}
 use Rattle.rob_top.proofs.Relations.OneSummary.{summary_of}
-use Rattle.rob_top.proofs.Courses.StageLemmas.{same_status}
+use Rattle.rob_top.proofs.Origins.ProgressLemmas.{same_status}
 use Rattle.rob_top.proofs.ByHand.WorkedNumbers.{number_plain}
 use Rattle.rob_top.specs.Calls.{Call}
 use Rattle.rob_top.specs.Compared.{AsksFor, IsCompared, heading, status_line}

@@ -2,7 +2,7 @@
 use Rattle.std.proofs.Common.{◌≡◌, ℕ, List, ◌∷◌, ◌++◌, sym, ◌∙◌, ap, subst, inl, inr, ◌⊎◌}
 use Rattle.rob_outside.specs.Files.{Found, whole, missing, too_long}
 use Rattle.rob_branch.proofs.OneSpotLemmas.{split_once}
-use Rattle.rob_top.proofs.Courses.StageLemmas.{Stage, absent, answers_number, broken, failed, found_once, none_absent, number_none_absent, over, read, stage_of, wanting, wordless}
+use Rattle.rob_top.proofs.Origins.ProgressLemmas.{Progress, absent, answers_number, broken, failed, found_once, none_absent, number_none_absent, over, read, progress_of, wanting, wordless}
 use Rattle.rob_top.specs.Calls.{Call, Known}
 use Rattle.rob_top.specs.Files.{Came, IsFirstAbsent, IsFound, Request, requests}
 use Rattle.rob_top.specs.Headline.{Means}
@@ -42,17 +42,17 @@ module _ (call : Call) (known : Known call.source) where
   pub missing_decides : (name : Word) → IsFirstAbsent call missing name
       → (ended : Ended) (text : List ℕ) → Means call ended text
       → (ended ≡ Missing) ⊎ ((ended ≡ ReadFault) ⊎ (ended ≡ Memory))
-  missing_decides name h ended text means = by (stage_of call ended text means)
+  missing_decides name h ended text means = by (progress_of call ended text means)
     where
-      by : Stage call ended → (ended ≡ Missing) ⊎ ((ended ≡ ReadFault) ⊎ (ended ≡ Memory))
+      by : Progress call ended → (ended ≡ Missing) ⊎ ((ended ≡ ReadFault) ⊎ (ended ≡ Memory))
       by (wordless none) = absurd (none (h.line, h.spelled))
       by (absent other k e) = inl e
       by (over other k e) =
           absurd (let same : missing ≡ too_long =
           one_absent missing too_long name other no_missing no_too_long h k in cc)
       by (broken rule number t k e) = absurd (none_absent call known k.line k.spelled missing name k.came no_missing h)
-      by (read l m k course) = absurd (none_absent call known l k.spelled missing name k.came no_missing h)
-      by (answers_number l sp none course) =
+      by (read l m k origin) = absurd (none_absent call known l k.spelled missing name k.came no_missing h)
+      by (answers_number l sp none origin) =
           absurd (number_none_absent call known h.line h.spelled l sp none h.before h.request h.behind h.order)
       by (failed names e) = inr (inl e)
       by (wanting e) = inr (inr e)
@@ -60,9 +60,9 @@ module _ (call : Call) (known : Known call.source) where
   pub too_long_decides : (name : Word) → IsFirstAbsent call too_long name
       → (ended : Ended) (text : List ℕ) → Means call ended text
       → (ended ≡ TooLong) ⊎ ((ended ≡ ReadFault) ⊎ (ended ≡ Memory))
-  too_long_decides name h ended text means = by (stage_of call ended text means)
+  too_long_decides name h ended text means = by (progress_of call ended text means)
     where
-      by : Stage call ended → (ended ≡ TooLong) ⊎ ((ended ≡ ReadFault) ⊎ (ended ≡ Memory))
+      by : Progress call ended → (ended ≡ TooLong) ⊎ ((ended ≡ ReadFault) ⊎ (ended ≡ Memory))
       by (wordless none) = absurd (none (h.line, h.spelled))
       by (absent other k e) =
           absurd (let same : too_long ≡ missing =
@@ -70,8 +70,8 @@ module _ (call : Call) (known : Known call.source) where
       by (over other k e) = inl e
       by (broken rule number t k e) =
           absurd (none_absent call known k.line k.spelled too_long name k.came no_too_long h)
-      by (read l m k course) = absurd (none_absent call known l k.spelled too_long name k.came no_too_long h)
-      by (answers_number l sp none course) =
+      by (read l m k origin) = absurd (none_absent call known l k.spelled too_long name k.came no_too_long h)
+      by (answers_number l sp none origin) =
           absurd (number_none_absent call known h.line h.spelled l sp none h.before h.request h.behind h.order)
       by (failed names e) = inr (inl e)
       by (wanting e) = inr (inr e)

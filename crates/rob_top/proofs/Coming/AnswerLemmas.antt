@@ -4,7 +4,7 @@ use Rattle.rob_meaning.specs.RobustModel.{RobustModel}
 use Rattle.rob_model.specs.declared.place.Spot.{Spot}
 use Rattle.rob_top.specs.Branched.{BreaksWhole, no_ranges, no_variables}
 use Rattle.rob_top.specs.Calls.{Call}
-use Rattle.rob_top.proofs.Courses.SplitCourseLemmas.{cells_model}
+use Rattle.rob_top.proofs.Origins.SplitOriginLemmas.{cells_model}
 use Rattle.rob_top.specs.Headline.{Means}
 use Rattle.rob_top.specs.Inputs.{LacksPlan}
 use Rattle.rob_top.specs.Refused.{IsWideSpot, elaborating, checking, replaying, searching}

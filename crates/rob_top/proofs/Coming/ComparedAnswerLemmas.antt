@@ -4,10 +4,10 @@ use Rattle.std.specs.Prelude.{Some}
 use Rattle.rob_gen.specs.Generated.{generated}
 use Rattle.rob_meaning.specs.RobustModel.{RobustModel}
 use Rattle.rob_model.specs.declared.place.Spot.{Spot}
-use Rattle.rob_top.proofs.Courses.CommandLemmas.{two_verbs}
+use Rattle.rob_top.proofs.Origins.CommandLemmas.{two_verbs}
 use Rattle.rob_top.proofs.Coming.ComingLemmas.{Comes}
 use Rattle.rob_top.proofs.Meaning.GeneratedLemmas.{number_decides}
-use Rattle.rob_top.proofs.Courses.NumberCourseLemmas.{NumberCourse, compares, writes_model}
+use Rattle.rob_top.proofs.Origins.NumberOriginLemmas.{NumberOrigin, compares, writes_model}
 use Rattle.rob_top.specs.Calls.{Call, Known, limit_of}
 use Rattle.rob_top.specs.Commands.{reads_model}
 use Rattle.rob_top.specs.Compared.{AsksFor}
@@ -69,7 +69,7 @@ module _ (call : Call) (known : Known call.source) (ended : Ended) (comes : Come
       → IsComparedAnswer (limit_of line) (generated number) ended
   answer_ends line number asks = all comes
     where
-      by : NumberCourse call line ended ⊎ (ended ≡ Memory) → IsComparedAnswer (limit_of line) (generated number) ended
+      by : NumberOrigin call line ended ⊎ (ended ≡ Memory) → IsComparedAnswer (limit_of line) (generated number) ended
       by (inl (writes_model is e)) = absurd (two_verbs Text Gen line.verb (λ e. cc) is asks.is_gen)
       by (inl (compares other told answer)) =
           subst (λ (n : ℕ). IsComparedAnswer (limit_of line) (generated n) ended)

@@ -27,15 +27,15 @@ use Rattle.rob_sweep.specs.Stops.{KeepsRules}
 use Rattle.rob_top.proofs.Coming.AnswerLemmas.{no_command}
 use Rattle.rob_top.proofs.Coming.ComingLemmas.{Comes, comes_ends, ends_in}
 use Rattle.rob_top.proofs.Coming.ComparedAnswerLemmas.{compared_ends}
-use Rattle.rob_top.proofs.Courses.KnownInputs.{known_again}
-use Rattle.rob_top.proofs.Courses.KnownLemmas.{means_known}
+use Rattle.rob_top.proofs.Origins.KnownInputs.{known_again}
+use Rattle.rob_top.proofs.Origins.KnownLemmas.{means_known}
 use Rattle.rob_replay.specs.Outcome.{outcome}
 use Rattle.rob_top.proofs.Meaning.GeneratedLemmas.{generated_decides}
 use Rattle.rob_top.proofs.Coming.NarrowAnswerLemmas.{has_status, narrow_decides, no_wide_answer, shown_answer}
 use Rattle.rob_top.proofs.Coming.ReplayAnswerLemmas.{planless_decides, replay_decides}
-use Rattle.rob_top.proofs.Courses.StageLemmas.{broken_answer}
+use Rattle.rob_top.proofs.Origins.ProgressLemmas.{broken_answer}
 use Rattle.rob_top.proofs.Coming.AbsentAnswerLemmas.{missing_decides, too_long_decides}
-use Rattle.rob_top.proofs.Courses.ReadOnceLemmas.{well}
+use Rattle.rob_top.proofs.Origins.ReadOnceLemmas.{well}
 use Rattle.rob_top.proofs.Coming.TrueAnswerLemmas.{empty_decides, rows_decide, rule_decides, solve_decides, status_decides, verdict_decides, wide_decides}
 use Rattle.rob_top.proofs.Coming.WholeAnswerLemmas.{some_whole_status, whole_decides, whole_empty_decides, whole_status_decides, whole_wide_decides}
 use Rattle.rob_top.proofs.Coming.WorstAnswerLemmas.{unnamed_decides, unplanned_decides, worst_decides, worst_empty_decides, worst_printed_decides, worst_slack_decides}

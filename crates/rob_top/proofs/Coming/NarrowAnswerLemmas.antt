@@ -22,7 +22,7 @@ use Rattle.rob_model.specs.declared.place.Spot.{Spot}
 use Rattle.rob_model.specs.declared.place.Spot.TheVariants.{Dictionary}
 use Rattle.rob_number.specs.declared.memory.Memory.{Memory as Want}
 use Rattle.rob_report.specs.NarrowText.{bound_line, narrow_line}
-use Rattle.rob_top.proofs.Coming.TrueAnswerLemmas.{first_of_two, formed_course}
+use Rattle.rob_top.proofs.Coming.TrueAnswerLemmas.{first_of_two, formed_origin}
 use Rattle.rob_top.specs.Calls.{Call, Count, Known}
 use Rattle.rob_top.specs.Commands as works
 use Rattle.rob_top.specs.Commands.{work_of}
@@ -110,7 +110,7 @@ pub narrow_decides : (call : Call) (known : Known call.source) (line : Line) (m 
     → (ended : Ended) (text : List ℕ) → Means call ended text → (ended ≡ Printed)
     ⊎ ((ended ≡ ReadFault) ⊎ (ended ≡ Memory))
 narrow_decides call known line m has is ended text means =
-    first_of_two by (formed_course call known line m has works.narrowing (ap work_of is) ended text means)
+    first_of_two by (formed_origin call known line m has works.narrowing (ap work_of is) ended text means)
   where
     by : HasForms call line m × (ended ≡ Printed) → ended ≡ Printed
     by printed = printed.1

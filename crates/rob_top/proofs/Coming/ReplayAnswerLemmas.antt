@@ -8,12 +8,12 @@ use Rattle.rob_replay.proofs.OneFileLemmas.{one_file}
 use Rattle.rob_replay.specs.Files.{IsFile}
 use Rattle.rob_replay.specs.Outcome.{outcome}
 use Rattle.rob_replay.specs.Replayed.{ShowsBound}
-use Rattle.rob_top.proofs.Courses.CourseLemmas.{ReplayCourse, lacks_plan, replays}
-use Rattle.rob_top.proofs.Courses.ReadOnceLemmas.{one_certificate, some_plan, one_lack, well}
+use Rattle.rob_top.proofs.Origins.OriginLemmas.{ReplayOrigin, lacks_plan, replays}
+use Rattle.rob_top.proofs.Origins.ReadOnceLemmas.{one_certificate, some_plan, one_lack, well}
 use Rattle.rob_commands.proofs.PlanLemmas.{proved_bound}
 use Rattle.rob_top.proofs.Meaning.SoughtLemmas.{lacking_model, lacking_verb}
-use Rattle.rob_top.proofs.Courses.StageLemmas.{file_once}
-use Rattle.rob_top.proofs.Coming.TrueAnswerLemmas.{first_of_two, unformed_course}
+use Rattle.rob_top.proofs.Origins.ProgressLemmas.{file_once}
+use Rattle.rob_top.proofs.Coming.TrueAnswerLemmas.{first_of_two, unformed_origin}
 use Rattle.rob_top.specs.Calls.{Call, Known, limit_of}
 use Rattle.rob_top.specs.Commands as works
 use Rattle.rob_top.specs.Commands.{work_of}
@@ -45,10 +45,10 @@ module _ (call : Call) (known : Known call.source) (line : Line) (m : RobustMode
       → (ended ≡ replay_ended (outcome (limit_of line) m c.plan rows)) ⊎ ((ended ≡ ReadFault) ⊎ (ended ≡ Memory))
   replay_decides c bytes rows has file ended text means =
       first_of_two by
-      (unformed_course call known line m has.plan.certificate.file.read works.replaying refl
+      (unformed_origin call known line m has.plan.certificate.file.read works.replaying refl
       (ap work_of has.plan.certificate.file.is_verb) ended text means)
     where
-      by : ReplayCourse call line m ended → ended ≡ replay_ended (outcome (limit_of line) m c.plan rows)
+      by : ReplayOrigin call line m ended → ended ≡ replay_ended (outcome (limit_of line) m c.plan rows)
       by (replays d list others h other e) = e ∙ same_records c d bytes list rows others has h file other
       by (lacks_plan rule number h e) = absurd (some_plan call known line m verbs.Replay rule number c h has.plan)
 
@@ -57,10 +57,10 @@ module _ (call : Call) (known : Known call.source) (line : Line) (m : RobustMode
       → (ended ≡ Cert rule number) ⊎ ((ended ≡ ReadFault) ⊎ (ended ≡ Memory))
   planless_decides rule number has ended text means =
       first_of_two by
-      (unformed_course call known line m (lacking_model call line m verbs.Replay rule number has) works.replaying refl
+      (unformed_origin call known line m (lacking_model call line m verbs.Replay rule number has) works.replaying refl
       (ap work_of (lacking_verb call line m verbs.Replay rule number has)) ended text means)
     where
-      by : ReplayCourse call line m ended → ended ≡ Cert rule number
+      by : ReplayOrigin call line m ended → ended ≡ Cert rule number
       by (replays d list others h other e) = absurd (some_plan call known line m verbs.Replay rule number d has h.plan)
       by (lacks_plan r n h e) =
           let one = one_lack call known line m verbs.Replay rule number r n has h in

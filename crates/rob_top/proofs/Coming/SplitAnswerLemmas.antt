@@ -14,13 +14,13 @@ use Rattle.rob_pieces.specs.SplitModel.{split_model}
 use Rattle.rob_sets.specs.FirstWide.{IsFirstWide}
 use Rattle.rob_top.proofs.Meaning.BeforeLemmas.{before_it}
 use Rattle.rob_top.proofs.Coming.ComingLemmas.{Comes, comes_ends, ends_in}
-use Rattle.rob_top.proofs.Courses.CommandLemmas.{two_verbs}
+use Rattle.rob_top.proofs.Origins.CommandLemmas.{two_verbs}
 use Rattle.rob_top.proofs.Telling.CutTellingLemmas.{cuts_at_once, cuts_inside}
 use Rattle.rob_top.proofs.Coming.NarrowAnswerLemmas.{has_status}
-use Rattle.rob_top.proofs.Courses.ReadOnceLemmas.{named, well}
-use Rattle.rob_top.proofs.Courses.SplitCourseLemmas.{SplitCourse, breaks_cells, cells_model, cells_splits, finds_pieces, shows_empty_cell, wide_cell, writes_split}
+use Rattle.rob_top.proofs.Origins.ReadOnceLemmas.{named, well}
+use Rattle.rob_top.proofs.Origins.SplitOriginLemmas.{SplitOrigin, breaks_cells, cells_model, cells_splits, finds_pieces, shows_empty_cell, wide_cell, writes_split}
 use Rattle.rob_top.proofs.Meaning.SplittingLemmas.{admits_each, each_admits, split_model_is, status_over_pieces}
-use Rattle.rob_top.proofs.Coming.TrueAnswerLemmas.{first_of_two, unformed_course}
+use Rattle.rob_top.proofs.Coming.TrueAnswerLemmas.{first_of_two, unformed_origin}
 use Rattle.rob_top.specs.Calls.{Call, Known, limit_of}
 use Rattle.rob_top.specs.Endings.{EndsAs}
 use Rattle.rob_top.specs.Headline.{Means}
@@ -78,9 +78,9 @@ same_piece_status m cuts unbounded unbounded v w h k = refl
 
 module _ (call : Call) (known : Known call.source) (line : Line) (m : RobustModel) where
   -- the command cuts, so that stands behind its answer
-  split_course : HasModel call line m → IsSplitting line.verb → (ended : Ended) (text : List ℕ) → Means call ended text
-      → SplitCourse call line m ended ⊎ ((ended ≡ ReadFault) ⊎ (ended ≡ Memory))
-  split_course has is = unformed_course call known line m has works.splitting refl is
+  split_origin : HasModel call line m → IsSplitting line.verb → (ended : Ended) (text : List ℕ) → Means call ended text
+      → SplitOrigin call line m ended ⊎ ((ended ≡ ReadFault) ⊎ (ended ≡ Memory))
+  split_origin has is = unformed_origin call known line m has works.splitting refl is
 
   -- ---- the words tell one list of cuts
   word_once : (a b : Word) → HasCutWord call line m a → HasCutWord call line m b → a ≡ b
@@ -128,9 +128,9 @@ module _ (call : Call) (known : Known call.source) (line : Line) (m : RobustMode
       → (ended ≡ CellsRule rule) ⊎ ((ended ≡ ReadFault) ⊎ (ended ≡ Memory))
   breaking_cells_decides rule broken ended text means =
       first_of_two by
-      (split_course (cells_model call line m rule broken) (cells_splits call line m rule broken) ended text means)
+      (split_origin (cells_model call line m rule broken) (cells_splits call line m rule broken) ended text means)
     where
-      by : SplitCourse call line m ended → ended ≡ CellsRule rule
+      by : SplitOrigin call line m ended → ended ≡ CellsRule rule
       by (breaks_cells other h e) = e ∙ ap (λ r. CellsRule r) (one_rule other rule h broken)
       by (finds_pieces cuts status v has is written each holds e) = absurd (no_break rule cuts broken has)
       by (shows_empty_cell cuts weights has is written shown none e) = absurd (no_break rule cuts broken has)
@@ -145,15 +145,15 @@ module _ (call : Call) (known : Known call.source) (line : Line) (m : RobustMode
     are_here = cuts_inside m (parts_of has.has_cuts.word) cuts has.has_cuts.are
 
     here : (ended : Ended) (text : List ℕ) → Means call ended text
-        → SplitCourse call line m ended ⊎ ((ended ≡ ReadFault) ⊎ (ended ≡ Memory))
-    here ended text means = split_course has_here has.has_cuts.has_word.is_splitting ended text means
+        → SplitOrigin call line m ended ⊎ ((ended ≡ ReadFault) ⊎ (ended ≡ Memory))
+    here ended text means = split_origin has_here has.has_cuts.has_word.is_splitting ended text means
 
     -- ---- `celltext`
     written_decides : line.verb ≡ CellText → (ended : Ended) (text : List ℕ) → Means call ended text
         → (ended ≡ Printed) ⊎ ((ended ≡ ReadFault) ⊎ (ended ≡ Memory))
     written_decides is ended text means = first_of_two by (here ended text means)
       where
-        by : SplitCourse call line m ended → ended ≡ Printed
+        by : SplitOrigin call line m ended → ended ≡ Printed
         by (breaks_cells rule h e) = absurd (no_break rule cuts h has)
         by (finds_pieces list status v h other written each holds e) = absurd (two_splits line.verb other is)
         by (shows_empty_cell list weights h other written shown none e) = absurd (two_splits line.verb other is)
@@ -179,7 +179,7 @@ module _ (call : Call) (known : Known call.source) (line : Line) (m : RobustMode
           → IsCellsAnswer (limit_of line) m cuts ended
       cells_decides ended text means = all (here ended text means)
         where
-          by : SplitCourse call line m ended → IsCellsAnswer (limit_of line) m cuts ended
+          by : SplitOrigin call line m ended → IsCellsAnswer (limit_of line) m cuts ended
           by (breaks_cells rule h e) = absurd (no_break rule cuts h has)
           by (finds_pieces list status v h also written each holds e) =
               answer_is ended (ended_of status) e
@@ -191,9 +191,9 @@ module _ (call : Call) (known : Known call.source) (line : Line) (m : RobustMode
               (moved (λ (cs : List Cut). IsWideIn (limit_of line) (split_model m cs) spot) list h wide)
           by (writes_split list h other e) = absurd (two_splits line.verb is other)
 
-          all : SplitCourse call line m ended ⊎ ((ended ≡ ReadFault) ⊎ (ended ≡ Memory))
+          all : SplitOrigin call line m ended ⊎ ((ended ≡ ReadFault) ⊎ (ended ≡ Memory))
               → IsCellsAnswer (limit_of line) m cuts ended
-          all (inl course) = by course
+          all (inl origin) = by origin
           all (inr (inl e)) = answer_is ended ReadFault e (inl refl)
           all (inr (inr e)) = answer_is ended Memory e (inr (inr refl))
 
@@ -215,7 +215,7 @@ module _ (call : Call) (known : Known call.source) (line : Line) (m : RobustMode
           one other (inr h) =
               absurd (none_first (limit_of line) (split_model m cuts) (judged (split_model m cuts)) spot h.0 first)
 
-          by : SplitCourse call line m ended → ended ≡ TooWide spot
+          by : SplitOrigin call line m ended → ended ≡ TooWide spot
           by (breaks_cells rule h e) = absurd (no_break rule cuts h has)
           by (finds_pieces list status v h also written each holds e) = absurd (unwritten list h written)
           by (shows_empty_cell list weights h also written shown none e) = absurd (unwritten list h written)
@@ -236,7 +236,7 @@ module _ (call : Call) (known : Known call.source) (line : Line) (m : RobustMode
           → IsEmptyCellsAnswer (limit_of line) m cuts ended
       empty_cells_decides not_each ended text means = all (here ended text means)
         where
-          by : SplitCourse call line m ended → IsEmptyCellsAnswer (limit_of line) m cuts ended
+          by : SplitOrigin call line m ended → IsEmptyCellsAnswer (limit_of line) m cuts ended
           by (breaks_cells rule h e) = absurd (no_break rule cuts h has)
           by (finds_pieces list status v h also written each holds e) =
               absurd (not_each (moved (λ (cs : List Cut). EachCellAdmits m cs) list h each))
@@ -249,9 +249,9 @@ module _ (call : Call) (known : Known call.source) (line : Line) (m : RobustMode
               (moved (λ (cs : List Cut). IsWideIn (limit_of line) (split_model m cs) spot) list h wide))
           by (writes_split list h other e) = absurd (two_splits line.verb is other)
 
-          all : SplitCourse call line m ended ⊎ ((ended ≡ ReadFault) ⊎ (ended ≡ Memory))
+          all : SplitOrigin call line m ended ⊎ ((ended ≡ ReadFault) ⊎ (ended ≡ Memory))
               → IsEmptyCellsAnswer (limit_of line) m cuts ended
-          all (inl course) = by course
+          all (inl origin) = by origin
           all (inr (inl e)) = empty_is ended ReadFault e (inl refl)
           all (inr (inr e)) = empty_is ended Memory e (inr (inr refl))
 
@@ -261,7 +261,7 @@ module _ (call : Call) (known : Known call.source) (line : Line) (m : RobustMode
           → (ended ≡ ended_of status) ⊎ ((ended ≡ ReadFault) ⊎ (ended ≡ Memory))
       pieces_decide each narrow status v true_of ended text means = first_of_two by (here ended text means)
         where
-          by : SplitCourse call line m ended → ended ≡ ended_of status
+          by : SplitOrigin call line m ended → ended ≡ ended_of status
           by (breaks_cells rule h e) = absurd (no_break rule cuts h has)
           by (finds_pieces list other w h also written inside holds e) =
               e ∙ ap ended_of (same_piece_status m cuts other status w v

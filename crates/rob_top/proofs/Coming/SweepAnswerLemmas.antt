@@ -8,9 +8,9 @@ use Rattle.rob_model.specs.declared.place.Spot.{Spot}
 use Rattle.rob_reach.specs.Sweeps.{IsBudgetAt, with_budget}
 use Rattle.rob_sweep.specs.Answering.{AreWritten}
 use Rattle.rob_sweep.specs.Stops.{BreaksRule, IsWideAtLimit, KeepsRules}
-use Rattle.rob_top.proofs.Courses.CommandLemmas.{two_verbs}
-use Rattle.rob_top.proofs.Courses.CourseLemmas.{SweepCourse, breaks_rule, prices, wide_limit, writes_limit}
-use Rattle.rob_top.proofs.Coming.TrueAnswerLemmas.{first_of_two, unformed_course}
+use Rattle.rob_top.proofs.Origins.CommandLemmas.{two_verbs}
+use Rattle.rob_top.proofs.Origins.OriginLemmas.{SweepOrigin, breaks_rule, prices, wide_limit, writes_limit}
+use Rattle.rob_top.proofs.Coming.TrueAnswerLemmas.{first_of_two, unformed_origin}
 use Rattle.rob_top.specs.Calls.{Call, Known, limit_of}
 use Rattle.rob_top.specs.Endings.{IsNarrowAt, IsSweepAnswer}
 use Rattle.rob_top.specs.Headline.{Means}
@@ -65,9 +65,9 @@ each_at P (g ∷ before) after here h = each_at P before after here h.1
 
 module _ (call : Call) (known : Known call.source) (line : Line) (m : RobustModel) where
   -- the command sweeps, so that stands behind its answer
-  sweep_course : HasModel call line m → IsSweeping line.verb → (ended : Ended) (text : List ℕ) → Means call ended text
-      → SweepCourse call line m ended ⊎ ((ended ≡ ReadFault) ⊎ (ended ≡ Memory))
-  sweep_course has is = unformed_course call known line m has works.sweeping refl is
+  sweep_origin : HasModel call line m → IsSweeping line.verb → (ended : Ended) (text : List ℕ) → Means call ended text
+      → SweepOrigin call line m ended ⊎ ((ended ≡ ReadFault) ⊎ (ended ≡ Memory))
+  sweep_origin has is = unformed_origin call known line m has works.sweeping refl is
 
   -- ---- `sweep`
   module _ (n : ℕ) (gs : List Fraction) (has : HasSweep call line m n gs) where
@@ -88,9 +88,9 @@ module _ (call : Call) (known : Known call.source) (line : Line) (m : RobustMode
         → (ended : Ended) (text : List ℕ) → Means call ended text
         → (ended ≡ Sweep rule) ⊎ ((ended ≡ ReadFault) ⊎ (ended ≡ Memory))
     sweep_rule_decides rule broken ended text means =
-        first_of_two by (sweep_course has.model sweeps_here ended text means)
+        first_of_two by (sweep_origin has.model sweeps_here ended text means)
       where
-        by : SweepCourse call line m ended → ended ≡ Sweep rule
+        by : SweepOrigin call line m ended → ended ≡ Sweep rule
         by (breaks_rule other h e) = e ∙ ap (λ r. Sweep r) (one_broken m n gs other rule (broken_here other h) broken)
         by (prices k hs other keeps written e) =
             absurd (none_broken m n gs rule broken (moved (λ i xs. KeepsRules m.set_lines i xs) k hs other keeps))
@@ -105,9 +105,9 @@ module _ (call : Call) (known : Known call.source) (line : Line) (m : RobustMode
 
       pub sweep_decides : (ended : Ended) (text : List ℕ) → Means call ended text
           → IsSweepAnswer (limit_of line) m n gs ended
-      sweep_decides ended text means = all (sweep_course has.model sweeps_here ended text means)
+      sweep_decides ended text means = all (sweep_origin has.model sweeps_here ended text means)
         where
-          by : SweepCourse call line m ended → IsSweepAnswer (limit_of line) m n gs ended
+          by : SweepOrigin call line m ended → IsSweepAnswer (limit_of line) m n gs ended
           by (breaks_rule other h e) = absurd (none_broken m n gs other (broken_here other h) keeps)
           by (prices k hs other kept written e) =
               answer_is ended Printed e (moved (λ i xs. AreWritten (limit_of line) m i xs) k hs other written)
@@ -116,9 +116,9 @@ module _ (call : Call) (known : Known call.source) (line : Line) (m : RobustMode
               (moved (λ i xs. IsWideAtLimit (limit_of line) m i xs number spot) k hs other wide)
           by (writes_limit k g other budget e) = absurd (two_sweeps line.verb has.is_sweep other.is_text)
 
-          all : SweepCourse call line m ended ⊎ ((ended ≡ ReadFault) ⊎ (ended ≡ Memory))
+          all : SweepOrigin call line m ended ⊎ ((ended ≡ ReadFault) ⊎ (ended ≡ Memory))
               → IsSweepAnswer (limit_of line) m n gs ended
-          all (inl course) = by course
+          all (inl origin) = by origin
           all (inr (inl e)) = answer_is ended ReadFault e (inl refl)
           all (inr (inr e)) = answer_is ended Memory e (inr (inr refl))
 
@@ -133,9 +133,9 @@ module _ (call : Call) (known : Known call.source) (line : Line) (m : RobustMode
           → (ended : Ended) (text : List ℕ) → Means call ended text
           → (ended ≡ Printed) ⊎ ((ended ≡ ReadFault) ⊎ (ended ≡ Memory))
       narrow_sweep_decides narrow ended text means =
-          first_of_two by (sweep_course has.model sweeps_here ended text means)
+          first_of_two by (sweep_origin has.model sweeps_here ended text means)
         where
-          by : SweepCourse call line m ended → ended ≡ Printed
+          by : SweepOrigin call line m ended → ended ≡ Printed
           by (breaks_rule other h e) = absurd (none_broken m n gs other (broken_here other h) keeps)
           by (prices k hs other kept written e) = e
           by (wide_limit k hs number spot other kept wide e) =
@@ -158,9 +158,9 @@ module _ (call : Call) (known : Known call.source) (line : Line) (m : RobustMode
 
     pub limit_rule_decides : (IsBudgetAt m.set_lines n → ⊥) → (ended : Ended) (text : List ℕ) → Means call ended text
         → (ended ≡ Sweep 81) ⊎ ((ended ≡ ReadFault) ⊎ (ended ≡ Memory))
-    limit_rule_decides none ended text means = first_of_two by (sweep_course has.model writes_here ended text means)
+    limit_rule_decides none ended text means = first_of_two by (sweep_origin has.model writes_here ended text means)
       where
-        by : SweepCourse call line m ended → ended ≡ Sweep 81
+        by : SweepOrigin call line m ended → ended ≡ Sweep 81
         by (breaks_rule other (at_limits k hs it breaks) e) = absurd (no_sweep_here k hs it)
         by (breaks_rule other (at_limit k h it other_none is) e) = e ∙ ap (λ r. Sweep r) is
         by (prices k hs other keeps written e) = absurd (no_sweep_here k hs other)
@@ -169,9 +169,9 @@ module _ (call : Call) (known : Known call.source) (line : Line) (m : RobustMode
 
     pub limit_decides : IsBudgetAt m.set_lines n → (ended : Ended) (text : List ℕ) → Means call ended text
         → (ended ≡ Printed) ⊎ ((ended ≡ ReadFault) ⊎ (ended ≡ Memory))
-    limit_decides budget ended text means = first_of_two by (sweep_course has.model writes_here ended text means)
+    limit_decides budget ended text means = first_of_two by (sweep_origin has.model writes_here ended text means)
       where
-        by : SweepCourse call line m ended → ended ≡ Printed
+        by : SweepOrigin call line m ended → ended ≡ Printed
         by (breaks_rule other (at_limits k hs it breaks) e) = absurd (no_sweep_here k hs it)
         by (breaks_rule other (at_limit k h it other_none is) e) =
             absurd (other_none

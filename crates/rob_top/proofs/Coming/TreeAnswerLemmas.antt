@@ -13,12 +13,12 @@ use Rattle.rob_tree.specs.TreeText.{IsTextOfTree}
 use Rattle.rob_tree.specs.Shape.{HasTreeShape}
 use Rattle.rob_top.proofs.Meaning.BranchingLemmas.{kept_bounds}
 use Rattle.rob_top.proofs.Telling.NamingLemmas.{breaking_verb}
-use Rattle.rob_top.proofs.Courses.ReadOnceLemmas.{well, named, in_words, most}
-use Rattle.rob_top.proofs.Courses.StageLemmas.{file_once}
+use Rattle.rob_top.proofs.Origins.ReadOnceLemmas.{well, named, in_words, most}
+use Rattle.rob_top.proofs.Origins.ProgressLemmas.{file_once}
 use Rattle.rob_top.proofs.Meaning.TreeCheckLemmas.{rejected_not}
-use Rattle.rob_top.proofs.Courses.TreeCourseLemmas.{TreeCourse, breaks_names, breaks_text, judges_tree}
+use Rattle.rob_top.proofs.Origins.TreeOriginLemmas.{TreeOrigin, breaks_names, breaks_text, judges_tree}
 use Rattle.rob_top.proofs.Coming.ComingLemmas.{Comes, comes_ends}
-use Rattle.rob_top.proofs.Coming.TrueAnswerLemmas.{first_of_two, unformed_course}
+use Rattle.rob_top.proofs.Coming.TrueAnswerLemmas.{first_of_two, unformed_origin}
 use Rattle.rob_top.proofs.Coming.WholeAnswerLemmas.{branching_decides, model_of, no_break, one_rule, whole_once}
 use Rattle.rob_top.specs.Branched.{BreaksWhole}
 use Rattle.rob_top.specs.Calls.{Call, Known, limit_of}
@@ -37,18 +37,18 @@ use Rattle.rob_words.specs.declared.verb.Verb.TheVariants.{CheckTree}
 
 module _ (call : Call) (known : Known call.source) (line : Line) (m : RobustModel) where
   -- the command checks a tree, so that stands behind its answer
-  tree_course : HasModel call line m → line.verb ≡ CheckTree → (ended : Ended) (text : List ℕ) → Means call ended text
-      → TreeCourse call line m ended ⊎ ((ended ≡ ReadFault) ⊎ (ended ≡ Memory))
-  tree_course has is = unformed_course call known line m has works.tree_checking refl (ap work_of is)
+  tree_origin : HasModel call line m → line.verb ≡ CheckTree → (ended : Ended) (text : List ℕ) → Means call ended text
+      → TreeOrigin call line m ended ⊎ ((ended ≡ ReadFault) ⊎ (ended ≡ Memory))
+  tree_origin has is = unformed_origin call known line m has works.tree_checking refl (ap work_of is)
 
   -- ---- a broken rule of the named variables
   tree_rule_decides : (rule : ℕ) → line.verb ≡ CheckTree → BreaksWhole call line m rule
       → (ended : Ended) (text : List ℕ)
       → Means call ended text → (ended ≡ Whole rule) ⊎ ((ended ≡ ReadFault) ⊎ (ended ≡ Memory))
   tree_rule_decides rule is broken ended text means =
-      first_of_two by (tree_course (model_of call known line m rule broken) is ended text means)
+      first_of_two by (tree_origin (model_of call known line m rule broken) is ended text means)
     where
-      by : TreeCourse call line m ended → ended ≡ Whole rule
+      by : TreeOrigin call line m ended → ended ≡ Whole rule
       by (breaks_names other h e) = e ∙ ap (λ r. Whole r) (one_rule call known line m other rule h broken)
       by (breaks_text names bytes other number h breach e) =
           absurd (no_break call known line m rule names broken h.variables)
@@ -124,9 +124,9 @@ module _ (call : Call) (known : Known call.source) (line : Line) (m : RobustMode
         → (ended : Ended) (text : List ℕ)
         → Means call ended text → (ended ≡ TreeRule rule number) ⊎ ((ended ≡ ReadFault) ⊎ (ended ≡ Memory))
     tree_broken_decides rule number broken ended text means =
-        first_of_two by (tree_course has_model file.is_checktree ended text means)
+        first_of_two by (tree_origin has_model file.is_checktree ended text means)
       where
-        by : TreeCourse call line m ended → ended ≡ TreeRule rule number
+        by : TreeOrigin call line m ended → ended ≡ TreeRule rule number
         by (breaks_names other h e) = absurd (no_break call known line m other names h file.variables)
         by (breaks_text others more r n h breach e) =
             let one = one_breach r n rule number (breach_here others more r n h breach) broken in
@@ -135,9 +135,9 @@ module _ (call : Call) (known : Known call.source) (line : Line) (m : RobustMode
 
     pub tree_verdict_decides : (t : Tree) → IsTextOfTree (limit_of line) m names t bytes → TreeFits (limit_of line) m t
         → (ended : Ended) (text : List ℕ) → Means call ended text → IsTreeAnswer (limit_of line) m names t ended
-    tree_verdict_decides t is fits ended text means = all (tree_course has_model file.is_checktree ended text means)
+    tree_verdict_decides t is fits ended text means = all (tree_origin has_model file.is_checktree ended text means)
       where
-        by : TreeCourse call line m ended → IsTreeAnswer (limit_of line) m names t ended
+        by : TreeOrigin call line m ended → IsTreeAnswer (limit_of line) m names t ended
         by (breaks_names other h e) = absurd (no_break call known line m other names h file.variables)
         by (breaks_text others more r n h breach e) =
             absurd (no_breach t r n is fits (breach_here others more r n h breach))
@@ -147,9 +147,9 @@ module _ (call : Call) (known : Known call.source) (line : Line) (m : RobustMode
             (subst (λ (x : Tree). IsTreeAnswer (limit_of line) m others x ended)
             (one_tree u t (text_here others u h) is h.fits fits) answer)
 
-        all : TreeCourse call line m ended ⊎ ((ended ≡ ReadFault) ⊎ (ended ≡ Memory))
+        all : TreeOrigin call line m ended ⊎ ((ended ≡ ReadFault) ⊎ (ended ≡ Memory))
             → IsTreeAnswer (limit_of line) m names t ended
-        all (inl course) = by course
+        all (inl origin) = by origin
         all (inr (inl e)) = inr (inr (inr (inl e)))
         all (inr (inr e)) = inr (inr (inr (inr (inr e))))
 

@@ -19,10 +19,10 @@ use Rattle.rob_tree.specs.View.{branch_of}
 use Rattle.rob_tree.specs.declared.tree.Branch as declared
 use Rattle.rob_top.proofs.Meaning.BeforeLemmas.{before_it}
 use Rattle.rob_top.proofs.Meaning.BranchingLemmas.{kept_bounds}
-use Rattle.rob_top.proofs.Courses.CourseLemmas.{WholeCourse, breaks, grows, inside_admitted, shows_none, wide_box}
+use Rattle.rob_top.proofs.Origins.OriginLemmas.{WholeOrigin, breaks, grows, inside_admitted, shows_none, wide_box}
 use Rattle.rob_top.proofs.Telling.NumberingLemmas.{one_numbering}
-use Rattle.rob_top.proofs.Courses.ReadOnceLemmas.{named, well}
-use Rattle.rob_top.proofs.Coming.TrueAnswerLemmas.{first_of_two, unformed_course}
+use Rattle.rob_top.proofs.Origins.ReadOnceLemmas.{named, well}
+use Rattle.rob_top.proofs.Coming.TrueAnswerLemmas.{first_of_two, unformed_origin}
 use Rattle.rob_top.specs.Branched.{BreaksWhole, no_ranges, no_variables}
 use Rattle.rob_top.specs.Calls.{Call, Known, limit_of}
 use Rattle.rob_top.specs.Commands as works
@@ -104,10 +104,10 @@ module _ (call : Call) (known : Known call.source) (line : Line) (m : RobustMode
       sym e ∙ ap (λ (ns : List ℕ). whole_rule m ns) (variables_once other numbers k h.named) ∙ h.keeps in cc
 
   -- the command grows a tree, so that stands behind its answer
-  pub whole_course : HasModel call line m → IsBranching line.verb
+  pub whole_origin : HasModel call line m → IsBranching line.verb
       → (ended : Ended) (text : List ℕ) → Means call ended text
-      → WholeCourse call line m ended ⊎ ((ended ≡ ReadFault) ⊎ (ended ≡ Memory))
-  whole_course has is = unformed_course call known line m has works.branching refl is
+      → WholeOrigin call line m ended ⊎ ((ended ≡ ReadFault) ⊎ (ended ≡ Memory))
+  whole_origin has is = unformed_origin call known line m has works.branching refl is
 
   pub model_of : (rule : ℕ) → BreaksWhole call line m rule → HasModel call line m
   model_of rule (no_variables names has told none e) = has
@@ -118,9 +118,9 @@ module _ (call : Call) (known : Known call.source) (line : Line) (m : RobustMode
       → (ended : Ended) (text : List ℕ)
       → Means call ended text → (ended ≡ Whole rule) ⊎ ((ended ≡ ReadFault) ⊎ (ended ≡ Memory))
   branching_decides rule is broken ended text means =
-      first_of_two by (whole_course (model_of rule broken) is ended text means)
+      first_of_two by (whole_origin (model_of rule broken) is ended text means)
     where
-      by : WholeCourse call line m ended → ended ≡ Whole rule
+      by : WholeOrigin call line m ended → ended ≡ Whole rule
       by (breaks other h e) = e ∙ ap (λ r. Whole r) (one_rule other rule h broken)
       by (grows names status v u has written admitted holds e) = absurd (no_break rule names broken has)
       by (shows_none names weights has written shown e) = absurd (no_break rule names broken has)
@@ -140,9 +140,9 @@ module _ (call : Call) (known : Known call.source) (line : Line) (m : RobustMode
 
     pub whole_decides : (ended : Ended) (text : List ℕ) → Means call ended text
         → IsWholeAnswer (limit_of line) m names ended
-    whole_decides ended text means = all (whole_course has.named.model is ended text means)
+    whole_decides ended text means = all (whole_origin has.named.model is ended text means)
       where
-        by : WholeCourse call line m ended → IsWholeAnswer (limit_of line) m names ended
+        by : WholeOrigin call line m ended → IsWholeAnswer (limit_of line) m names ended
         by (breaks rule h e) = absurd (no_break rule names h has)
         by (grows others status v u other written admitted holds e) =
             answer_is ended (ended_of status) e
@@ -155,9 +155,9 @@ module _ (call : Call) (known : Known call.source) (line : Line) (m : RobustMode
               wide,
             )
 
-        all : WholeCourse call line m ended ⊎ ((ended ≡ ReadFault) ⊎ (ended ≡ Memory))
+        all : WholeOrigin call line m ended ⊎ ((ended ≡ ReadFault) ⊎ (ended ≡ Memory))
             → IsWholeAnswer (limit_of line) m names ended
-        all (inl course) = by course
+        all (inl origin) = by origin
         all (inr (inl e)) = answer_is ended ReadFault e (inl refl)
         all (inr (inr e)) = answer_is ended Memory e (inr (inr refl))
 
@@ -165,7 +165,7 @@ module _ (call : Call) (known : Known call.source) (line : Line) (m : RobustMode
     pub whole_wide_decides : (spot : Spot) → IsFirstWide (limit_of line) m (judged m) spot
         → (ended : Ended) (text : List ℕ)
         → Means call ended text → (ended ≡ WideNode [] spot) ⊎ ((ended ≡ ReadFault) ⊎ (ended ≡ Memory))
-    whole_wide_decides spot first ended text means = first_of_two by (whole_course has.named.model is ended text means)
+    whole_wide_decides spot first ended text means = first_of_two by (whole_origin has.named.model is ended text means)
       where
         unwritten : IsWritten (limit_of line) m → ⊥
         unwritten written = none_first (limit_of line) m (judged m) spot written first
@@ -177,7 +177,7 @@ module _ (call : Call) (known : Known call.source) (line : Line) (m : RobustMode
         at_root [] other written (inr h) = absurd (unwritten h.0)
         at_root (b ∷ path) other written wide = absurd (unwritten written.0)
 
-        by : WholeCourse call line m ended → ended ≡ WideNode [] spot
+        by : WholeOrigin call line m ended → ended ≡ WideNode [] spot
         by (breaks rule h e) = absurd (no_break rule names h has)
         by (grows others status v u other written admitted holds e) = absurd (unwritten written)
         by (shows_none others weights other written shown e) = absurd (unwritten written)
@@ -198,18 +198,18 @@ module _ (call : Call) (known : Known call.source) (line : Line) (m : RobustMode
 
     pub whole_empty_decides : IsEmptySet m → (ended : Ended) (text : List ℕ) → Means call ended text
         → IsEmptyWholeAnswer (limit_of line) m ended
-    whole_empty_decides none ended text means = all (whole_course has.named.model is ended text means)
+    whole_empty_decides none ended text means = all (whole_origin has.named.model is ended text means)
       where
-        by : WholeCourse call line m ended → IsEmptyWholeAnswer (limit_of line) m ended
+        by : WholeOrigin call line m ended → IsEmptyWholeAnswer (limit_of line) m ended
         by (breaks rule h e) = absurd (no_break rule names h has)
         by (grows others status v u other written admitted holds e) = absurd (none u admitted)
         by (shows_none others weights other written shown e) = empty_is ended (EmptySet weights) e shown
         by (wide_box others path spot other written comes wide e) =
             empty_is ended (WideNode path spot) e (empty_box none others path spot comes wide)
 
-        all : WholeCourse call line m ended ⊎ ((ended ≡ ReadFault) ⊎ (ended ≡ Memory))
+        all : WholeOrigin call line m ended ⊎ ((ended ≡ ReadFault) ⊎ (ended ≡ Memory))
             → IsEmptyWholeAnswer (limit_of line) m ended
-        all (inl course) = by course
+        all (inl origin) = by origin
         all (inr (inl e)) = empty_is ended ReadFault e (inl refl)
         all (inr (inr e)) = empty_is ended Memory e (inr (inr refl))
 
@@ -219,9 +219,9 @@ module _ (call : Call) (known : Known call.source) (line : Line) (m : RobustMode
         → (ended : Ended) (text : List ℕ) → Means call ended text
         → (ended ≡ ended_of status) ⊎ ((ended ≡ ReadFault) ⊎ (ended ≡ Memory))
     whole_status_decides u admitted narrow status v true_of ended text means =
-        first_of_two by (whole_course has.named.model is ended text means)
+        first_of_two by (whole_origin has.named.model is ended text means)
       where
-        by : WholeCourse call line m ended → ended ≡ ended_of status
+        by : WholeOrigin call line m ended → ended ≡ ended_of status
         by (breaks rule h e) = absurd (no_break rule names h has)
         by (grows others other w inner same written inside holds e) =
             e ∙ ap ended_of (same_whole_status m names other status w v

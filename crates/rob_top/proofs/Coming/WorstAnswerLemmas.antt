@@ -18,8 +18,8 @@ use Rattle.rob_meaning.proofs.Naming.NamedFormLemmas.{distinct_forms}
 use Rattle.rob_model.specs.declared.place.Program.TheVariants as programs
 use Rattle.rob_model.specs.declared.place.Spot.{Spot}
 use Rattle.rob_model.specs.declared.place.Spot.TheVariants as spots
-use Rattle.rob_top.proofs.Courses.CourseLemmas.{WorstCourse, admits_none, names_none, plans_none, shows_worst, wide_search}
-use Rattle.rob_top.proofs.Courses.ReadOnceLemmas.{well, named, one_certificate, some_plan, one_lack}
+use Rattle.rob_top.proofs.Origins.OriginLemmas.{WorstOrigin, admits_none, names_none, plans_none, shows_worst, wide_search}
+use Rattle.rob_top.proofs.Origins.ReadOnceLemmas.{well, named, one_certificate, some_plan, one_lack}
 use Rattle.rob_runs.proofs.Searching.FoundLemmas.{found_worst}
 use Rattle.rob_runs.proofs.Proving.RunCertificates.{length-vector}
 use Rattle.rob_runs.specs.Spots.{IsWideSlack}
@@ -27,7 +27,7 @@ use Rattle.rob_top.proofs.Meaning.SearchStops.{plan_length}
 use Rattle.rob_top.proofs.Meaning.SearchingLemmas.{form_matrix}
 use Rattle.rob_commands.proofs.PlanLemmas.{proved_bound}
 use Rattle.rob_top.proofs.Meaning.SoughtLemmas.{forms_sought, forms_unnamed, forms_unplanned, lacking_verb}
-use Rattle.rob_top.proofs.Coming.TrueAnswerLemmas.{first_of_two, formed_course}
+use Rattle.rob_top.proofs.Coming.TrueAnswerLemmas.{first_of_two, formed_origin}
 use Rattle.rob_top.proofs.Meaning.WorstSlackLemmas.{endless_slack}
 use Rattle.rob_top.specs.Calls.{Call, Known, limit_of}
 use Rattle.rob_top.specs.Commands as works
@@ -80,19 +80,19 @@ module _ (call : Call) (known : Known call.source) (line : Line) (m : RobustMode
   names_one c d form name h k = k.none form h.is_form (one_name line (name_at (form_names m) form) name h.told k.told)
 
   -- the command is `worst`, so that stands behind its answer
-  worst_course : HasForms call line m → line.verb ≡ Worst → (ended : Ended) (text : List ℕ) → Means call ended text
-      → WorstCourse call line m ended ⊎ ((ended ≡ ReadFault) ⊎ (ended ≡ Memory))
-  worst_course has here = formed_course call known line m has works.searching (ap work_of here)
+  worst_origin : HasForms call line m → line.verb ≡ Worst → (ended : Ended) (text : List ℕ) → Means call ended text
+      → WorstOrigin call line m ended ⊎ ((ended ≡ ReadFault) ⊎ (ended ≡ Memory))
+  worst_origin has here = formed_origin call known line m has works.searching (ap work_of here)
 
   pub unplanned_decides : (rule number : ℕ) → LacksPlan call verbs.Worst line m rule number
       → (ended : Ended) (text : List ℕ)
       → Means call ended text → (ended ≡ Cert rule number) ⊎ ((ended ≡ ReadFault) ⊎ (ended ≡ Memory))
   unplanned_decides rule number has ended text means =
       first_of_two by
-      (worst_course (forms_unplanned call line m rule number has)
+      (worst_origin (forms_unplanned call line m rule number has)
       (lacking_verb call line m verbs.Worst rule number has) ended text means)
     where
-      by : WorstCourse call line m ended → ended ≡ Cert rule number
+      by : WorstOrigin call line m ended → ended ≡ Cert rule number
       by (plans_none r n h e) =
           let one = one_lack call known line m verbs.Worst rule number r n has h in
           e ∙ ap (λ k. Cert k n) one.0 ∙ ap (λ k. Cert rule k) one.1
@@ -107,9 +107,9 @@ module _ (call : Call) (known : Known call.source) (line : Line) (m : RobustMode
       → Means call ended text → (ended ≡ NoRow) ⊎ ((ended ≡ ReadFault) ⊎ (ended ≡ Memory))
   unnamed_decides c name has ended text means =
       first_of_two by
-      (worst_course (forms_unnamed call line m c name has) has.plan.certificate.file.is_verb ended text means)
+      (worst_origin (forms_unnamed call line m c name has) has.plan.certificate.file.is_verb ended text means)
     where
-      by : WorstCourse call line m ended → ended ≡ NoRow
+      by : WorstOrigin call line m ended → ended ≡ NoRow
       by (plans_none r n h e) = absurd (some_plan call known line m verbs.Worst r n c h has.plan)
       by (names_none d other h e) = e
       by (shows_worst d form text h shows e) = absurd (names_one d c form name h has)
@@ -120,9 +120,9 @@ module _ (call : Call) (known : Known call.source) (line : Line) (m : RobustMode
     abbrev z : List Fraction
     z = certificate_vector c
 
-    course_sought : (ended : Ended) (text : List ℕ) → Means call ended text
-        → WorstCourse call line m ended ⊎ ((ended ≡ ReadFault) ⊎ (ended ≡ Memory))
-    course_sought = worst_course (forms_sought call line m c form has) has.plan.certificate.file.is_verb
+    origin_sought : (ended : Ended) (text : List ℕ) → Means call ended text
+        → WorstOrigin call line m ended ⊎ ((ended ≡ ReadFault) ⊎ (ended ≡ Memory))
+    origin_sought = worst_origin (forms_sought call line m c form has) has.plan.certificate.file.is_verb
 
     -- a number that is wide in one search is so in the other
     same_wide : (d : Certificate) (other : ℕ) (spot : Spot) → HasSought call line m d other
@@ -139,9 +139,9 @@ module _ (call : Call) (known : Known call.source) (line : Line) (m : RobustMode
 
     pub worst_decides : (ended : Ended) (text : List ℕ) → Means call ended text
         → IsWorstAnswer (limit_of line) m form z ended
-    worst_decides ended text means = all (course_sought ended text means)
+    worst_decides ended text means = all (origin_sought ended text means)
       where
-        by : WorstCourse call line m ended → IsWorstAnswer (limit_of line) m form z ended
+        by : WorstOrigin call line m ended → IsWorstAnswer (limit_of line) m form z ended
         by (plans_none r n h e) = absurd (some_plan call known line m verbs.Worst r n c h has.plan)
         by (names_none d name h e) = absurd (names_one c d form name has h)
         by (shows_worst d other text h shows e) =
@@ -149,9 +149,9 @@ module _ (call : Call) (known : Known call.source) (line : Line) (m : RobustMode
         by (admits_none d other weights h shown e) = answer_is ended (EmptySet weights) e shown.empty
         by (wide_search d other spot h wide e) = answer_is ended (TooWide spot) e (same_wide d other spot h wide)
 
-        all : WorstCourse call line m ended ⊎ ((ended ≡ ReadFault) ⊎ (ended ≡ Memory))
+        all : WorstOrigin call line m ended ⊎ ((ended ≡ ReadFault) ⊎ (ended ≡ Memory))
             → IsWorstAnswer (limit_of line) m form z ended
-        all (inl course) = by course
+        all (inl origin) = by origin
         all (inr (inl e)) = answer_is ended ReadFault e (inl refl)
         all (inr (inr e)) = answer_is ended Memory e (inr (inr refl))
 
@@ -181,9 +181,9 @@ module _ (call : Call) (known : Known call.source) (line : Line) (m : RobustMode
 
     pub worst_empty_decides : IsEmptySet m → (ended : Ended) (text : List ℕ) → Means call ended text
         → IsEmptyAnswer (limit_of line) m ended
-    worst_empty_decides none ended text means = all (course_sought ended text means)
+    worst_empty_decides none ended text means = all (origin_sought ended text means)
       where
-        by : WorstCourse call line m ended → IsEmptyAnswer (limit_of line) m ended
+        by : WorstOrigin call line m ended → IsEmptyAnswer (limit_of line) m ended
         by (plans_none r n h e) = absurd (some_plan call known line m verbs.Worst r n c h has.plan)
         by (names_none d name h e) = absurd (names_one c d form name has h)
         by (shows_worst d other text h shows e) =
@@ -192,9 +192,9 @@ module _ (call : Call) (known : Known call.source) (line : Line) (m : RobustMode
         by (admits_none d other weights h shown e) = empty_is ended (EmptySet weights) e shown
         by (wide_search d other spot h wide e) = empty_is ended (TooWide spot) e (before_search none d other spot wide)
 
-        all : WorstCourse call line m ended ⊎ ((ended ≡ ReadFault) ⊎ (ended ≡ Memory))
+        all : WorstOrigin call line m ended ⊎ ((ended ≡ ReadFault) ⊎ (ended ≡ Memory))
             → IsEmptyAnswer (limit_of line) m ended
-        all (inl course) = by course
+        all (inl origin) = by origin
         all (inr (inl e)) = empty_is ended ReadFault e (inl refl)
         all (inr (inr e)) = empty_is ended Memory e (inr (inr refl))
 
@@ -203,9 +203,9 @@ module _ (call : Call) (known : Known call.source) (line : Line) (m : RobustMode
         → ((spot : Spot) → IsWideSought (limit_of line) m form z spot → ⊥)
         → (ended : Ended) (text : List ℕ) → Means call ended text
         → (ended ≡ Printed) ⊎ ((ended ≡ ReadFault) ⊎ (ended ≡ Memory))
-    worst_printed_decides u admitted narrow ended text means = first_of_two by (course_sought ended text means)
+    worst_printed_decides u admitted narrow ended text means = first_of_two by (origin_sought ended text means)
       where
-        by : WorstCourse call line m ended → ended ≡ Printed
+        by : WorstOrigin call line m ended → ended ≡ Printed
         by (plans_none r n h e) = absurd (some_plan call known line m verbs.Worst r n c h has.plan)
         by (names_none d name h e) = absurd (names_one c d form name has h)
         by (shows_worst d other text h shows e) = e
@@ -229,7 +229,7 @@ module _ (call : Call) (known : Known call.source) (line : Line) (m : RobustMode
     pub worst_slack_decides : IsWideSlack (limit_of line) m form z
         → (ended : Ended) (text : List ℕ) → Means call ended text
         → NamesWideSought (limit_of line) m form z ended
-    worst_slack_decides wide ended text means = all (course_sought ended text means)
+    worst_slack_decides wide ended text means = all (origin_sought ended text means)
       where
         -- so it isn't shown
         none_shown : (d : Certificate) (other : ℕ) (shown : List ℕ) → HasSought call line m d other
@@ -241,7 +241,7 @@ module _ (call : Call) (known : Known call.source) (line : Line) (m : RobustMode
             (subst (λ i. ShowsWorst (limit_of line) m i (certificate_vector d) shown)
             (same_form d c other form h has) shows)) wide
 
-        by : WorstCourse call line m ended → NamesWideSought (limit_of line) m form z ended
+        by : WorstOrigin call line m ended → NamesWideSought (limit_of line) m form z ended
         by (plans_none r n h e) = absurd (some_plan call known line m verbs.Worst r n c h has.plan)
         by (names_none d name h e) = absurd (names_one c d form name has h)
         by (shows_worst d other shown h shows e) = absurd (none_shown d other shown h shows)
@@ -251,9 +251,9 @@ module _ (call : Call) (known : Known call.source) (line : Line) (m : RobustMode
         by (wide_search d other spot h also e) =
             named_wide ended (TooWide spot) e (inl (spot, same_wide d other spot h also, refl))
 
-        all : WorstCourse call line m ended ⊎ ((ended ≡ ReadFault) ⊎ (ended ≡ Memory))
+        all : WorstOrigin call line m ended ⊎ ((ended ≡ ReadFault) ⊎ (ended ≡ Memory))
             → NamesWideSought (limit_of line) m form z ended
-        all (inl course) = by course
+        all (inl origin) = by origin
         all (inr (inl e)) = named_wide ended ReadFault e (inr (inl refl))
         all (inr (inr e)) = named_wide ended Memory e (inr (inr (inr refl)))
 

@@ -2,7 +2,7 @@
 use Rattle.std.proofs.Common.{◌≡◌, ◌||◌, ℕ, Bool, true, false, not, refl, sym, ◌∙◌, ap, subst, arith, List, [], ◌∷◌, length, Option, Some, None, Vec, Global, rules, inl, inr, ◌⊎◌}
 use Rattle.std.specs.Prelude.{if◌then◌else◌, option_map}
 use denote.Enum.Bare.{same_true, sameb}
-use Rattle.rob_top.proofs.Courses.CommandLemmas.{is_branching_work}
+use Rattle.rob_top.proofs.Origins.CommandLemmas.{is_branching_work}
 use Rattle.rob_top.specs.Calls.{Call, limit_of}
 use Rattle.rob_top.specs.Commands.{IsBranching, IsOnModel, Work, reads_model, work_of}
 use Rattle.rob_top.specs.Files.{HasFile, Request, file_of, files_of, first_or, later, most_of, request_of, requests, word_of}

@@ -14,7 +14,7 @@ use Rattle.rob_meaning.specs.RobustModel.{RobustModel}
 use Rattle.rob_meaning.specs.WellFormed.{IsModel}
 use Rattle.rob_model.specs.declared.place.Spot.{Spot}
 use Rattle.rob_number.specs.declared.memory.Memory.{Memory as Want}
-use Rattle.rob_top.proofs.Courses.StageLemmas.{same_status}
+use Rattle.rob_top.proofs.Origins.ProgressLemmas.{same_status}
 use Rattle.rob_top.specs.Calls.{Call, Count, WasRaised, limit_of}
 use Rattle.rob_top.specs.Compared.{AsksFor, TellsEither, TellsStatus, TellsWide, a_spot, a_status, by_counterpart, by_cutting, heading, status_line, wide_line}
 use Rattle.rob_top.specs.ComparedWork.{AnswersNumber, RoseAtSpot, RepliesCompared, IsLineOf, first_ended}

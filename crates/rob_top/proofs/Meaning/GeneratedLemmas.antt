@@ -1,9 +1,9 @@
 -- The answers of `text` and `gen`: what comes, and that no other may come.
 use Rattle.std.proofs.Common.{◌≡◌, ℕ, List, Result, Ok, Err, IfOk, false, ap, inl, inr, ◌⊎◌, sym, subst}
 use Rattle.rob_number.specs.declared.memory.Memory.{Memory as Want}
-use Rattle.rob_top.proofs.Courses.CommandLemmas.{two_verbs}
-use Rattle.rob_top.proofs.Courses.NumberCourseLemmas.{NumberCourse, compares, number_course_at, writes_model}
-use Rattle.rob_top.proofs.Courses.StageLemmas.{Stage, absent, answers_number, broken, failed, number_here, number_names_none, number_none_absent, over, read, stage_of, wanting, wordless}
+use Rattle.rob_top.proofs.Origins.CommandLemmas.{two_verbs}
+use Rattle.rob_top.proofs.Origins.NumberOriginLemmas.{NumberOrigin, compares, number_origin_at, writes_model}
+use Rattle.rob_top.proofs.Origins.ProgressLemmas.{Progress, absent, answers_number, broken, failed, number_here, number_names_none, number_none_absent, over, read, progress_of, wanting, wordless}
 use Rattle.rob_top.specs.Calls.{Call, Count, Known}
 use Rattle.rob_top.specs.Commands.{reads_model}
 use Rattle.rob_top.specs.ComparedWork.{AnswersNumber}
@@ -36,19 +36,19 @@ generated_answers line wides (Ok reply) is h = λ call spelled wides_is.
 -- ---- no other may come
 module _ (call : Call) (known : Known call.source) (line : Line) (spelled : IsSpelled call.words line) where
   pub number_decides : reads_model line.verb ≡ false → (ended : Ended) (text : List ℕ) → Means call ended text
-      → NumberCourse call line ended ⊎ (ended ≡ Memory)
-  number_decides none ended text means = by (stage_of call ended text means)
+      → NumberOrigin call line ended ⊎ (ended ≡ Memory)
+  number_decides none ended text means = by (progress_of call ended text means)
     where
-      by : Stage call ended → NumberCourse call line ended ⊎ (ended ≡ Memory)
+      by : Progress call ended → NumberOrigin call line ended ⊎ (ended ≡ Memory)
       by (wordless unspelled) = absurd (unspelled (line, spelled))
       by (absent name h e) =
           absurd (number_none_absent call known h.line h.spelled line spelled none h.before h.request h.behind h.order)
       by (over name h e) =
           absurd (number_none_absent call known h.line h.spelled line spelled none h.before h.request h.behind h.order)
       by (broken rule number t h e) = absurd (number_here call known h.line h.spelled line spelled none h.bytes h.file)
-      by (read l m h course) = absurd (number_here call known l h.spelled line spelled none h.bytes h.file)
-      by (answers_number l sp reads_none course) =
-          inl (number_course_at call l line ended (one_line call.words l line sp spelled) course)
+      by (read l m h origin) = absurd (number_here call known l h.spelled line spelled none h.bytes h.file)
+      by (answers_number l sp reads_none origin) =
+          inl (number_origin_at call l line ended (one_line call.words l line sp spelled) origin)
       by (failed names e) = absurd (number_names_none call known line spelled line spelled none names)
       by (wanting e) = inr e
 
@@ -56,7 +56,7 @@ module _ (call : Call) (known : Known call.source) (line : Line) (spelled : IsSp
       → (ended ≡ Printed) ⊎ (ended ≡ Memory)
   generated_decides is_text ended text means = by (number_decides (ap reads_model is_text) ended text means)
     where
-      by : NumberCourse call line ended ⊎ (ended ≡ Memory) → (ended ≡ Printed) ⊎ (ended ≡ Memory)
+      by : NumberOrigin call line ended ⊎ (ended ≡ Memory) → (ended ≡ Printed) ⊎ (ended ≡ Memory)
       by (inl (writes_model is e)) = inl e
       by (inl (compares number asks answer)) = absurd (two_verbs Text Gen line.verb (λ e. cc) is_text asks.is_gen)
       by (inr e) = inr e

@@ -25,8 +25,8 @@ use Rattle.rob_pieces.specs.Cuts.{AreCuts, Cut, cell_count}
 use Rattle.rob_pieces.specs.SplitModel.{split_model}
 use Rattle.rob_report.specs.Report.{report_of}
 use Rattle.rob_commands.proofs.BoxPathLemmas.{spot_in}
-use Rattle.rob_top.proofs.Courses.CommandLemmas.{is_splitting_work}
-use Rattle.rob_top.proofs.Courses.CourseLemmas.{inside_admitted}
+use Rattle.rob_top.proofs.Origins.CommandLemmas.{is_splitting_work}
+use Rattle.rob_top.proofs.Origins.OriginLemmas.{inside_admitted}
 use Rattle.rob_top.proofs.Fetching.OwnLemmas.{has_kind, own_of_kind, own_told, second_of}
 use Rattle.rob_top.proofs.Meaning.RouteLemmas.{no_rounds}
 use Rattle.rob_commands.proofs.PlanLemmas.{proved_bound}

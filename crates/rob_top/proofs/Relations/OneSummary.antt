@@ -8,7 +8,7 @@ use Rattle.rob_meaning.specs.Proves.{HasStatus}
 use Rattle.rob_meaning.specs.RobustModel.{RobustModel}
 use Rattle.rob_top.proofs.Coming.ComparedAnswerLemmas.{one_number}
 use Rattle.rob_top.proofs.Meaning.ComparedLemmas.{one_value}
-use Rattle.rob_top.proofs.Courses.StageLemmas.{same_status}
+use Rattle.rob_top.proofs.Origins.ProgressLemmas.{same_status}
 use Rattle.rob_top.specs.Calls.{Call, limit_of}
 use Rattle.rob_top.specs.Compared.{AsksFor, IsCompared, TellsStatus, heading, status_line}
 use Rattle.rob_top.specs.Generated.{TellsNumber}

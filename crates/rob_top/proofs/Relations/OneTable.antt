@@ -6,14 +6,14 @@ use Rattle.rob_replay.proofs.OneFileLemmas.{one_file}
 use Rattle.rob_replay.specs.Files.{IsFile}
 use Rattle.rob_replay.specs.Outcome.{outcome}
 use Rattle.rob_report.specs.Tables.{table_of}
-use Rattle.rob_top.proofs.Courses.StageLemmas.{file_once, one_model_read}
+use Rattle.rob_top.proofs.Origins.ProgressLemmas.{file_once, one_model_read}
 use Rattle.rob_top.specs.Calls.{Call, Known, limit_of}
 use Rattle.rob_top.specs.Inputs.{HasScenarioFile}
 use Rattle.rob_top.specs.Replayed.{IsReplayed}
 use Rattle.rob_words.proofs.Spellings.{one_line}
 use Rattle.rob_words.specs.Commands.{Line}
 use Rattle.rob_words.specs.declared.verb.Own.TheVariants as own
-use Rattle.rob_top.proofs.Courses.ReadOnceLemmas.{one_certificate}
+use Rattle.rob_top.proofs.Origins.ReadOnceLemmas.{one_certificate}
 use Rattle.rob_words.specs.declared.verb.Verb.TheVariants as verbs
 
 module _ (call : Call) (known : Known call.source) (line : Line) (m : RobustModel) (c : Certificate) (bytes : List ℕ)

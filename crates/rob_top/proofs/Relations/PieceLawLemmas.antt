@@ -16,7 +16,7 @@ use Rattle.rob_top.proofs.Coming.SplitAnswerLemmas.{same_piece_status}
 use Rattle.rob_top.specs.Calls.{Call}
 use Rattle.rob_top.specs.Solved.{IsEmptySet, IsSolved}
 use Rattle.rob_top.specs.Split.{IsPieced}
-use Rattle.rob_top.proofs.Courses.ReadOnceLemmas.{well}
+use Rattle.rob_top.proofs.Origins.ReadOnceLemmas.{well}
 
 module _ (m : RobustModel) (cuts : List Cut) where
   -- where no piece has a bound no plan has one

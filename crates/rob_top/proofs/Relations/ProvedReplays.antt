@@ -5,12 +5,12 @@ use Rattle.rob_meaning.specs.Places.{Each}
 use Rattle.rob_meaning.specs.RobustModel.{RobustModel}
 use Rattle.rob_replay.specs.Replayed.{ShowsBound}
 use Rattle.rob_top.proofs.Coming.CompletenessLemmas.{SaysInfeasible, printed_fits, printed_text}
-use Rattle.rob_top.proofs.Courses.KnownInputs.{known_again, scenarios_known}
-use Rattle.rob_top.proofs.Courses.KnownLemmas.{means_known}
-use Rattle.rob_top.proofs.Courses.ReadOnceLemmas.{no_breach, one_certificate}
+use Rattle.rob_top.proofs.Origins.KnownInputs.{known_again, scenarios_known}
+use Rattle.rob_top.proofs.Origins.KnownLemmas.{means_known}
+use Rattle.rob_top.proofs.Origins.ReadOnceLemmas.{no_breach, one_certificate}
 use Rattle.rob_top.proofs.Coming.ReplayAnswerLemmas.{proved_shows}
 use Rattle.rob_top.proofs.Meaning.SoughtLemmas.{lacking_model, lacking_verb}
-use Rattle.rob_top.proofs.Courses.StageLemmas.{one_model_read}
+use Rattle.rob_top.proofs.Origins.ProgressLemmas.{one_model_read}
 use Rattle.rob_top.specs.Calls.{Call, Known, known_call}
 use Rattle.rob_top.specs.Commands as works
 use Rattle.rob_top.specs.Commands.{Work, work_of}

@@ -3,11 +3,11 @@ use Rattle.std.proofs.Common.{◌≡◌, ℕ, List, sym, ◌∙◌, ap, subst}
 use Rattle.rob_meaning.specs.Certificates.{Certificate, Status}
 use Rattle.rob_meaning.specs.RobustModel.{RobustModel}
 use Rattle.rob_top.proofs.Coming.CompletenessLemmas.{SaysInfeasible, printed_fits, printed_text}
-use Rattle.rob_top.proofs.Courses.KnownInputs.{known_again, sought_known}
-use Rattle.rob_top.proofs.Courses.KnownLemmas.{means_known}
-use Rattle.rob_top.proofs.Courses.ReadOnceLemmas.{no_breach, one_certificate}
+use Rattle.rob_top.proofs.Origins.KnownInputs.{known_again, sought_known}
+use Rattle.rob_top.proofs.Origins.KnownLemmas.{means_known}
+use Rattle.rob_top.proofs.Origins.ReadOnceLemmas.{no_breach, one_certificate}
 use Rattle.rob_top.proofs.Meaning.SoughtLemmas.{forms_unplanned, lacking_model, lacking_verb}
-use Rattle.rob_top.proofs.Courses.StageLemmas.{one_model_read}
+use Rattle.rob_top.proofs.Origins.ProgressLemmas.{one_model_read}
 use Rattle.rob_top.proofs.Coming.WorstAnswerLemmas.{proved_keeps}
 use Rattle.rob_top.specs.Calls.{Call, Known, known_call}
 use Rattle.rob_top.specs.Commands as works

@@ -21,15 +21,15 @@ use Rattle.rob_sets.specs.FirstWide.{NothingWide}
 use Rattle.rob_split_text.proofs.SplitReading.{split_text_few, split_text_reads}
 use Rattle.rob_split_text.specs.SplitTexts.{HasFewTokens, HaveFittingLevels}
 use Rattle.rob_top.proofs.Coming.CompletenessLemmas.{proved_then_checked}
-use Rattle.rob_top.proofs.Courses.CourseLemmas.{Course, SolveCourse, does, finds, same_work, shows_empty, wide_number, wide_row}
+use Rattle.rob_top.proofs.Origins.OriginLemmas.{Origin, SolveOrigin, does, finds, same_work, shows_empty, wide_number, wide_row}
 use Rattle.rob_top.proofs.Telling.CutTellingLemmas.{cuts_inside}
-use Rattle.rob_top.proofs.Courses.KnownInputs.{known_again, model_known}
-use Rattle.rob_top.proofs.Courses.KnownLemmas.{means_known}
+use Rattle.rob_top.proofs.Origins.KnownInputs.{known_again, model_known}
+use Rattle.rob_top.proofs.Origins.KnownLemmas.{means_known}
 use Rattle.rob_top.proofs.Coming.NarrowAnswerLemmas.{has_status}
 use Rattle.rob_top.proofs.Fetching.OwnLemmas.{own_of_kind}
 use Rattle.rob_top.proofs.Meaning.SplittingLemmas.{admits_each, split_model_is, status_over_pieces}
-use Rattle.rob_top.proofs.Courses.StageLemmas.{broken_here, file_once, one_model_read}
-use Rattle.rob_top.proofs.Coming.TrueAnswerLemmas.{course_of}
+use Rattle.rob_top.proofs.Origins.ProgressLemmas.{broken_here, file_once, one_model_read}
+use Rattle.rob_top.proofs.Coming.TrueAnswerLemmas.{origin_of}
 use Rattle.rob_top.proofs.Meaning.WorkLemmas.{limit_is}
 use Rattle.rob_top.specs.Calls.{Call, Known, known_call, limit_of}
 use Rattle.rob_top.specs.Commands as works
@@ -213,10 +213,10 @@ module _ (printing : Call) (text : List ℕ) (split : IsSplitText printing text)
 
       pub taken_answer : (ended : Ended) (shown : List ℕ) → Means later ended shown → IsAnswer ended
       taken_answer ended shown means =
-          all (course_of told (known_again known) line s taken_model ended shown
+          all (origin_of told (known_again known) line s taken_model ended shown
           (means_known later known ended shown means))
         where
-          of_work : SolveCourse told line s ended → IsAnswer ended
+          of_work : SolveOrigin told line s ended → IsAnswer ended
           of_work (finds status v u inside forms holds e) =
               answer_is ended (ended_of status) e (status_answer status v (over_pieces status v holds))
           of_work (shows_empty weights forms shown e) =
@@ -224,12 +224,12 @@ module _ (printing : Call) (text : List ℕ) (split : IsSplitText printing text)
               admits_each m model split.cuts keeps are each in shown.empty w.0 w.1)
           of_work (wide_row spot forms wide e) = answer_is ended (TooWide spot) e (inr wide)
 
-          by : Course told line s ended → IsAnswer ended
+          by : Origin told line s ended → IsAnswer ended
           by (wide_number spot makes h e) = answer_is ended (TooWide spot) e (inl h)
-          by (does w is course) = of_work (same_work told line s ended w works.solving is solves course)
+          by (does w is origin) = of_work (same_work told line s ended w works.solving is solves origin)
 
-          all : Course told line s ended ⊎ ((ended ≡ ReadFault) ⊎ (ended ≡ Memory)) → IsAnswer ended
-          all (inl course) = by course
+          all : Origin told line s ended ⊎ ((ended ≡ ReadFault) ⊎ (ended ≡ Memory)) → IsAnswer ended
+          all (inl origin) = by origin
           all (inr (inl e)) = answer_is ended ReadFault e (inl refl)
           all (inr (inr e)) = answer_is ended Memory e (inr (inr refl))
 

@@ -11,10 +11,10 @@ use Rattle.rob_parse.proofs.Building.OneModel.{model_alike}
 use Rattle.rob_parse.specs.Modelled.{ReadsModel}
 use Rattle.rob_pieces.specs.Cuts.{Cut}
 use Rattle.rob_reach.specs.WholeStatus.{HasWholeStatus}
-use Rattle.rob_top.proofs.Courses.CourseLemmas.{grown_admits, inside_admitted}
-use Rattle.rob_top.proofs.Courses.KnownInputs.{known_again, model_known}
+use Rattle.rob_top.proofs.Origins.OriginLemmas.{grown_admits, inside_admitted}
+use Rattle.rob_top.proofs.Origins.KnownInputs.{known_again, model_known}
 use Rattle.rob_top.proofs.Coming.SplitAnswerLemmas.{cells_decides, same_piece_status}
-use Rattle.rob_top.proofs.Courses.StageLemmas.{file_once, read_here, same_status}
+use Rattle.rob_top.proofs.Origins.ProgressLemmas.{file_once, read_here, same_status}
 use Rattle.rob_top.proofs.Coming.TrueAnswerLemmas.{solve_decides}
 use Rattle.rob_top.proofs.Coming.WholeAnswerLemmas.{same_whole_status, whole_decides}
 use Rattle.rob_top.specs.Calls.{Call, Known, known_call, limit_of}

@@ -3,7 +3,7 @@ use Rattle.std.proofs.Common.{◌≡◌, ◌||◌, ℕ, Bool, true, false, not, 
 use Rattle.std.specs.Prelude.{if◌then◌else◌}
 use denote.Enum.Bare.{same_true, sameb}
 use Rattle.rob_meaning.specs.RobustModel.{RobustModel}
-use Rattle.rob_top.proofs.Courses.CommandLemmas.{branching_is, is_branching_work}
+use Rattle.rob_top.proofs.Origins.CommandLemmas.{branching_is, is_branching_work}
 use Rattle.rob_top.proofs.Fetching.OwnLemmas.{has_kind, second_of}
 use Rattle.rob_top.specs.Branched.{BreaksWhole, no_ranges, no_variables}
 use Rattle.rob_top.specs.Calls.{Call}

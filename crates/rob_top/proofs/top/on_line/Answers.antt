@@ -1,5 +1,5 @@
 use Rattle.std.proofs.Common.{subst}
-use Rattle.rob_top.proofs.Ending.FrameLemmas.{absence_answers, texts_answer}
+use Rattle.rob_top.proofs.Ending.FetchedAnswers.{absence_answers, texts_answer}
 use Rattle.rob_top.specs.Work.{IsShortFetch}
 use Rattle.rob_top.specs.declared.files.Files.{Files}
 use Rattle.rob_top.proofs.top.on_line.Goals as goal

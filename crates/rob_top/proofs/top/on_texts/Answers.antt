@@ -1,5 +1,5 @@
 use Rattle.std.proofs.Common.{◌∙◌, sym}
-use Rattle.rob_top.proofs.Ending.FrameLemmas.{number_answers_line}
+use Rattle.rob_top.proofs.Ending.FetchedAnswers.{number_answers_line}
 use Rattle.rob_top.proofs.top.on_texts.Goals as goal
 use Rattle.rob_words.specs.Answers.{line_of}
 

@@ -1,4 +1,4 @@
-use Rattle.rob_top.proofs.Ending.CallLemmas.{ends_memory}
+use Rattle.rob_top.proofs.Ending.EndsLemmas.{ends_memory}
 use Rattle.rob_top.proofs.top.put_memory.Goals as goal
 
 pub returns-clause-line : goal.returns-clause-line

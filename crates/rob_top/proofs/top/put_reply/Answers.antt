@@ -2,7 +2,7 @@ use Rattle.std.proofs.Common.{List, ℕ, subst}
 use Rattle.rob_outside.specs.Puts.{PutAll}
 use Rattle.rob_outside.specs.Taken.{Took}
 use Rattle.rob_top.specs.Lines.{text_lines}
-use Rattle.rob_top.proofs.Ending.CallLemmas.{ends_whole}
+use Rattle.rob_top.proofs.Ending.EndsLemmas.{ends_whole}
 use Rattle.rob_top.proofs.top.put_reply.Goals as goal
 
 pub returns-in-Ok-clause-ends : goal.returns-in-Ok-clause-ends

@@ -15,7 +15,7 @@ use Rattle.rob_parse.proofs.Building.PlacedLemmas.{well_formed}
 use Rattle.rob_parse.proofs.Names.WellNamed.{well_named, well_spelled}
 use Rattle.rob_top.proofs.Telling.CertificateNameLemmas.{named_in_words}
 use Rattle.rob_top.proofs.Meaning.SoughtLemmas.{file_model}
-use Rattle.rob_top.proofs.Courses.StageLemmas.{file_once}
+use Rattle.rob_top.proofs.Origins.ProgressLemmas.{file_once}
 use Rattle.rob_top.proofs.Meaning.WorkLemmas.{limit_is}
 use Rattle.rob_top.specs.Calls.{Call, Known, limit_of}
 use Rattle.rob_top.specs.Inputs.{BreaksCertificate, HasCertificate, HasCertificateFile, HasModel, HasPlan, LacksPlan, planless, unread}

@@ -4,7 +4,7 @@ use Rattle.rob_meaning.specs.Certificates.{Status}
 use Rattle.rob_meaning.specs.RobustModel.{RobustModel}
 use Rattle.rob_model.specs.declared.place.Spot.{Spot}
 use Rattle.rob_pieces.specs.Cuts.{Cut}
-use Rattle.rob_top.proofs.Courses.KnownInputs.{model_known}
+use Rattle.rob_top.proofs.Origins.KnownInputs.{model_known}
 use Rattle.rob_top.specs.Calls.{Call, Known, known_call}
 use Rattle.rob_top.specs.Split.{BreaksCells, HasCuts, HasCutWord, HasSplit, IsEmptyCell, IsNoCells, IsPieced, IsSplitText, IsWideSplit, named_set, no_parameter, of_split}
 use Rattle.rob_words.specs.Commands.{Line}

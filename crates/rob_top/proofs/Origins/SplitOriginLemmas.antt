@@ -22,19 +22,19 @@ use Rattle.rob_elab.specs.Written.{IsWritten}
 -- a rule that is broken; a status over pieces, where each cell holds an admitted
 -- scenario, or an empty set, and no number of the split model's set rows and
 -- forms is wide; a number that is wide in the split model; or that model's text
-pub data SplitCourse (call : Call) (line : Line) (m : RobustModel) (ended : Ended) : Type 0 where
-  breaks_cells : (rule : ℕ) → BreaksCells call line m rule → ended ≡ CellsRule rule → SplitCourse call line m ended
+pub data SplitOrigin (call : Call) (line : Line) (m : RobustModel) (ended : Ended) : Type 0 where
+  breaks_cells : (rule : ℕ) → BreaksCells call line m rule → ended ≡ CellsRule rule → SplitOrigin call line m ended
   finds_pieces : (cuts : List Cut) (status : Status) (v : Fraction) → HasSplit call line m cuts → line.verb ≡ Cells
       → IsWritten (limit_of line) (split_model m cuts) → EachCellAdmits m cuts → HasStatusOverPieces m cuts status v
-      → ended ≡ ended_of status → SplitCourse call line m ended
+      → ended ≡ ended_of status → SplitOrigin call line m ended
   shows_empty_cell : (cuts : List Cut) (weights : List ℤ) → HasSplit call line m cuts → line.verb ≡ Cells
       → IsWritten (limit_of line) (split_model m cuts) → IsShownEmpty (split_model m cuts) (map of_int weights)
       → (EachCellAdmits m cuts → ⊥) → ended ≡ EmptySet weights
-      → SplitCourse call line m ended
+      → SplitOrigin call line m ended
   wide_cell : (cuts : List Cut) (spot : Spot) → HasSplit call line m cuts → line.verb ≡ Cells
-      → IsWideIn (limit_of line) (split_model m cuts) spot → ended ≡ TooWide spot → SplitCourse call line m ended
+      → IsWideIn (limit_of line) (split_model m cuts) spot → ended ≡ TooWide spot → SplitOrigin call line m ended
   writes_split : (cuts : List Cut) → HasSplit call line m cuts → line.verb ≡ CellText → ended ≡ Printed
-      → SplitCourse call line m ended
+      → SplitOrigin call line m ended
 
 module _ (call : Call) where
   pub cells_model : (line : Line) (m : RobustModel) (rule : ℕ) → BreaksCells call line m rule → HasModel call line m
@@ -47,17 +47,17 @@ module _ (call : Call) where
   cells_splits line m rule (no_parameter word has alone none e) = has.is_splitting
   cells_splits line m rule (of_split cuts has breaks) = has.has_word.is_splitting
 
-  pub pieced_course : (status : Status) (text : List ℕ) (h : IsPieced call status text)
-      → SplitCourse call h.line h.m (ended_of status)
-  pieced_course status text h = finds_pieces h.cuts status h.c.value h.has h.is_cells h.written h.admits h.holds refl
+  pub pieced_origin : (status : Status) (text : List ℕ) (h : IsPieced call status text)
+      → SplitOrigin call h.line h.m (ended_of status)
+  pieced_origin status text h = finds_pieces h.cuts status h.c.value h.has h.is_cells h.written h.admits h.holds refl
 
-  pub written_course : (text : List ℕ) (h : IsSplitText call text) → SplitCourse call h.line h.m Printed
-  written_course text h = writes_split h.cuts h.has h.is_text refl
+  pub written_origin : (text : List ℕ) (h : IsSplitText call text) → SplitOrigin call h.line h.m Printed
+  written_origin text h = writes_split h.cuts h.has h.is_text refl
 
-  pub empty_cell_course : (weights : List ℤ) (text : List ℕ) (h : IsEmptyCell call weights text)
-      → SplitCourse call h.line h.m (EmptySet weights)
-  empty_cell_course weights text h = shows_empty_cell h.cuts weights h.has h.is_cells h.written h.shown h.not_each refl
+  pub empty_cell_origin : (weights : List ℤ) (text : List ℕ) (h : IsEmptyCell call weights text)
+      → SplitOrigin call h.line h.m (EmptySet weights)
+  empty_cell_origin weights text h = shows_empty_cell h.cuts weights h.has h.is_cells h.written h.shown h.not_each refl
 
-  pub wide_split_course : (spot : Spot) (text : List ℕ) (h : IsWideSplit call spot text)
-      → SplitCourse call h.line h.m (TooWide spot)
-  wide_split_course spot text h = wide_cell h.cuts spot h.has h.is_cells h.wide refl
+  pub wide_split_origin : (spot : Spot) (text : List ℕ) (h : IsWideSplit call spot text)
+      → SplitOrigin call h.line h.m (TooWide spot)
+  wide_split_origin spot text h = wide_cell h.cuts spot h.has h.is_cells h.wide refl

@@ -12,9 +12,9 @@ use Rattle.rob_commands.specs.declared.ended.Ended.TheVariants.{Whole, Tree as T
 use Rattle.rob_words.specs.Commands.{Line}
 
 -- a rule that the named variables break; one that the tree's text breaks; or the verdict on the tree
-pub data TreeCourse (call : Call) (line : Line) (m : RobustModel) (ended : Ended) : Type 0 where
-  breaks_names : (rule : ℕ) → BreaksWhole call line m rule → ended ≡ Whole rule → TreeCourse call line m ended
+pub data TreeOrigin (call : Call) (line : Line) (m : RobustModel) (ended : Ended) : Type 0 where
+  breaks_names : (rule : ℕ) → BreaksWhole call line m rule → ended ≡ Whole rule → TreeOrigin call line m ended
   breaks_text : (names bytes : List ℕ) (rule number : ℕ) → HasTreeFile call line m names bytes
-      → Breaks (limit_of line) m names bytes rule number → ended ≡ TreeRule rule number → TreeCourse call line m ended
+      → Breaks (limit_of line) m names bytes rule number → ended ≡ TreeRule rule number → TreeOrigin call line m ended
   judges_tree : (names : List ℕ) (t : Tree) → HasTree call line m names t → IsTreeAnswer (limit_of line) m names t ended
-      → TreeCourse call line m ended
+      → TreeOrigin call line m ended

@@ -1,11 +1,11 @@
 -- From an answer back to what it comes of, also where a part of what is known of the files decides.
-pub mod CourseLemmas
-pub mod TreeCourseLemmas
-pub mod NumberCourseLemmas
-pub mod StageLemmas
+pub mod OriginLemmas
+pub mod TreeOriginLemmas
+pub mod NumberOriginLemmas
+pub mod ProgressLemmas
 pub mod ReadOnceLemmas
 pub mod CommandLemmas
-pub mod SplitCourseLemmas
+pub mod SplitOriginLemmas
 pub mod SplitKnownLemmas
 pub mod KnownInputs
 pub mod KnownLemmas

@@ -13,13 +13,13 @@ use Rattle.rob_rules.specs.Texts.{Breaks}
 use Rattle.rob_parse.proofs.Building.OneModel.{not_both, one_model}
 use Rattle.rob_rules.proofs.Joining.OneText.{one_break}
 use Rattle.rob_model.specs.declared.place.Spot.{Spot}
-use Rattle.rob_top.proofs.Courses.CourseLemmas.{Course, accepted_course, branched_course, cert_course, empty_branched_course, empty_course, limited_course, no_sweep_course, no_tree_course, empty_sought_course, no_row_course, no_whole_course, priced_course, rejected_course, lacking_course, narrowed_course, replayed_course, rows_course, scenarios_course, searched_course, solved_course, wide_budget_course, tree_accepted_course, tree_rejected_course, unplanned_course, wide_course, wide_leaf_course, wide_node_course, wide_way_course, does}
+use Rattle.rob_top.proofs.Origins.OriginLemmas.{Origin, accepted_origin, branched_origin, cert_origin, empty_branched_origin, empty_origin, limited_origin, no_sweep_origin, no_tree_origin, empty_sought_origin, no_row_origin, no_whole_origin, priced_origin, rejected_origin, lacking_origin, narrowed_origin, replayed_origin, rows_origin, scenarios_origin, searched_origin, solved_origin, wide_budget_origin, tree_accepted_origin, tree_rejected_origin, unplanned_origin, wide_origin, wide_leaf_origin, wide_node_origin, wide_way_origin, does}
 use Rattle.rob_top.proofs.Fetching.FilesLemmas.{empty_split}
 use Rattle.rob_top.proofs.Fetching.OwnLemmas.{number_no_file, number_no_files}
-use Rattle.rob_top.proofs.Courses.NumberCourseLemmas.{NumberCourse, compared_course, wide_compared_course, writes_model}
+use Rattle.rob_top.proofs.Origins.NumberOriginLemmas.{NumberOrigin, compared_origin, wide_compared_origin, writes_model}
 use Rattle.rob_top.proofs.Meaning.SoughtLemmas.{forms_sought, forms_unnamed, lacking_model}
 use Rattle.rob_top.specs.Branched.{BreaksWhole, no_ranges, no_variables}
-use Rattle.rob_top.proofs.Courses.SplitCourseLemmas.{breaks_cells, cells_model, cells_splits, empty_cell_course, pieced_course, wide_split_course, written_course}
+use Rattle.rob_top.proofs.Origins.SplitOriginLemmas.{breaks_cells, cells_model, cells_splits, empty_cell_origin, pieced_origin, wide_split_origin, written_origin}
 use Rattle.rob_top.specs.Calls.{Call, Known, by_fetches, by_files, limit_of}
 use Rattle.rob_top.specs.Commands as works
 use Rattle.rob_top.specs.Commands.{reads_model}
@@ -39,17 +39,17 @@ use Rattle.rob_words.proofs.Spellings.{one_line}
 use Rattle.rob_words.specs.declared.verb.Verb.TheVariants as verbs
 
 -- how far the call came
-pub data Stage (call : Call) (ended : Ended) : Type 0 where
-  wordless : (IsCommandLine call.words → ⊥) → Stage call ended
-  absent : (name : Word) → IsFirstAbsent call missing name → ended ≡ Missing → Stage call ended
-  over : (name : Word) → IsFirstAbsent call too_long name → ended ≡ TooLong → Stage call ended
+pub data Progress (call : Call) (ended : Ended) : Type 0 where
+  wordless : (IsCommandLine call.words → ⊥) → Progress call ended
+  absent : (name : Word) → IsFirstAbsent call missing name → ended ≡ Missing → Progress call ended
+  over : (name : Word) → IsFirstAbsent call too_long name → ended ≡ TooLong → Progress call ended
   broken : (rule number : ℕ) (text : List ℕ) → IsNoModel call rule number text
-      → ended ≡ Model rule number → Stage call ended
-  read : (line : Line) (m : RobustModel) → HasModel call line m → Course call line m ended → Stage call ended
+      → ended ≡ Model rule number → Progress call ended
+  read : (line : Line) (m : RobustModel) → HasModel call line m → Origin call line m ended → Progress call ended
   answers_number : (line : Line) → IsSpelled call.words line → reads_model line.verb ≡ false
-      → NumberCourse call line ended → Stage call ended
-  failed : NamesFile call.words → ended ≡ ReadFault → Stage call ended
-  wanting : ended ≡ Memory → Stage call ended
+      → NumberOrigin call line ended → Progress call ended
+  failed : NamesFile call.words → ended ≡ ReadFault → Progress call ended
+  wanting : ended ≡ Memory → Progress call ended
 
 wide_model : (call : Call) (line : Line) (m : RobustModel) (spot : Spot)
     → IsWideSpot call line m spot → HasModel call line m
@@ -68,92 +68,95 @@ sweeping_model : (call : Call) (line : Line) (m : RobustModel) (rule : ℕ)
 sweeping_model call line m rule (at_limits n limits has breaks) = has.model
 sweeping_model call line m rule (at_limit n g has none e) = has.model
 
-pub stage_of : (call : Call) (ended : Ended) (text : List ℕ) → Means call ended text → Stage call ended
-stage_of call Optimal text (solved h) = read h.line h.m h.forms.model (solved_course call optimal text h)
-stage_of call Optimal text (branched h) = read h.line h.m h.has.named.model (branched_course call optimal text h)
-stage_of call Optimal text (pieced h) =
+pub progress_of : (call : Call) (ended : Ended) (text : List ℕ) → Means call ended text → Progress call ended
+progress_of call Optimal text (solved h) = read h.line h.m h.forms.model (solved_origin call optimal text h)
+progress_of call Optimal text (branched h) = read h.line h.m h.has.named.model (branched_origin call optimal text h)
+progress_of call Optimal text (pieced h) =
     read h.line h.m h.has.has_cuts.has_word.model
-    (does works.splitting h.has.has_cuts.has_word.is_splitting (pieced_course call optimal text h))
-stage_of call Infeasible text (solved h) = read h.line h.m h.forms.model (solved_course call infeasible text h)
-stage_of call Infeasible text (branched h) = read h.line h.m h.has.named.model (branched_course call infeasible text h)
-stage_of call Infeasible text (pieced h) =
+    (does works.splitting h.has.has_cuts.has_word.is_splitting (pieced_origin call optimal text h))
+progress_of call Infeasible text (solved h) = read h.line h.m h.forms.model (solved_origin call infeasible text h)
+progress_of call Infeasible text (branched h) =
+    read h.line h.m h.has.named.model (branched_origin call infeasible text h)
+progress_of call Infeasible text (pieced h) =
     read h.line h.m h.has.has_cuts.has_word.model
-    (does works.splitting h.has.has_cuts.has_word.is_splitting (pieced_course call infeasible text h))
-stage_of call Unbounded text (solved h) = read h.line h.m h.forms.model (solved_course call unbounded text h)
-stage_of call Unbounded text (branched h) = read h.line h.m h.has.named.model (branched_course call unbounded text h)
-stage_of call Unbounded text (pieced h) =
+    (does works.splitting h.has.has_cuts.has_word.is_splitting (pieced_origin call infeasible text h))
+progress_of call Unbounded text (solved h) = read h.line h.m h.forms.model (solved_origin call unbounded text h)
+progress_of call Unbounded text (branched h) = read h.line h.m h.has.named.model (branched_origin call unbounded text h)
+progress_of call Unbounded text (pieced h) =
     read h.line h.m h.has.has_cuts.has_word.model
-    (does works.splitting h.has.has_cuts.has_word.is_splitting (pieced_course call unbounded text h))
-stage_of call Printed text (rows h) = read h.line h.m h.forms.model (rows_course call text h)
-stage_of call Printed text (replayed h) = read h.line h.m h.has.plan.certificate.file.read (replayed_course call text h)
-stage_of call Printed text (generated h) =
+    (does works.splitting h.has.has_cuts.has_word.is_splitting (pieced_origin call unbounded text h))
+progress_of call Printed text (rows h) = read h.line h.m h.forms.model (rows_origin call text h)
+progress_of call Printed text (replayed h) =
+    read h.line h.m h.has.plan.certificate.file.read (replayed_origin call text h)
+progress_of call Printed text (generated h) =
     answers_number h.line h.spelled (ap reads_model h.is_text) (writes_model h.is_text refl)
-stage_of call Printed text (compared h) =
-    answers_number h.line h.asks.spelled (ap reads_model h.asks.is_gen) (compared_course call text h)
-stage_of call Printed text (worst_found h) =
-    read h.line h.m (forms_sought call h.line h.m h.c h.form h.has).model (searched_course call text h)
-stage_of call Printed text (priced h) = read h.line h.m h.has.model (priced_course call text h)
-stage_of call Printed text (limited h) = read h.line h.m h.has.model (limited_course call text h)
-stage_of call Printed text (narrowed h) = read h.line h.m h.forms.model (narrowed_course call text h)
-stage_of call Printed text (split_written h) =
+progress_of call Printed text (compared h) =
+    answers_number h.line h.asks.spelled (ap reads_model h.asks.is_gen) (compared_origin call text h)
+progress_of call Printed text (worst_found h) =
+    read h.line h.m (forms_sought call h.line h.m h.c h.form h.has).model (searched_origin call text h)
+progress_of call Printed text (priced h) = read h.line h.m h.has.model (priced_origin call text h)
+progress_of call Printed text (limited h) = read h.line h.m h.has.model (limited_origin call text h)
+progress_of call Printed text (narrowed h) = read h.line h.m h.forms.model (narrowed_origin call text h)
+progress_of call Printed text (split_written h) =
     read h.line h.m h.has.has_cuts.has_word.model
-    (does works.splitting h.has.has_cuts.has_word.is_splitting (written_course call text h))
-stage_of call Accepted text (a_certificate h) = read h.line h.m h.read.file.read.model (accepted_course call text h)
-stage_of call Accepted text (a_tree h) =
-    read h.line h.m h.read.file.variables.named.model (tree_accepted_course call text h)
-stage_of call (Rejected place) text h = read h.line h.m h.read.file.read.model (rejected_course call place text h)
-stage_of call (TreeRejected number fault) text h =
-    read h.line h.m h.read.file.variables.named.model (tree_rejected_course call number fault text h)
-stage_of call Words text h = wordless h.0
-stage_of call Missing text h = absent h.0 h.1 refl
-stage_of call TooLong text h = over h.0 h.1 refl
-stage_of call (Model rule number) text h = broken rule number text h refl
-stage_of call (EmptySet weights) text (while_solving h) =
-    read h.line h.m h.forms.model (empty_course call weights text h)
-stage_of call (EmptySet weights) text (while_branching h) =
-    read h.line h.m h.has.named.model (empty_branched_course call weights text h)
-stage_of call (EmptySet weights) text (in_cells h) =
+    (does works.splitting h.has.has_cuts.has_word.is_splitting (written_origin call text h))
+progress_of call Accepted text (a_certificate h) = read h.line h.m h.read.file.read.model (accepted_origin call text h)
+progress_of call Accepted text (a_tree h) =
+    read h.line h.m h.read.file.variables.named.model (tree_accepted_origin call text h)
+progress_of call (Rejected place) text h = read h.line h.m h.read.file.read.model (rejected_origin call place text h)
+progress_of call (TreeRejected number fault) text h =
+    read h.line h.m h.read.file.variables.named.model (tree_rejected_origin call number fault text h)
+progress_of call Words text h = wordless h.0
+progress_of call Missing text h = absent h.0 h.1 refl
+progress_of call TooLong text h = over h.0 h.1 refl
+progress_of call (Model rule number) text h = broken rule number text h refl
+progress_of call (EmptySet weights) text (while_solving h) =
+    read h.line h.m h.forms.model (empty_origin call weights text h)
+progress_of call (EmptySet weights) text (while_branching h) =
+    read h.line h.m h.has.named.model (empty_branched_origin call weights text h)
+progress_of call (EmptySet weights) text (in_cells h) =
     read h.line h.m h.has.has_cuts.has_word.model
-    (does works.splitting h.has.has_cuts.has_word.is_splitting (empty_cell_course call weights text h))
-stage_of call (EmptySet weights) text (while_searching h) =
-    read h.line h.m (forms_sought call h.line h.m h.c h.form h.has).model (empty_sought_course call weights text h)
-stage_of call (WideNode path spot) text (while_growing h) =
-    read h.line h.m h.has.named.model (wide_node_course call path spot text h)
-stage_of call (WideNode path spot) text (while_checking h) =
-    read h.line h.m h.read.file.variables.named.model (wide_leaf_course call path spot text h)
-stage_of call (WideBudget number spot) text h = read h.line h.m h.has.model (wide_budget_course call number spot text h)
-stage_of call (Sweep rule) text h =
-    read h.line h.m (sweeping_model call h.line h.m rule h.breaks) (no_sweep_course call rule text h)
-stage_of call (Cells rule) text h =
+    (does works.splitting h.has.has_cuts.has_word.is_splitting (empty_cell_origin call weights text h))
+progress_of call (EmptySet weights) text (while_searching h) =
+    read h.line h.m (forms_sought call h.line h.m h.c h.form h.has).model (empty_sought_origin call weights text h)
+progress_of call (WideNode path spot) text (while_growing h) =
+    read h.line h.m h.has.named.model (wide_node_origin call path spot text h)
+progress_of call (WideNode path spot) text (while_checking h) =
+    read h.line h.m h.read.file.variables.named.model (wide_leaf_origin call path spot text h)
+progress_of call (WideBudget number spot) text h =
+    read h.line h.m h.has.model (wide_budget_origin call number spot text h)
+progress_of call (Sweep rule) text h =
+    read h.line h.m (sweeping_model call h.line h.m rule h.breaks) (no_sweep_origin call rule text h)
+progress_of call (Cells rule) text h =
     read h.line h.m (cells_model call h.line h.m rule h.breaks)
     (does works.splitting (cells_splits call h.line h.m rule h.breaks) (breaks_cells rule h.breaks refl))
-stage_of call (Whole rule) text h =
-    read h.line h.m (breaking_model call h.line h.m rule h.breaks) (no_whole_course call rule text h)
-stage_of call (Tree rule number) text h =
-    read h.line h.m h.file.variables.named.model (no_tree_course call rule number text h)
-stage_of call (TooWide spot) text (in_model h) =
-    read h.line h.m (wide_model call h.line h.m spot h.wide) (wide_course call h.line h.m spot h.wide)
-stage_of call (TooWide spot) text (on_way h) = read h.line h.m h.forms.model (wide_way_course call spot text h)
-stage_of call (TooWide spot) text (in_split h) =
+progress_of call (Whole rule) text h =
+    read h.line h.m (breaking_model call h.line h.m rule h.breaks) (no_whole_origin call rule text h)
+progress_of call (Tree rule number) text h =
+    read h.line h.m h.file.variables.named.model (no_tree_origin call rule number text h)
+progress_of call (TooWide spot) text (in_model h) =
+    read h.line h.m (wide_model call h.line h.m spot h.wide) (wide_origin call h.line h.m spot h.wide)
+progress_of call (TooWide spot) text (on_way h) = read h.line h.m h.forms.model (wide_way_origin call spot text h)
+progress_of call (TooWide spot) text (in_split h) =
     read h.line h.m h.has.has_cuts.has_word.model
-    (does works.splitting h.has.has_cuts.has_word.is_splitting (wide_split_course call spot text h))
-stage_of call (TooWide spot) text (in_summary h) =
-    answers_number h.line h.asks.spelled (ap reads_model h.asks.is_gen) (wide_compared_course call spot text h)
-stage_of call (Cert rule number) text (not_checked h) =
-    read h.line h.m h.file.read.model (cert_course call rule number text h)
-stage_of call (Cert rule number) text (not_replayed h) =
+    (does works.splitting h.has.has_cuts.has_word.is_splitting (wide_split_origin call spot text h))
+progress_of call (TooWide spot) text (in_summary h) =
+    answers_number h.line h.asks.spelled (ap reads_model h.asks.is_gen) (wide_compared_origin call spot text h)
+progress_of call (Cert rule number) text (not_checked h) =
+    read h.line h.m h.file.read.model (cert_origin call rule number text h)
+progress_of call (Cert rule number) text (not_replayed h) =
     read h.line h.m (lacking_model call h.line h.m verbs.Replay rule number h.lacks)
-    (lacking_course call rule number text h)
-stage_of call (Cert rule number) text (not_searched h) =
+    (lacking_origin call rule number text h)
+progress_of call (Cert rule number) text (not_searched h) =
     read h.line h.m (lacking_model call h.line h.m verbs.Worst rule number h.lacks)
-    (unplanned_course call rule number text h)
-stage_of call NoRow text h =
-    read h.line h.m (forms_unnamed call h.line h.m h.c h.name h.names_none).model (no_row_course call text h)
-stage_of call (Scenarios rule number) text h =
-    read h.line h.m h.has.plan.certificate.file.read (scenarios_course call rule number text h)
-stage_of call ReadFault text h = failed h.0 refl
-stage_of call WriteFault text h = absurd h
-stage_of call Memory text h = absurd h
+    (unplanned_origin call rule number text h)
+progress_of call NoRow text h =
+    read h.line h.m (forms_unnamed call h.line h.m h.c h.name h.names_none).model (no_row_origin call text h)
+progress_of call (Scenarios rule number) text h =
+    read h.line h.m h.has.plan.certificate.file.read (scenarios_origin call rule number text h)
+progress_of call ReadFault text h = failed h.0 refl
+progress_of call WriteFault text h = absurd h
+progress_of call Memory text h = absurd h
 
 -- ---- what is found of a known file is one thing
 pub found_once : (call : Call) (request : Request) (a b : Found) → Known call.source → IsFound call request a
@@ -232,7 +235,7 @@ module _ (call : Call) (known : Known call.source) (line : Line) (spelled : IsSp
   pub broken_answer : (ended : Ended) (text bytes : List ℕ) (rule number : ℕ) → Each (Came call) (requests line)
       → HasFile call line own.Model bytes → Breaks (limit_of line) bytes rule number → Means call ended text
       → (ended ≡ Model rule number) ⊎ ((ended ≡ ReadFault) ⊎ (ended ≡ Memory))
-  broken_answer ended text bytes rule number all f breaks means = by (stage_of call ended text means)
+  broken_answer ended text bytes rule number all f breaks means = by (progress_of call ended text means)
     where
       same_bytes : (other : List ℕ) → HasFile call line own.Model other → other ≡ bytes
       same_bytes other h = file_once call line own.Model other bytes known h f
@@ -242,19 +245,19 @@ module _ (call : Call) (known : Known call.source) (line : Line) (spelled : IsSp
           let one = one_break (limit_of line) bytes r n rule number b breaks in
           e ∙ ap (λ k. Model k n) one.0 ∙ ap (λ k. Model rule k) one.1
 
-      by : Stage call ended → (ended ≡ Model rule number) ⊎ ((ended ≡ ReadFault) ⊎ (ended ≡ Memory))
+      by : Progress call ended → (ended ≡ Model rule number) ⊎ ((ended ≡ ReadFault) ⊎ (ended ≡ Memory))
       by (wordless none) = absurd (none (line, spelled))
       by (absent name h e) = absurd (none_absent missing name all (λ b q. (let x : ⊥ = cc in x)) h)
       by (over name h e) = absurd (none_absent too_long name all (λ b q. (let x : ⊥ = cc in x)) h)
       by (broken r n t h e) =
           let b = broken_here r n t h in
           inl (is_rule r n (subst (λ (list : List ℕ). Breaks (limit_of line) list r n) (same_bytes b.0 b.1) b.2) e)
-      by (read l m h course) =
+      by (read l m h origin) =
           let r = read_here l m h in
           absurd
           (not_both (limit_of line) r.bytes m rule number r.reads
           (subst (λ (list : List ℕ). Breaks (limit_of line) list rule number) (sym (same_bytes r.bytes r.file)) breaks))
-      by (answers_number l sp none course) = absurd (number_here l sp none bytes f)
+      by (answers_number l sp none origin) = absurd (number_here l sp none bytes f)
       by (failed names e) = inr (inl e)
       by (wanting e) = inr (inr e)
 

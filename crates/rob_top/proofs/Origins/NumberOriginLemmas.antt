@@ -16,23 +16,23 @@ use Rattle.rob_words.specs.declared.route.Route.TheVariants.{Dual, Cuts}
 use Rattle.rob_words.specs.declared.verb.Verb.TheVariants.{Text}
 
 -- what stands behind the answer: the text of the number's model, by `text`; or a status or a wide number, by `gen`
-pub data NumberCourse (call : Call) (line : Line) (ended : Ended) : Type 0 where
-  writes_model : line.verb ≡ Text → ended ≡ Printed → NumberCourse call line ended
+pub data NumberOrigin (call : Call) (line : Line) (ended : Ended) : Type 0 where
+  writes_model : line.verb ≡ Text → ended ≡ Printed → NumberOrigin call line ended
   compares : (number : ℕ) → AsksFor call line number → IsComparedAnswer (limit_of line) (generated number) ended
-      → NumberCourse call line ended
+      → NumberOrigin call line ended
 
-pub number_course_at : (call : Call) (l line : Line) (ended : Ended) → l ≡ line → NumberCourse call l ended
-    → NumberCourse call line ended
-number_course_at call l line ended same h = subst (λ (x : Line). NumberCourse call x ended) same h
+pub number_origin_at : (call : Call) (l line : Line) (ended : Ended) → l ≡ line → NumberOrigin call l ended
+    → NumberOrigin call line ended
+number_origin_at call l line ended same h = subst (λ (x : Line). NumberOrigin call x ended) same h
 
 module _ (call : Call) where
-  pub compared_course : (text : List ℕ) (h : IsCompared call text) → NumberCourse call h.line Printed
-  compared_course text h = compares h.number h.asks (h.status, h.dual.c.value, h.dual.holds)
+  pub compared_origin : (text : List ℕ) (h : IsCompared call text) → NumberOrigin call h.line Printed
+  compared_origin text h = compares h.number h.asks (h.status, h.dual.c.value, h.dual.holds)
 
   -- the first spot that is told is that of the counterpart, or of the cutting planes
-  pub wide_compared_course : (spot : Spot) (text : List ℕ) (h : IsWideCompared call spot text)
-      → NumberCourse call h.line (TooWide spot)
-  wide_compared_course spot text h = compares h.number h.asks (by h.first)
+  pub wide_compared_origin : (spot : Spot) (text : List ℕ) (h : IsWideCompared call spot text)
+      → NumberOrigin call h.line (TooWide spot)
+  wide_compared_origin spot text h = compares h.number h.asks (by h.first)
     where
       m : RobustModel
       m = generated h.number

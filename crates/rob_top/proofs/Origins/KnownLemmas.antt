@@ -17,8 +17,8 @@ use Rattle.rob_commands.specs.declared.ended.Ended.{Ended}
 use Rattle.rob_commands.specs.declared.ended.Ended.TheVariants.{Optimal, Infeasible, Unbounded, Printed, Accepted, Rejected, Words, Missing, TooLong, Model, EmptySet, TooWide, WideNode, WideBudget, Cert, Scenarios, Whole, Sweep, Cells, Tree as TreeRule, TreeRejected, NoRow, ReadFault, WriteFault, Memory}
 use Rattle.rob_words.specs.Commands.{Line}
 use Rattle.rob_words.specs.declared.verb.Own.TheVariants as own
-use Rattle.rob_top.proofs.Courses.SplitKnownLemmas.{empty_cell_known, no_cells_known, pieced_known, split_text_known, wide_split_known}
-use Rattle.rob_top.proofs.Courses.KnownInputs.{came_all, absent_known, file_held, forms_known, file_known, certificate_known, scenarios_known, lacking_known, whole_known, tree_file_known, tree_known, breaking_known, sought_known, unnamed_known, sweep_known, limit_known, breaking_sweep_known, spot_known}
+use Rattle.rob_top.proofs.Origins.SplitKnownLemmas.{empty_cell_known, no_cells_known, pieced_known, split_text_known, wide_split_known}
+use Rattle.rob_top.proofs.Origins.KnownInputs.{came_all, absent_known, file_held, forms_known, file_known, certificate_known, scenarios_known, lacking_known, whole_known, tree_file_known, tree_known, breaking_known, sought_known, unnamed_known, sweep_known, limit_known, breaking_sweep_known, spot_known}
 use Rattle.rob_words.specs.declared.verb.Verb.TheVariants as verbs
 
 module _ (call : Call) (known : Known call.source) where
