@@ -9,7 +9,7 @@ use Rattle.rob_meaning.specs.Certificates.{Cover, IsBefore}
 use Rattle.rob_meaning.specs.Places.{Each, InOrder}
 use Rattle.rob_check.specs.Covers.{covers_of}
 use Rattle.rob_check.specs.View.{AreOrdered, NameRows, run}
-use Rattle.std.proofs.lemmas.List.{take-map}
+use Rattle.std.proofs.lemmas.List.{drop-map, take-map}
 
 pub same_number : (a b : ℕ) → nat_eq a b ≡ true → a ≡ b
 same_number a b e = grind (arith, nat_tests)
@@ -99,11 +99,6 @@ behind_from i (c ∷ cs) ordered from = by (nat_eq c.form i) refl (behind_from i
         let at_least : i ≤ c.form = from.0 in
         (omega arith, above i cs (later c i cs (omega arith) ordered.0))
 
-map_drop : {A B : Type 0} (f : A → B) (n : ℕ) (xs : List A) → map f (drop n xs) ≡ drop n (map f xs)
-map_drop f zero xs = refl
-map_drop f (suc n) [] = refl
-map_drop f (suc n) (x ∷ xs) = map_drop f n xs
-
 module _ {N : Type 0} (value : N → Fraction) (rows index : ℕ) (covers rest : List (program.Cover N))
     (h : IsRest rows index (map (cover_of value) covers) (map (cover_of value) rest)) where
   -- as many as stand in front are the form's
@@ -131,7 +126,7 @@ module _ {N : Type 0} (value : N → Fraction) (rows index : ℕ) (covers rest :
       → IsRest rows (index + 1) (map (cover_of value) covers) (map (cover_of value) behind)
   rest_is n behind count is =
       subst (IsRest rows (index + 1) (map (cover_of value) covers))
-      (sym (ap (map (cover_of value)) is ∙ map_drop (cover_of value) n rest
+      (sym (ap (map (cover_of value)) is ∙ sym (drop-map (cover_of value) n rest)
       ∙ ap (λ k. drop k (map (cover_of value) rest)) count))
       (record {
         same = λ j le. behind_same index j (map (cover_of value) rest) (omega arith) ∙ h.same j (omega arith);
