@@ -13,7 +13,7 @@ use Rattle.rob_model.specs.declared.model.Model.{Model}
 use Rattle.rob_model.specs.declared.model.Param.{Param}
 use Rattle.rob_model.specs.declared.model.SetLine.{SetLine}
 use Rattle.rob_model.specs.declared.place.Place.{Place}
-use Rattle.rob_model.proofs.ConditionLemmas.{count_of}
+use Rattle.rob_model.proofs.ConditionLemmas.{count_of, few_declared}
 use Rattle.rob_check.specs.Conditions.{set_tests}
 use Rattle.rob_check.specs.Scenario.{bound_tests}
 use Rattle.rob_check.specs.Verdicts.{Condition, decided, verdict}
@@ -25,10 +25,6 @@ length-declared : {A : Type 0} (value : A → Fraction) (f : Fraction → SetCon
     → length (if_declared f (option_map value o)) ≡ count_of o
 length-declared value f None = refl
 length-declared value f (Some x) = refl
-
-pub few_declared : {A : Type 0} (o : Option A) → length (option_to_list o) ≤ 1
-few_declared None = omega arith
-few_declared (Some x) = omega arith
 
 module _ (limit : ℕ) (m : RobustModel) (place : ℕ → Place) (s : Fraction) (p : List Fraction) where
   set_tests-append : (k : ℕ) (xs ys : List SetCondition)

@@ -3,7 +3,8 @@ use Rattle.rob_check.specs.Scenario.{taken_place}
 use Rattle.rob_meaning.specs.SetConditions.{all_stated}
 use Rattle.rob_model.specs.View.{robust, set_line_of}
 use Rattle.rob_model.specs.declared.model.Param.{Param}
-use Rattle.rob_check.proofs.ScenarioLemmas.{declared_fits, few_declared, index_fits, index_small, parameter_goes, parameter_stops, parameters_end}
+use Rattle.rob_model.proofs.ConditionLemmas.{few_declared}
+use Rattle.rob_check.proofs.ScenarioLemmas.{declared_fits, index_fits, index_small, parameter_goes, parameter_stops, parameters_end}
 use Rattle.rob_check.proofs.SumLemmas.{counted_later}
 use Rattle.rob_check.proofs.scenario.check_vector.Goals as goal
 
