@@ -12,6 +12,7 @@ use Rattle.rob_ranges.specs.declared.digits.Wide.{Wide}
 use Rattle.rob_ranges.specs.DigitLists.{wide_of}
 use Rattle.rob_ranges.specs.Digits.{base, number_of}
 use Rattle.rob_ranges.specs.Shorts.{first_of, second_of, short_value}
+use Rattle.rob_ranges.proofs.DigitLemmas.{one_digit}
 
 -- ---- a form by its numbers
 -- the list of no number, of one, and of two
@@ -93,14 +94,11 @@ low_alone w h =
     let e : pos base *ℤ w.high ≡ pos 0 = ap (λ (z : ℤ). pos base *ℤ z) h ∙ *ℤ-zero (pos base) in
     omega (arith, ints, e)
 
--- the list of one number, and a number of one digit
+-- the list of one number
 in_front : (xs : List ℤ) → 1 ≤ length xs → length xs < 2 → xs ≡ get_or xs 0 (pos 0) ∷ []
 in_front [] h k = absurd (omega (arith, h))
 in_front (x ∷ []) h k = refl
 in_front (x ∷ y ∷ ys) h k = absurd (omega (arith, k))
-
-one_number : (d : ℤ) → number_of (d ∷ []) ≡ d
-one_number d = omega (arith, ints)
 
 -- digits of which none, or one of 16 bits, is behind the lowest
 pub none_wide : (d : ℤ) (more xs : List ℤ) → SFits w64 d → xs ≡ more → length xs < 1
@@ -117,7 +115,7 @@ one_wide d a more xs f g h e n m is =
     let first : get_or xs 0 (pos 0) ≡ to_z w16 (of_z w16 a) =
     sym (to_z-of_z w64 (get_or xs 0 (pos 0)) g) ∙ is ∙ sym (to_z-of_z w16 a h) in
     let behind : number_of more ≡ to_z w16 (of_z w16 a) =
-    ap number_of (sym e ∙ in_front xs n m) ∙ one_number (get_or xs 0 (pos 0)) ∙ first in
+    ap number_of (sym e ∙ in_front xs n m) ∙ one_digit (get_or xs 0 (pos 0)) ∙ first in
     λ i. sym low i +ℤ (pos base *ℤ behind i)
 
 -- a factor as it is passed
