@@ -3,16 +3,14 @@ use Rattle.std.proofs.Common.{◌≡◌, ℕ, ◌+◌, min, max, Bool, true, fal
 use Rattle.std.specs.Prelude.{Option, Some, None, nat_lt, not, ◌||◌, ◌&&◌, unwrap_or}
 use Rattle.std.specs.List.{list_any}
 use Rattle.std.proofs.lemmas.Bool.Decides.{nat_tests}
+use Rattle.std.proofs.lemmas.List.Folds.{list_any-append}
+use Rattle.rob_index.proofs.LinesRead.ListLemmas.{or_assoc, or_false}
 use Rattle.rob_rules.specs.declared.sort.Sort.{Sort}
 use Rattle.rob_rules.specs.declared.degree.Weight.{Weight}
 use Rattle.rob_rules.specs.Degrees.{Degree, constant, times, plus, degree, sum_degree, product_degree, products, sum_products, more_products}
 use Rattle.rob_rules.specs.Faults.{has_two_decisions, has_two_uncertain, has_random_recourse}
 use Rattle.rob_syntax.specs.Trees.{sum, product, Summands, no_summands, summand, Operands, no_operands, operand}
 use Rattle.rob_rules.specs.Weights.{weight, weight_of, joined, multiplied}
-
-or_assoc : (a b c : Bool) → (a || b) || c ≡ a || (b || c)
-or_assoc true b c = refl
-or_assoc false b c = refl
 
 or_last : (a b c : Bool) → (a || b) || c ≡ a || (c || b)
 or_last true b c = refl
@@ -23,13 +21,6 @@ or_last false false c = swap c
     swap : (c : Bool) → c ≡ c || false
     swap true = refl
     swap false = refl
-
-any-append : {X : Type 0} (test : X → Bool) (xs ys : List X)
-    → list_any test (xs ++ ys) ≡ list_any test xs || list_any test ys
-any-append test [] ys = refl
-any-append test (x ∷ xs) ys =
-    ap (λ (b : Bool). test x || b) (any-append test xs ys)
-    ∙ sym (or_assoc (test x) (list_any test xs) (list_any test ys))
 
 max_kept : (a b : ℕ) → max (min a 2) (min b 2) ≡ min (max a b) 2
 max_kept a b = omega arith
@@ -67,10 +58,6 @@ nothing_plus : (d : Degree) → plus constant d ≡ d
 nothing_plus d =
     λ i. record { decision = max_nothing d.decision i; uncertain = max_nothing d.uncertain i; recourse = d.recourse }
 
-or_nothing : (b : Bool) → b || false ≡ b
-or_nothing true = refl
-or_nothing false = refl
-
 add_nothing : (n : ℕ) → n + 0 ≡ n
 add_nothing n = omega arith
 
@@ -80,7 +67,7 @@ times_nothing d =
       decision = add_nothing d.decision i;
       uncertain = add_nothing d.uncertain i;
       recourse =
-          or_nothing d.recourse i;
+          or_false d.recourse i;
     }
 
 max_none : (n : ℕ) → max n 0 ≡ n
@@ -92,7 +79,7 @@ plus_nothing d =
       decision = max_none d.decision i;
       uncertain = max_none d.uncertain i;
       recourse =
-          or_nothing d.recourse i;
+          or_false d.recourse i;
     }
 
 -- two weights joined
@@ -101,9 +88,9 @@ joined_is d e ds es = λ i. record {
   decision = max_kept d.decision e.decision i;
   uncertain = max_kept d.uncertain e.uncertain i;
   recourse = d.recourse || e.recourse;
-  two_decisions = sym (any-append has_two_decisions ds es) i;
-  two_uncertain = sym (any-append has_two_uncertain ds es) i;
-  random_recourse = sym (any-append has_random_recourse ds es) i;
+  two_decisions = sym (list_any-append has_two_decisions ds es) i;
+  two_uncertain = sym (list_any-append has_two_uncertain ds es) i;
+  random_recourse = sym (list_any-append has_random_recourse ds es) i;
 }
 
 -- a product of two
@@ -116,17 +103,17 @@ multiplied_is d e ds es = λ i. record {
   two_decisions =
       ((λ j. (list_any has_two_decisions ds || list_any has_two_decisions es) || over d.decision e.decision j)
       ∙ or_last (list_any has_two_decisions ds) (list_any has_two_decisions es) (nat_lt 1 (d.decision + e.decision))
-      ∙ sym (any-append has_two_decisions ds (times d e ∷ es))) i;
+      ∙ sym (list_any-append has_two_decisions ds (times d e ∷ es))) i;
   two_uncertain =
       ((λ j. (list_any has_two_uncertain ds || list_any has_two_uncertain es) ||
       (not (d.recourse || e.recourse) && over d.uncertain e.uncertain j))
       ∙ or_last (list_any has_two_uncertain ds) (list_any has_two_uncertain es) (has_two_uncertain (times d e))
-      ∙ sym (any-append has_two_uncertain ds (times d e ∷ es))) i;
+      ∙ sym (list_any-append has_two_uncertain ds (times d e ∷ es))) i;
   random_recourse =
       ((λ j. (list_any has_random_recourse ds || list_any has_random_recourse es) ||
       ((d.recourse || e.recourse) && over d.uncertain e.uncertain j))
       ∙ or_last (list_any has_random_recourse ds) (list_any has_random_recourse es) (has_random_recourse (times d e))
-      ∙ sym (any-append has_random_recourse ds (times d e ∷ es))) i;
+      ∙ sym (list_any-append has_random_recourse ds (times d e ∷ es))) i;
 }
   where
     over : (a b : ℕ) → nat_lt 1 (min (min a 2 + min b 2) 2) ≡ nat_lt 1 (a + b)
