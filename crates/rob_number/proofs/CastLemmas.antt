@@ -102,7 +102,10 @@ pub product_value : (p a b m n : ℤ) → p ≡ to_z w64 (of_z w64 a) *ℤ to_z 
     → nat_abs b < 2 ^ 62 → a ≡ m → b ≡ n → p ≡ m *ℤ n
 product_value p a b m n e h k f g = e ∙ ap₂ ◌*ℤ◌ (seen a h ∙ f) (seen b k ∙ g)
 
--- a number of 64 bits is itself in 128
+-- a number of 64 bits fits in 128, and is itself there
+pub widened : (z : ℤ) → SFits w64 z → SFits w128 (to_z w64 (of_z w64 z))
+widened z h = omega (arith, ints)
+
 pub seen_up : (z : ℤ) → SFits w64 z → to_z w128 (of_z w128 (to_z w64 (of_z w64 z))) ≡ z
 seen_up z h = omega (arith, ints)
 

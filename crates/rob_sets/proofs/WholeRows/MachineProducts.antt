@@ -5,9 +5,6 @@ use Rattle.std.proofs.Math.Nat.{mul-le-mul}
 use Rattle.std.proofs.lemmas.Int.{ints, unsigned_abs-mul}
 use Rattle.rob_number.proofs.CastLemmas.{fits_small, limit_seen, seen_down, seen_up, seen_wide}
 
-pub widened : (z : ℤ) → SFits w64 z → SFits w128 (to_z w64 (of_z w64 z))
-widened z f = omega (arith, ints)
-
 fits_wide : (z : ℤ) → nat_abs z < 2 ^ 124 → SFits w128 z
 fits_wide z h = omega (arith, ints)
 

@@ -1,4 +1,4 @@
-use Rattle.rob_sets.proofs.WholeRows.MachineProducts.{widened}
+use Rattle.rob_number.proofs.CastLemmas.{widened}
 use Rattle.rob_cuts.proofs.RayLemmas.{multiple_fits, multiple_seen, multiple_size, natural_fits}
 use Rattle.rob_cuts.proofs.clearing.product.Goals as goal
 

@@ -2,7 +2,8 @@ use Rattle.std.proofs.Common.{◌∙◌, ap, arith, rules}
 use Rattle.std.specs.Prelude.{ℤ, ◌*ℤ◌}
 use mir.Syntax.{w64}
 use mir.Val.{SFits}
-use Rattle.rob_ranges.proofs.MachineNumbers.{product_fits, product_seen, product_size, read_32, read_64, widened_32, widened_64}
+use Rattle.rob_ranges.proofs.MachineNumbers.{product_fits, product_seen, product_size, read_32, read_64, widened_32}
+use Rattle.rob_number.proofs.CastLemmas.{widened}
 use Rattle.rob_ranges.proofs.ShortLemmas.{low_alone}
 use Rattle.rob_ranges.proofs.short.low_product.Goals as goal
 
@@ -10,7 +11,7 @@ pub overflow_cast-result : goal.overflow_cast-result
 overflow_cast-result c = widened_32 c.args.a c.ranges.a
 
 pub overflow_cast-result-2 : goal.overflow_cast-result-2
-overflow_cast-result-2 c = let low : SFits w64 c.args.b.low = search rules in widened_64 c.args.b.low low
+overflow_cast-result-2 c = let low : SFits w64 c.args.b.low = search rules in widened c.args.b.low low
 
 pub overflow_mul-result : goal.overflow_mul-result
 overflow_mul-result c =

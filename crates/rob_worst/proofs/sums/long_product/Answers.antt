@@ -1,4 +1,5 @@
-use Rattle.rob_sets.proofs.WholeRows.MachineProducts.{product_fits, product_seen, product_size, widened}
+use Rattle.rob_number.proofs.CastLemmas.{widened}
+use Rattle.rob_sets.proofs.WholeRows.MachineProducts.{product_fits, product_seen, product_size}
 use Rattle.rob_worst.proofs.sums.long_product.Goals as goal
 
 pub overflow_cast-result : goal.overflow_cast-result
