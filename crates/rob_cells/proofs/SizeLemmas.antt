@@ -1,5 +1,5 @@
 -- How large the split model is, by the parts of the model.
-use Rattle.std.proofs.Common.{◌≡◌, ℕ, zero, suc, ◌+◌, ◌*◌, ◌<◌, ◌≤◌, List, [], ◌∷◌, ◌++◌, map, length, get_or, drop, refl, ap, sym, ◌∙◌, arith, length-append, suc-mul, zero-mul}
+use Rattle.std.proofs.Common.{◌≡◌, ℕ, zero, suc, ◌+◌, ◌*◌, ◌<◌, List, [], ◌∷◌, ◌++◌, map, length, get_or, drop, refl, ap, sym, ◌∙◌, arith, length-append, suc-mul, zero-mul}
 use Rattle.std.specs.Prelude.{codes, flat_map, Option, Some, None, option_map, option_to_list}
 use Rattle.std.proofs.lemmas.List.{length-map}
 use Rattle.rob_algebra.specs.Fraction.{Fraction}
@@ -10,7 +10,7 @@ use Rattle.rob_meaning.specs.SetConditions.{if_declared}
 use Rattle.rob_meaning.specs.Sizes.{adaptive_bounds, variable_bounds}
 use Rattle.rob_meaning.proofs.Tables.SizeLemmas.{inequalities, length-declared, length-sides}
 use Rattle.rob_meaning.specs.SetRows.{lift_count}
-use Rattle.rob_model.proofs.ConditionLemmas.{few_declared}
+use Rattle.rob_model.proofs.ConditionLemmas.{count-map}
 use Rattle.rob_model.proofs.PartLemmas.{drop_at}
 use Rattle.rob_model.specs.View.{adaptive_of, member_of, set_line_of, variable_of}
 use Rattle.rob_model.specs.declared.expr.Expr.{Expr}
@@ -139,16 +139,7 @@ module _ (m : RobustModel) (c : ℕ) where
       )
 
 -- ---- what is counted item by item
--- of two bounds at most two are declared
-pub two_declared : {A B : Type 0} (a : Option A) (b : Option B) {lower upper : ℕ}
-    → lower ≡ length (option_to_list a) → upper ≡ length (option_to_list b) → lower + upper ≤ 2
-two_declared a b l u = omega (arith, l, u, few_declared a, few_declared b)
-
 module _ {N : Type 0} (value : N → Fraction) where
-  declared_same : (o : Option N) → length (option_to_list (option_map value o)) ≡ length (option_to_list o)
-  declared_same None = refl
-  declared_same (Some x) = refl
-
   -- one variable, adaptive variable or statement more
   pub variable_more : (xs : List (Var N)) (i : ℕ) (x : Var N) (count : ℕ) {lower upper all : ℕ} → i < length xs
       → x ≡ get_or xs i x → lower ≡ length (option_to_list x.lower) → upper ≡ length (option_to_list x.upper)
@@ -158,8 +149,8 @@ module _ {N : Type 0} (value : N → Fraction) where
       omega (
         arith,
         ap (λ ys. variable_bounds (map (variable_of value) ys)) (drop_at xs i x h e),
-        declared_same x.lower,
-        declared_same x.upper,
+        count-map value x.lower,
+        count-map value x.upper,
         l,
         u,
         so_far,
@@ -174,8 +165,8 @@ module _ {N : Type 0} (value : N → Fraction) where
       omega (
         arith,
         ap (λ zs. adaptive_bounds (map (adaptive_of value) zs)) (drop_at ys i y h e),
-        declared_same y.lower,
-        declared_same y.upper,
+        count-map value y.lower,
+        count-map value y.upper,
         l,
         u,
         so_far,

@@ -13,7 +13,7 @@ use Rattle.rob_model.specs.declared.model.Model.{Model}
 use Rattle.rob_model.specs.declared.model.Param.{Param}
 use Rattle.rob_model.specs.declared.model.SetLine.{SetLine}
 use Rattle.rob_model.specs.declared.place.Place.{Place}
-use Rattle.rob_model.proofs.ConditionLemmas.{count_of, few_declared}
+use Rattle.rob_model.proofs.ConditionLemmas.{count_of, two_declared}
 use Rattle.rob_check.specs.Conditions.{set_tests}
 use Rattle.rob_check.specs.Scenario.{bound_tests}
 use Rattle.rob_check.specs.Verdicts.{Condition, decided, verdict}
@@ -185,13 +185,9 @@ parameters_end limit m place s p {N} value params k index behind past =
     (bounds_from k (map (parameter_of value) xs) ++ behind))) (drop_all k params past))
 
 -- ---- the numbers of conditions are small
-declared_few : {A : Type 0} (o p : Option A) {a b : ℕ} → a ≡ length (option_to_list o) → b ≡ length (option_to_list p)
-    → a + b ≤ 2
-declared_few o p e f = omega (arith, few_declared o, few_declared p)
-
 pub declared_fits : {A : Type 0} (o p : Option A) {a b : ℕ} → a ≡ length (option_to_list o)
     → b ≡ length (option_to_list p) → Fits w32 (a + b)
-declared_fits o p e f = omega (arith, declared_few o p e f)
+declared_fits o p e f = omega (arith, two_declared o p e f)
 
 module _ {N : Type 0} {value : N → Fraction} {model : Model N} (valid : IsValid value model) where
   few_parameters : length model.params ≤ 96
@@ -207,7 +203,7 @@ module _ {N : Type 0} {value : N → Fraction} {model : Model N} (valid : IsVali
 
     pub index_fits : {A : Type 0} (o p : Option A) {a b : ℕ} → a ≡ length (option_to_list o)
         → b ≡ length (option_to_list p) → Fits w32 (index + (a + b))
-    index_fits o p e f = omega (arith, few_parameters, ap length same, declared_few o p e f)
+    index_fits o p e f = omega (arith, few_parameters, ap length same, two_declared o p e f)
 
   pub number_fits : {lines : List (SetLine N)} → lines ≡ model.set_lines → {first index k : ℕ} → first ≤ 1000
       → index ≡ first + k → k < length lines → Fits w32 (index + 1)

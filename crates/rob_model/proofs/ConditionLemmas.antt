@@ -21,7 +21,12 @@ pub few_declared : {A : Type 0} (o : Option A) → count_of o ≤ 1
 few_declared None = omega arith
 few_declared (Some x) = omega arith
 
-count-map : {A B : Type 0} (f : A → B) (o : Option A) → count_of (option_map f o) ≡ count_of o
+-- of two bounds at most two are declared
+pub two_declared : {A B : Type 0} (a : Option A) (b : Option B) {lower upper : ℕ}
+    → lower ≡ count_of a → upper ≡ count_of b → lower + upper ≤ 2
+two_declared a b l u = omega (arith, l, u, few_declared a, few_declared b)
+
+pub count-map : {A B : Type 0} (f : A → B) (o : Option A) → count_of (option_map f o) ≡ count_of o
 count-map f None = refl
 count-map f (Some x) = refl
 

@@ -1,5 +1,6 @@
 use Rattle.std.proofs.Common.{arith}
-use Rattle.rob_cells.proofs.SizeLemmas.{two_declared, variable_more}
+use Rattle.rob_model.proofs.ConditionLemmas.{two_declared}
+use Rattle.rob_cells.proofs.SizeLemmas.{variable_more}
 use Rattle.rob_cells.proofs.size.variable_bounds.Goals as goal
 
 pub overflow_add-count : goal.overflow_add-count
