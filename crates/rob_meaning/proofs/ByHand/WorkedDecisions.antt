@@ -28,7 +28,8 @@ so f None = None
 so f (Some x) = Some (f x)
 
 -- ---- numbers
-abbrev decided : {A : Type 0} (b : Bool) → (b ≡ true → A) → Option A
+-- the fact that follows where the test is true
+abbrev pub decided : {A : Type 0} (b : Bool) → (b ≡ true → A) → Option A
 decided true f = Some (f refl)
 decided false f = None
 

@@ -5,6 +5,7 @@ use Rattle.std.proofs.lemmas.Bool.{leb-true}
 use Rattle.std.specs.Prelude.{ℕ, zero, suc, ◌<◌, ◌≤◌, ◌-◌, ◌^◌, leb, nat_abs, Bool, true, false, List, [], ◌∷◌, Option, Some, None, refl}
 use Rattle.rob_algebra.specs.Fraction.{Fraction, ratio, ◌+ℚ◌, ◌*ℚ◌}
 use Rattle.rob_algebra.specs.Width.{IsWide, IsWideWhole}
+use Rattle.rob_meaning.proofs.ByHand.WorkedDecisions.{decided}
 use Rattle.rob_meaning.proofs.ByHand.WorkedTests.{Found, found}
 use Rattle.rob_meaning.specs.Clearing.{denominator, whole_at}
 use Rattle.rob_meaning.specs.Coefficients.{single, table, unit}
@@ -22,10 +23,6 @@ greatest = 2 ^ 62 - 1
 pub apart : (a b : ℕ) → b ≤ a → a < b → ⊥
 apart a b le lt = omega arith
 
-abbrev when : {A : Type 0} (b : Bool) → (b ≡ true → A) → Option A
-when true f = Some (f refl)
-when false f = None
-
 pub either_not : {A B : Type 0} → (A → ⊥) → (B → ⊥) → A ⊎ B → ⊥
 either_not f g (inl a) = f a
 either_not f g (inr b) = g b
@@ -37,7 +34,7 @@ neither (Some f) (Some g) = Some (either_not f g)
 
 -- the number is at most the greatest
 abbrev test_size : (n : ℕ) → Option (greatest < n → ⊥)
-test_size n = when (leb n greatest) (λ e. apart greatest n (leb-true n greatest e))
+test_size n = decided (leb n greatest) (λ e. apart greatest n (leb-true n greatest e))
 
 abbrev pub test_fraction : (x : Fraction) → Option (IsWide greatest x → ⊥)
 test_fraction x = neither (test_size (nat_abs x.num)) (test_size x.den)
