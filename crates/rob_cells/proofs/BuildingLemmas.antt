@@ -17,7 +17,7 @@ use Rattle.rob_model.specs.declared.model.Var.{Var}
 use Rattle.rob_pieces.specs.Cuts.{Cut}
 use Rattle.rob_pieces.specs.SplitModel.{numbered, cell_lines, cell_rows, cells_worst, copy_in}
 use Rattle.rob_algebra.specs.Fraction.{Fraction}
-use Rattle.rob_cells.proofs.ExpressionLemmas.{variable_is}
+use Rattle.rob_model.proofs.PartLemmas.{variable_is}
 use Rattle.rob_cells.specs.Building.{split_over, with_cell}
 
 -- ---- numbers

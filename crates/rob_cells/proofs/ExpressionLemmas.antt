@@ -1,52 +1,36 @@
 -- Expressions over a cell, one level at a time.
-use Rattle.std.proofs.Common.{◌≡◌, ℕ, ◌<◌, List, [], ◌∷◌, map, length, refl, ap, sym, ◌∙◌, subst, rules}
+use Rattle.std.proofs.Common.{◌≡◌, ℕ, ◌<◌, List, [], ◌∷◌, map, length, refl, ap, sym, ◌∙◌, subst}
 use Rattle.std.proofs.lemmas.List.{length-map}
 use Rattle.rob_algebra.specs.Fraction.{Fraction}
 use Rattle.rob_cells.specs.Building.{signed_over}
-use Rattle.rob_meaning.specs.Expressions.{Expression, adaptive, adaptive_in, factor, number, parameter, product, sum, term, variable}
+use Rattle.rob_meaning.specs.Expressions.{Expression, adaptive_in, factor, parameter, product, sum, term}
 use Rattle.rob_meaning.specs.RobustModel.{RobustModel}
 use Rattle.rob_meaning.specs.WellFormed.{IsInside}
-use Rattle.rob_model.proofs.PartLemmas.{signed_is}
+use Rattle.rob_model.proofs.PartLemmas.{adaptive_in_is, adaptive_is, number_is, parameter_is, product_is, signed_is, sum_is, variable_is}
 use Rattle.rob_model.specs.View.{Signed, adaptive_of, expression_of, factors_of, parameter_of, robust, signed_of, terms_of}
-use Rattle.rob_model.specs.declared.expr.Expr.{Expr, the_lemmas}
+use Rattle.rob_model.specs.declared.expr.Expr.{Expr}
 use Rattle.rob_model.specs.declared.expr.Expr.TheVariants as expr
 use Rattle.rob_model.specs.declared.expr.Term.{Term}
 use Rattle.rob_model.specs.declared.model.Model.{Model}
 use Rattle.rob_pieces.specs.SplitModel.{factors_over, over_cell, parameter_in, rule_in, terms_over}
 
--- what an expression without parts is
-module _ {N : Type 0} (value : N → Fraction) where
-  number_is : (x : N) → expression_of value (expr.Number x) ≡ number (value x)
-  number_is x = search (rules, the_lemmas)
+-- the numbers in an expression inside a model are those of its lists
+module _ {N : Type 0} (value : N → Fraction) (model : Model N) {e : Expr N}
+    (inside : IsInside (robust value model) (expression_of value e)) where
+  pub parameter_inside : {k : ℕ} → e ≡ expr.Param k → k < length model.params
+  parameter_inside {k} is =
+      subst (λ n. k < n) (length-map model.params (parameter_of value))
+      (subst (IsInside (robust value model)) (ap (expression_of value) is ∙ parameter_is value k) inside)
 
-  parameter_is : (k : ℕ) → expression_of value (expr.Param k) ≡ parameter k
-  parameter_is k = search (rules, the_lemmas)
+  pub adaptive_inside : {y : ℕ} → e ≡ expr.Adaptive y → y < length model.adaptives
+  adaptive_inside {y} is =
+      subst (λ n. y < n) (length-map model.adaptives (adaptive_of value))
+      (subst (IsInside (robust value model)) (ap (expression_of value) is ∙ adaptive_is value y) inside)
 
-  pub variable_is : (k : ℕ) → expression_of value (expr.Var k) ≡ variable k
-  variable_is k = search (rules, the_lemmas)
-
-  adaptive_is : (y : ℕ) → expression_of value (expr.Adaptive y) ≡ adaptive y
-  adaptive_is y = search (rules, the_lemmas)
-
-  pub adaptive_in_is : (y set : ℕ) → expression_of value (expr.AdaptiveIn y set) ≡ adaptive_in y set
-  adaptive_in_is y set = search (rules, the_lemmas)
-
-  -- the numbers in an expression inside a model are those of its lists
-  module _ (model : Model N) {e : Expr N} (inside : IsInside (robust value model) (expression_of value e)) where
-    pub parameter_inside : {k : ℕ} → e ≡ expr.Param k → k < length model.params
-    parameter_inside {k} is =
-        subst (λ n. k < n) (length-map model.params (parameter_of value))
-        (subst (IsInside (robust value model)) (ap (expression_of value) is ∙ parameter_is k) inside)
-
-    pub adaptive_inside : {y : ℕ} → e ≡ expr.Adaptive y → y < length model.adaptives
-    adaptive_inside {y} is =
-        subst (λ n. y < n) (length-map model.adaptives (adaptive_of value))
-        (subst (IsInside (robust value model)) (ap (expression_of value) is ∙ adaptive_is y) inside)
-
-    pub adaptive_in_inside : {y set : ℕ} → e ≡ expr.AdaptiveIn y set → y < length model.adaptives
-    adaptive_in_inside {y} {set} is =
-        subst (λ n. y < n) (length-map model.adaptives (adaptive_of value))
-        (subst (IsInside (robust value model)) (ap (expression_of value) is ∙ adaptive_in_is y set) inside).0
+  pub adaptive_in_inside : {y set : ℕ} → e ≡ expr.AdaptiveIn y set → y < length model.adaptives
+  adaptive_in_inside {y} {set} is =
+      subst (λ n. y < n) (length-map model.adaptives (adaptive_of value))
+      (subst (IsInside (robust value model)) (ap (expression_of value) is ∙ adaptive_in_is value y set) inside).0
 
 module _ (m : RobustModel) (c : ℕ) where
   terms_are : (ss : List Signed) → terms_of (map (signed_over m c) ss) ≡ terms_over m c (terms_of ss)
@@ -58,31 +42,24 @@ module _ (m : RobustModel) (c : ℕ) where
   factors_are (e ∷ es) = ap (λ fs. factor (over_cell m c e) fs) (factors_are es)
 
   module _ {N : Type 0} (value : N → Fraction) where
-    sum_is : (ts : List (Term N)) → expression_of value (expr.Sum ts) ≡ sum (terms_of (map (signed_of value) ts))
-    sum_is ts = search (rules, the_lemmas)
-
-    product_is : (fs : List (Expr N)) → expression_of value (expr.Product fs)
-        ≡ product (factors_of (map (expression_of value) fs))
-    product_is fs = search (rules, the_lemmas)
-
     pub sum_over : (over : List (Term N)) {ts us : List (Term N)} {e : Expr N} → e ≡ expr.Sum ts → us ≡ ts
         → map (signed_of value) over ≡ map (signed_over m c) (map (signed_of value) us)
         → expression_of value (expr.Sum over) ≡ over_cell m c (expression_of value e)
     sum_over over {ts} {us} {e} is same made =
-        sum_is over
+        sum_is value over
         ∙ ap (λ ss. sum (terms_of ss)) (made ∙ ap (λ xs. map (signed_over m c) (map (signed_of value) xs)) same)
         ∙ ap sum (terms_are (map (signed_of value) ts))
-        ∙ ap (over_cell m c) (sym (ap (expression_of value) is ∙ sum_is ts))
+        ∙ ap (over_cell m c) (sym (ap (expression_of value) is ∙ sum_is value ts))
 
     pub product_over : (over : List (Expr N)) {fs gs : List (Expr N)} {e : Expr N} → e ≡ expr.Product fs
         → gs ≡ fs → map (expression_of value) over ≡ map (over_cell m c) (map (expression_of value) gs)
         → expression_of value (expr.Product over) ≡ over_cell m c (expression_of value e)
     product_over over {fs} {gs} {e} is same made =
-        product_is over
+        product_is value over
         ∙ ap (λ es. product (factors_of es))
         (made ∙ ap (λ xs. map (over_cell m c) (map (expression_of value) xs)) same)
         ∙ ap product (factors_are (map (expression_of value) fs))
-        ∙ ap (over_cell m c) (sym (ap (expression_of value) is ∙ product_is fs))
+        ∙ ap (over_cell m c) (sym (ap (expression_of value) is ∙ product_is value fs))
 
     -- a part of a sum over the cell
     pub part_over : (inner : Expr N) (t : Term N)

@@ -1,6 +1,6 @@
 -- How large the split model is, by the parts of the model.
 use Rattle.std.proofs.Common.{◌≡◌, ℕ, zero, suc, ◌+◌, ◌*◌, ◌<◌, List, [], ◌∷◌, ◌++◌, map, length, get_or, drop, refl, ap, sym, ◌∙◌, arith, length-append, suc-mul, zero-mul}
-use Rattle.std.specs.Prelude.{codes, flat_map, Option, Some, None, option_map, option_to_list}
+use Rattle.std.specs.Prelude.{codes, flat_map, Option, Some, None, option_to_list}
 use Rattle.std.proofs.lemmas.List.{length-map}
 use Rattle.rob_algebra.specs.Fraction.{Fraction}
 use Rattle.rob_meaning.specs.Forms.{row_forms, sides}

@@ -1,5 +1,5 @@
 -- The forms that a loop has left, and how many forms a model has.
-use Rattle.std.specs.Prelude.{◌≡◌, ℕ, suc, ◌+◌, ◌*◌, ◌≤◌, List, [], ◌∷◌, ◌++◌, length, map, drop, Option, option_map, refl}
+use Rattle.std.specs.Prelude.{◌≡◌, ℕ, suc, ◌+◌, ◌*◌, ◌≤◌, List, [], ◌∷◌, ◌++◌, length, map, drop, Option, option_map}
 use Rattle.std.proofs.Common.{sym, ◌∙◌, ap, ap₂, arith, add-one, length-append}
 use Rattle.rob_algebra.specs.Fraction.{Fraction}
 use Rattle.rob_meaning.specs.Expressions.{Expression, number, variable, adaptive}
@@ -13,7 +13,7 @@ use Rattle.rob_model.specs.declared.model.Var.{Var}
 use Rattle.rob_model.specs.declared.expr.Expr.TheVariants as Is
 use Rattle.rob_sets.proofs.WholeRows.BoundRowLemmas.{length-declared}
 use Rattle.rob_sets.proofs.Cells.PartedLemmas.{Parted}
-use Rattle.rob_sets.proofs.Expressions.LeafLemmas.{adaptive_is, variable_is}
+use Rattle.rob_model.proofs.PartLemmas.{adaptive_is, variable_is}
 use Rattle.rob_model.proofs.NameCountLemmas.{columns_many}
 
 -- ---- how many
@@ -92,7 +92,7 @@ module _ {N : Type 0} (value : N → Fraction) where
     is = ap (λ (ys : List (Var N)). variable_forms i (map (variable_of value) ys)) at
         ∙ ap₂ (λ (y : Expression) a. bound_forms y (option_map value x.lower) (option_map value x.upper)
         ++ variable_forms a (map (variable_of value) (drop (i + 1) xs)))
-        (sym (variable_is value (Is.Var n) n refl ∙ ap variable same)) (sym (add-one i));
+        (sym (variable_is value n ∙ ap variable same)) (sym (add-one i));
   }
 
   pub variables_end : (xs : List (Var N)) (i : ℕ) → drop i xs ≡ [] → other_variables xs i ≡ []
@@ -110,7 +110,7 @@ module _ {N : Type 0} (value : N → Fraction) where
     is = ap (λ (zs : List (Adaptive N)). adaptive_forms i (map (adaptive_of value) zs)) at
         ∙ ap₂ (λ (z : Expression) a. bound_forms z (option_map value y.lower) (option_map value y.upper)
         ++ adaptive_forms a (map (adaptive_of value) (drop (i + 1) ys)))
-        (sym (adaptive_is value (Is.Adaptive n) n refl ∙ ap adaptive same)) (sym (add-one i));
+        (sym (adaptive_is value n ∙ ap adaptive same)) (sym (add-one i));
   }
 
   pub rules_end : (ys : List (Adaptive N)) (i : ℕ) → drop i ys ≡ [] → other_rules ys i ≡ []

@@ -1,32 +1,19 @@
--- Expressions as they are seen, one level at a time, and sums of the first places.
-use Rattle.std.proofs.Common.{◌≡◌, ℕ, zero, suc, ◌+◌, ◌≤◌, List, [], ◌++◌, map, refl, ap, sym, ◌∙◌, rules, arith}
+-- Sums as they are seen, and sums of the first places.
+use Rattle.std.proofs.Common.{◌≡◌, ℕ, zero, suc, ◌+◌, ◌≤◌, List, [], ◌++◌, map, refl, ap, sym, ◌∙◌, arith}
 use Rattle.rob_algebra.specs.Fraction.{Fraction}
-use Rattle.rob_meaning.specs.Expressions.{Expression, parameter, variable, adaptive, sum}
+use Rattle.rob_meaning.specs.Expressions.{Expression, adaptive, sum}
 use Rattle.rob_meaning.specs.Places.{tabulate}
 use Rattle.rob_model.specs.View.{Signed, expression_of, signed_of, terms_of}
-use Rattle.rob_model.specs.declared.expr.Expr.{the_lemmas}
 use Rattle.rob_model.specs.declared.expr.Expr.TheVariants as expr
 use Rattle.rob_model.specs.declared.expr.Term.{Term}
-use Rattle.rob_model.proofs.PartLemmas.{signed_is}
+use Rattle.rob_model.proofs.PartLemmas.{signed_is, sum_is}
 use Rattle.rob_gen.specs.Generated.{added, order, total}
 
 module _ {N : Type 0} (value : N → Fraction) where
-  pub parameter_is : (k : ℕ) → expression_of value (expr.Param k) ≡ parameter k
-  parameter_is k = search (rules, the_lemmas)
-
-  pub variable_is : (k : ℕ) → expression_of value (expr.Var k) ≡ variable k
-  variable_is k = search (rules, the_lemmas)
-
-  pub adaptive_is : (k : ℕ) → expression_of value (expr.Adaptive k) ≡ adaptive k
-  adaptive_is k = search (rules, the_lemmas)
-
-  pub sum_is : (ts : List (Term N)) → expression_of value (expr.Sum ts) ≡ sum (terms_of (map (signed_of value) ts))
-  sum_is ts = search (rules, the_lemmas)
-
   -- a sum of these terms
   pub sum_of : (ts : List (Term N)) (signed : List Signed) → map (signed_of value) ts ≡ signed
       → expression_of value (expr.Sum ts) ≡ sum (terms_of signed)
-  sum_of ts signed same = sum_is ts ∙ ap (λ (xs : List Signed). sum (terms_of xs)) same
+  sum_of ts signed same = sum_is value ts ∙ ap (λ (xs : List Signed). sum (terms_of xs)) same
 
   -- a term with its sign
   pub term_is : (t : Term N) (e : Expression) → expression_of value t.inner ≡ e → signed_of value t ≡ (t.minus, e)

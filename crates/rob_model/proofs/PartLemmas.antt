@@ -1,16 +1,17 @@
--- One term of a sum, or one factor of a product, more.
-use Rattle.std.proofs.Common.{◌≡◌, ℕ, suc, ◌+◌, zero, ◌<◌, List, [], ◌∷◌, map, length, get_or, drop, ap, sym, ◌∙◌, subst}
+-- What an expression is, by its shape, and one term of a sum, or one factor of a product, more.
+use Rattle.std.proofs.Common.{◌≡◌, ℕ, suc, ◌+◌, zero, ◌<◌, List, [], ◌∷◌, map, length, get_or, drop, ap, sym, ◌∙◌, subst, rules}
 use Rattle.std.specs.Prelude.{Option, Some, None, slice_get}
 use Rattle.rob_algebra.specs.Fraction.{Fraction, ◌*ℚ◌}
 use Rattle.rob_algebra.specs.Width.{kept}
 pub use Rattle.rob_algebra.proofs.ListLemmas.{drop_at, drop_all}
-use Rattle.rob_meaning.specs.Expressions.{Expression, term, factor}
+use Rattle.rob_meaning.specs.Expressions.{Expression, adaptive, adaptive_in, factor, number, parameter, product, sum, term, variable}
 use Rattle.rob_meaning.specs.Places.{Each}
 use Rattle.rob_meaning.specs.RobustModel.{RobustModel}
 use Rattle.rob_meaning.specs.WellFormed.{IsInside, TermsInside, FactorsInside}
 use Rattle.rob_model.specs.View.{Signed, expression_of, signed_of, terms_of, factors_of, expression_step, signed_step}
 use Rattle.rob_model.specs.Within.{◌>>=◌, joined, value_within, sum_within, product_within}
-use Rattle.rob_model.specs.declared.expr.Expr.{Expr}
+use Rattle.rob_model.specs.declared.expr.Expr.{Expr, the_lemmas}
+use Rattle.rob_model.specs.declared.expr.Expr.TheVariants as expr
 use Rattle.rob_model.specs.declared.expr.Term.{Term, fold_out-Term}
 use Rattle.rob_model.proofs.KeptLemmas.{some_is}
 
@@ -37,6 +38,30 @@ stops o f h = ap (λ p. p >>= f) h
 -- a step whose number is there goes on from it
 pub goes : {A B : Type 0} (o : Option A) (f : A → Option B) (x : A) → Some x ≡ o → f x ≡ (o >>= f)
 goes o f x h = ap (λ p. p >>= f) h
+
+-- what an expression of each shape is
+module _ {N : Type 0} (value : N → Fraction) where
+  pub number_is : (x : N) → expression_of value (expr.Number x) ≡ number (value x)
+  number_is x = search (rules, the_lemmas)
+
+  pub parameter_is : (k : ℕ) → expression_of value (expr.Param k) ≡ parameter k
+  parameter_is k = search (rules, the_lemmas)
+
+  pub variable_is : (k : ℕ) → expression_of value (expr.Var k) ≡ variable k
+  variable_is k = search (rules, the_lemmas)
+
+  pub adaptive_is : (y : ℕ) → expression_of value (expr.Adaptive y) ≡ adaptive y
+  adaptive_is y = search (rules, the_lemmas)
+
+  pub adaptive_in_is : (y set : ℕ) → expression_of value (expr.AdaptiveIn y set) ≡ adaptive_in y set
+  adaptive_in_is y set = search (rules, the_lemmas)
+
+  pub sum_is : (ts : List (Term N)) → expression_of value (expr.Sum ts) ≡ sum (terms_of (map (signed_of value) ts))
+  sum_is ts = search (rules, the_lemmas)
+
+  pub product_is : (fs : List (Expr N)) → expression_of value (expr.Product fs)
+      ≡ product (factors_of (map (expression_of value) fs))
+  product_is fs = search (rules, the_lemmas)
 
 module _ {N : Type 0} (value : N → Fraction) where
   pub signed_is : (t : Term N) → signed_of value t ≡ (t.minus, expression_of value t.inner)

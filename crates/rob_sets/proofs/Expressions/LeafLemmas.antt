@@ -4,7 +4,7 @@ use Rattle.std.proofs.Common.{◌∙◌, ap, arith, rules, add-one, subst}
 use Rattle.rob_algebra.specs.Fraction.{Fraction}
 use Rattle.rob_algebra.specs.Width.{Fits}
 use Rattle.rob_meaning.specs.Coefficients.{single, table}
-use Rattle.rob_meaning.specs.Expressions.{number, parameter, variable, adaptive, adaptive_in, sum, product}
+use Rattle.rob_meaning.specs.Expressions.{number, parameter, variable, adaptive_in, sum, product}
 use Rattle.rob_meaning.specs.RobustModel.{RobustModel, column_count}
 use Rattle.rob_meaning.specs.WellFormed.{IsInside}
 use Rattle.rob_model.specs.View.{expression_of, signed_of, terms_of, factors_of}
@@ -12,6 +12,7 @@ use Rattle.rob_model.specs.declared.expr.Expr.{Expr, the_lemmas}
 use Rattle.rob_model.specs.declared.expr.Expr.TheVariants as Is
 use Rattle.rob_model.specs.declared.expr.Term.{Term}
 use Rattle.rob_model.proofs.ColumnLemmas.{column_first}
+use Rattle.rob_model.proofs.PartLemmas.{adaptive_is, number_is, parameter_is, variable_is}
 use Rattle.rob_sets.specs.Tables.{numbers_of}
 use Rattle.rob_sets.specs.Tabulating.{Tabulates}
 use Rattle.rob_sets.specs.declared.error.Stop.{Stop}
@@ -21,18 +22,6 @@ use Rattle.rob_sets.proofs.Expressions.TabulatingLemmas.{default_leaf, leaf}
 
 -- ---- what an expression is
 module _ {N : Type 0} (value : N → Fraction) (e : Expr N) where
-  pub number_is : (x : N) → e ≡ Is.Number x → expression_of value e ≡ number (value x)
-  number_is x h = search (rules, the_lemmas)
-
-  pub parameter_is : (k : ℕ) → e ≡ Is.Param k → expression_of value e ≡ parameter k
-  parameter_is k h = search (rules, the_lemmas)
-
-  pub variable_is : (k : ℕ) → e ≡ Is.Var k → expression_of value e ≡ variable k
-  variable_is k h = search (rules, the_lemmas)
-
-  pub adaptive_is : (y : ℕ) → e ≡ Is.Adaptive y → expression_of value e ≡ adaptive y
-  adaptive_is y h = search (rules, the_lemmas)
-
   pub adaptive_in_is : (y S : ℕ) → e ≡ Is.AdaptiveIn y S → expression_of value e ≡ adaptive_in y S
   adaptive_in_is y S h = search (rules, the_lemmas)
 
@@ -66,11 +55,11 @@ few_variables m = column_first (length m.variables) m.adaptives (length m.adapti
 module _ {N : Type 0} (value : N → Fraction) (m : RobustModel) {e : Expr N} where
   pub variable_inside : {k : ℕ} → e ≡ Is.Var k → IsInside m (expression_of value e) → k < column_count m
   variable_inside {k} is inside =
-      let at : k < length m.variables = subst (IsInside m) (variable_is value e k is) inside in
+      let at : k < length m.variables = subst (IsInside m) (ap (expression_of value) is ∙ variable_is value k) inside in
       omega (arith, at, few_variables m)
 
   pub adaptive_inside : {y : ℕ} → e ≡ Is.Adaptive y → IsInside m (expression_of value e) → y < length m.adaptives
-  adaptive_inside {y} is inside = subst (IsInside m) (adaptive_is value e y is) inside
+  adaptive_inside {y} is inside = subst (IsInside m) (ap (expression_of value) is ∙ adaptive_is value y) inside
 
 -- ---- the tables of expressions without parts
 module _ {N : Type 0} (value : N → Fraction) (limit : ℕ) (fits : (x : N) → Fits limit (value x)) (one : 1 ≤ limit)
@@ -79,24 +68,25 @@ module _ {N : Type 0} (value : N → Fraction) (limit : ℕ) (fits : (x : N) →
       → IfOk r (λ t. (k j : ℕ) → numbers_of value t k j ≡ table m (number (value x)) k j)
       → IfErr r (λ stop. stop ≡ Stopped.Memory) → Tabulates value limit m (expression_of value e) first last r
   number_leaf {x} is h memory =
-      leaf value limit fits one m (expression_of value e) (number (value x)) first last r (number_is value e x is) refl
-      h memory
+      leaf value limit fits one m (expression_of value e) (number (value x)) first last r
+      (ap (expression_of value) is ∙ number_is value x) refl h memory
 
   pub parameter_leaf : {d : ℕ} → e ≡ Is.Param d
       → IfOk r (λ t. (k j : ℕ) → numbers_of value t k j ≡ single (d + 1) 0 k j)
       → IfErr r (λ stop. stop ≡ Stopped.Memory) → Tabulates value limit m (expression_of value e) first last r
   parameter_leaf {d} is h memory =
-      leaf value limit fits one m (expression_of value e) (parameter d) first last r (parameter_is value e d is) refl
-      (parameter_table value m r d h) memory
+      leaf value limit fits one m (expression_of value e) (parameter d) first last r
+      (ap (expression_of value) is ∙ parameter_is value d) refl (parameter_table value m r d h) memory
 
   pub variable_leaf : {v : ℕ} → e ≡ Is.Var v
       → IfOk r (λ t. (k j : ℕ) → numbers_of value t k j ≡ single 0 (v + 1) k j)
       → IfErr r (λ stop. stop ≡ Stopped.Memory) → Tabulates value limit m (expression_of value e) first last r
   variable_leaf {v} is h memory =
-      leaf value limit fits one m (expression_of value e) (variable v) first last r (variable_is value e v is) refl
-      (variable_table value m r v h) memory
+      leaf value limit fits one m (expression_of value e) (variable v) first last r
+      (ap (expression_of value) is ∙ variable_is value v) refl (variable_table value m r v h) memory
 
   pub rule_leaf : {y : ℕ} → e ≡ Is.Adaptive y → Tabulates value limit m (adaptive_in y 0) first last r
       → Tabulates value limit m (expression_of value e) first last r
   rule_leaf {y} is h =
-      default_leaf value limit fits one m (expression_of value e) y first last r (adaptive_is value e y is) h
+      default_leaf value limit fits one m (expression_of value e) y first last r
+      (ap (expression_of value) is ∙ adaptive_is value y) h

@@ -1,6 +1,6 @@
 use Rattle.std.proofs.Common.{List, length, ap, sym, ◌∙◌, arith, ℕ}
 use Rattle.std.proofs.lemmas.List.{length-map}
-use Rattle.rob_cells.proofs.ExpressionLemmas.{variable_is}
+use Rattle.rob_model.proofs.PartLemmas.{variable_is}
 use Rattle.rob_model.proofs.GroupCounts.{few_vars}
 use Rattle.rob_meaning.specs.Expressions.{variable}
 use Rattle.rob_model.specs.View.{robust, variable_of}

@@ -3,11 +3,11 @@ use Rattle.std.proofs.lemmas.List.{length-map}
 use Rattle.std.specs.Prelude.{◌<◌, zero, length, refl}
 use Rattle.rob_meaning.specs.WellFormed.{IsExpression}
 use Rattle.rob_model.specs.View.{variable_of, robust}
-use Rattle.rob_model.specs.declared.expr.Expr.TheVariants as Is
+use Rattle.rob_model.proofs.PartLemmas.{variable_is}
 use Rattle.rob_number.proofs.CountLemmas.{later}
 use Rattle.rob_sets.proofs.Cells.ItemLemmas.{drop_item, drop_over}
 use Rattle.rob_algebra.proofs.ListLemmas.{item_inside}
-use Rattle.rob_sets.proofs.Expressions.LeafLemmas.{few_variables, variable_is}
+use Rattle.rob_sets.proofs.Expressions.LeafLemmas.{few_variables}
 use Rattle.rob_sets.proofs.Judging.ProgressLemmas.{begins, so_many}
 use Rattle.rob_elab.proofs.AppendLemmas.{forms_end, forms_go_on, forms_stop}
 use Rattle.rob_elab.proofs.LeftLemmas.{variables_at, variables_end, variables_many}
@@ -35,7 +35,7 @@ append_bounds-requires-clause-bounded g c =
       c.loop-variable.invariant.number,
       length-map c.args.model.now.vars (variable_of value),
     ) in
-    subst (IsExpression m) (sym (variable_is value (Is.Var n) n refl)) (inside, tt)
+    subst (IsExpression m) (sym (variable_is value n)) (inside, tt)
 
 pub append_bounds-requires-clause-few : goal.append_bounds-requires-clause-few
 append_bounds-requires-clause-few g c =

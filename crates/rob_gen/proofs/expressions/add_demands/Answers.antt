@@ -3,7 +3,8 @@ use Rattle.rob_meaning.specs.Expressions.{parameter}
 use Rattle.rob_meaning.specs.Places.{tabulate}
 use Rattle.rob_model.specs.View.{signed_of}
 use Rattle.rob_gen.proofs.ListLemmas.{more_behind}
-use Rattle.rob_gen.proofs.TreeLemmas.{parameter_is, term_is}
+use Rattle.rob_model.proofs.PartLemmas.{parameter_is}
+use Rattle.rob_gen.proofs.TreeLemmas.{term_is}
 use Rattle.rob_gen.proofs.expressions.add_demands.Goals as goal
 
 pub loop-place-init : goal.loop-place-init

@@ -1,7 +1,8 @@
 use Rattle.std.proofs.Common.{◌≡◌, sym, ◌∙◌, ap, arith}
 use Rattle.rob_meaning.specs.Expressions.{parameter}
 use Rattle.rob_gen.specs.Generated.{total}
-use Rattle.rob_gen.proofs.TreeLemmas.{parameter_is, total_of}
+use Rattle.rob_model.proofs.PartLemmas.{parameter_is}
+use Rattle.rob_gen.proofs.TreeLemmas.{total_of}
 use Rattle.rob_gen.proofs.expressions.all_demands.Goals as goal
 
 pub returns-then-count-eq1 : goal.returns-then-count-eq1

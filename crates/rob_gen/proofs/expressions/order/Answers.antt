@@ -1,6 +1,7 @@
 use Rattle.std.proofs.Common.{◌≡◌, ◌-◌, sym, ◌∙◌, ap, arith}
 use Rattle.rob_gen.specs.Generated.{order}
-use Rattle.rob_gen.proofs.TreeLemmas.{variable_is, adaptive_is, order_later}
+use Rattle.rob_model.proofs.PartLemmas.{adaptive_is, variable_is}
+use Rattle.rob_gen.proofs.TreeLemmas.{order_later}
 use Rattle.rob_gen.proofs.expressions.order.Goals as goal
 
 pub returns-then-place-eq0 : goal.returns-then-place-eq0
