@@ -1,16 +1,22 @@
--- The sides of the cuts, and the rows of declared bounds, one after another.
+-- The sides of the cuts, the members of budgets, and the rows of declared bounds, one after another.
 use Rattle.std.proofs.Common.{◌≡◌, ℕ, zero, suc, ◌+◌, ◌-◌, ◌<◌, List, [], ◌∷◌, ◌++◌, map, length, get_or, drop, refl, ap, sym, ◌∙◌, append_assoc, arith}
-use Rattle.std.specs.Prelude.{codes, pred}
-use Rattle.std.proofs.lemmas.List.{length-drop, length-map}
+use Rattle.std.specs.Prelude.{Option, Some, option_map, codes, pred}
+use Rattle.std.proofs.lemmas.List.{length-drop, length-map, map-append}
 use Rattle.rob_algebra.specs.Fraction.{Fraction}
 use Rattle.rob_cells.proofs.ListLemmas.{pushed_append}
+use Rattle.rob_meaning.specs.Expressions.{adaptive_in}
 use Rattle.rob_meaning.specs.RobustModel.{AdaptiveVariable, RobustModel, Row, SetLine, at_least, at_most}
 use Rattle.rob_meaning.specs.SetConditions.{if_declared}
-use Rattle.rob_model.proofs.PartLemmas.{drop_at}
-use Rattle.rob_model.specs.View.{adaptive_of}
+use Rattle.rob_model.proofs.PartLemmas.{adaptive_in_is, drop_at}
+use Rattle.rob_model.specs.View.{adaptive_of, expression_of, member_of, relation_of, row_of}
+use Rattle.rob_model.specs.declared.expr.Expr.{Expr}
+use Rattle.rob_model.specs.declared.expr.Expr.TheVariants.{AdaptiveIn}
 use Rattle.rob_model.specs.declared.model.Adaptive.{Adaptive}
+use Rattle.rob_model.specs.declared.model.Member.{Member}
+use Rattle.rob_model.specs.declared.model.Rel.{Rel}
+use Rattle.rob_model.specs.declared.model.RowDef.{RowDef}
 use Rattle.rob_pieces.specs.Cuts.{Cut, bit}
-use Rattle.rob_pieces.specs.SplitModel.{bound_row, bound_rows, side_line, side_lines}
+use Rattle.rob_pieces.specs.SplitModel.{as_side, bound_row, bound_rows, member_over, numbered, parameter_in, rule_in, side_line, side_lines}
 
 module _ {X Y : Type 0} (view : Y → SetLine) (of : X → Cut) (m : RobustModel) (c : ℕ) (xs : List X)
     (all : List SetLine) where
@@ -63,3 +69,41 @@ module _ {N : Type 0} (value : N → Fraction) (m : RobustModel) (c : ℕ) (ys :
       between behind lower upper
       ∙ ap (λ l. before ++ bound_rows m c k (map (adaptive_of value) l)) (sym (drop_at ys i y h e))
       ∙ so_far
+
+-- a member with another parameter
+abbrev pub member_in : {N : Type 0} → ℕ → Member N → Member N
+member_in n h = record { param = n; centre = h.centre; deviation = h.deviation }
+
+module _ {N : Type 0} (value : N → Fraction) (m : RobustModel) (c : ℕ) where
+  -- a member over the cell
+  pub member_made : (h : Member N) {n : ℕ} → n ≡ parameter_in m c h.param
+      → member_of value (member_in n h) ≡ member_over m c (member_of value h)
+  member_made h {n} made = ap (λ k. member_of value (member_in k h)) made
+
+  -- the row of a bound that is declared
+  pub bound_made : (k rule : ℕ) (rel : Rel) (right : Expr N) (list : List (RowDef N)) (end : List ℕ)
+      {next : List (RowDef N)} {name text whole named : List ℕ} {number : N} {bound : Option N}
+      → bound ≡ Some number → text ≡ name → whole ≡ text ++ end → named ≡ numbered whole c
+      → expression_of value right ≡ as_side (value number)
+      → next ≡ list ++ record { name = named; left = AdaptiveIn rule c; rel = rel; right = right } ∷ []
+      → rule ≡ rule_in m c k
+      → map (row_of value) next ≡ map (row_of value) list
+      ++ if_declared (bound_row m c (name ++ end) k (relation_of rel)) (option_map value bound)
+  bound_made k rule rel right list end {next} {name} {text} {whole} {named} {number} {bound} some same_text longer
+      told side pushed same_rule =
+      ap (map (row_of value)) pushed
+      ∙ map-append (row_of value) list (row ∷ [])
+      ∙ ap (λ r. map (row_of value) list ++ r ∷ []) row_is
+      ∙ ap (λ o. map (row_of value) list
+      ++ if_declared (bound_row m c (name ++ end) k (relation_of rel)) (option_map value o)) (sym some)
+    where
+      row : RowDef N
+      row = record { name = named; left = AdaptiveIn rule c; rel = rel; right = right }
+
+      row_is : row_of value row ≡ bound_row m c (name ++ end) k (relation_of rel) (value number)
+      row_is = λ i. record {
+        name = (told ∙ ap (λ (word : List ℕ). numbered word c) (longer ∙ ap (λ word. word ++ end) same_text)) i;
+        left = (adaptive_in_is value rule c ∙ ap (λ r. adaptive_in r c) same_rule) i;
+        relation = relation_of rel;
+        right = side i;
+      }

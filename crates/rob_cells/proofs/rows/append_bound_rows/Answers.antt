@@ -1,8 +1,11 @@
+use Rattle.std.proofs.Common.{◌+◌, List, map, ap, refl, arith, length}
 use Rattle.rob_algebra.proofs.ListLemmas.{item_inside, item_is}
-use Rattle.std.proofs.Common.{◌+◌, map, ap, arith, length}
 use Rattle.rob_cells.proofs.CellLemmas.{bounds_more}
+use Rattle.rob_cells.proofs.ListLemmas.{appended_all, past_of}
 use Rattle.rob_model.proofs.GroupCounts.{few_adaptives}
-use Rattle.rob_model.specs.View.{robust, row_of}
+use Rattle.rob_model.specs.View.{adaptive_of, robust, row_of}
+use Rattle.rob_model.specs.declared.model.Adaptive.{Adaptive}
+use Rattle.rob_pieces.specs.SplitModel.{bound_rows}
 use Rattle.rob_cells.proofs.rows.append_bound_rows.Goals as goal
 
 pub overflow_add-k : goal.overflow_add-k
@@ -29,5 +32,16 @@ loop-adaptive-preserved g c =
           (item_is c.loop-adaptive.adaptive-index c.items-adaptive-items.ensures.list c.adaptive-item.is)
           (c.in_ok-append_bound.ensures.appended m c.loop-adaptive.k c.rule_in-rule.ensures.number)
           (c.in_ok-append_bound-2.ensures.appended m c.loop-adaptive.k c.rule_in-rule.ensures.number)
+          c.loop-adaptive.invariant.made;
+    }
+
+pub returns : goal.returns
+returns g c =
+    let value = g.N.Exact.value in
+    record {
+      appended = appended_all (λ (ys : List (Adaptive g.row.N.Denot)).
+          bound_rows (robust value c.args.model.now) c.args.c c.loop-adaptive.k (map (adaptive_of value) ys))
+          c.args.model.now.adaptives (map (row_of value) c.loop-adaptive.list) c.loop-adaptive.adaptive-index refl
+          (past_of c.loop-adaptive.adaptive-index c.items-adaptive-items.ensures.list c.loop-adaptive-test.false)
           c.loop-adaptive.invariant.made;
     }
