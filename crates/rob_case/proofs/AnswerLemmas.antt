@@ -1,5 +1,5 @@
 -- An error that is passed on explains what the first one explained.
-use Rattle.std.proofs.Common.{◌≡◌, Option, None, Result, Ok, Err, IsErrAnd, sym, ◌∙◌}
+use Rattle.std.proofs.Common.{◌≡◌, Option, Some, None, Result, Ok, Err, IsErrAnd, sym, ◌∙◌}
 use Rattle.rob_case.specs.Answers.{Answers, Explains}
 use Rattle.rob_case.specs.declared.trouble.Trouble.{Trouble}
 
@@ -12,3 +12,7 @@ raised wanted view (Err f) e h w = (λ line. w.0 (sym h ∙ line), λ stream. w.
 pub explains_whole : {X Y : Type 0} (first : Option X) (whole : Option Y) (e : Trouble) → (first ≡ None → whole ≡ None)
     → Explains first e → Explains whole e
 explains_whole first whole e f h = (λ line. f (h.0 line), h.1)
+
+-- an error beside a value that is wanted explains that anything isn't there
+pub explains_any : {X Y : Type 0} (x : X) (whole : Option Y) (e : Trouble) → Explains (Some x) e → Explains whole e
+explains_any x whole e h = (λ line. let no : Some x ≡ None = h.0 line in absurd cc, h.1)

@@ -1,10 +1,12 @@
 -- A loop's step: what is done so far, with what is left, is the whole.
-use Rattle.std.proofs.Common.{◌≡◌, ℕ, ◌+◌, List, [], ◌∷◌, ◌++◌, Option, Some, None, refl, sym, ap, ◌∙◌, add-one}
+use Rattle.std.proofs.Common.{◌≡◌, ℕ, suc, ◌+◌, ◌<◌, ◌≤◌, List, [], ◌∷◌, ◌++◌, length, drop, get_or, map, Option, Some, None, refl, sym, ap, ◌∙◌, add-one, drop-cons, length-append, arith}
 use Rattle.std.specs.Prelude.{option_map, option_and_then}
 use mathlib.Core.List.{append_assoc}
+use Rattle.std.proofs.Math.ListN.{drop_of_length-le}
+use Rattle.std.proofs.lemmas.List.{append-nil}
 use Rattle.std.specs.Fmt.{decimal}
 use Rattle.rob_case.specs.Numbers.{of_all}
-use Rattle.rob_case.specs.Texts.{all_numbered}
+use Rattle.rob_case.specs.Texts.{all_numbered, repeated}
 
 module _ {X : Type 0} where
   -- some are done, and then those in front of what is left
@@ -29,6 +31,10 @@ module _ {X : Type 0} where
       ≡ option_map (λ more. done ++ more) (option_map (λ more. x ∷ more) behind)
   grows done x None = refl
   grows done x (Some more) = ap Some (append_assoc done (x ∷ []) more)
+
+-- one item more is there
+pub one_longer : {X : Type 0} (xs new : List X) (x : X) (n : ℕ) → new ≡ xs ++ x ∷ [] → length xs ≡ n → length new ≡ n + 1
+one_longer xs new x n e l = ap length e ∙ simp length-append (omega arith)
 
 -- where nothing comes of it, there was nothing
 pub none_from : {X Y : Type 0} (f : X → Y) (wanted : Option X) → option_map f wanted ≡ None → wanted ≡ None
@@ -55,6 +61,37 @@ module _ {X Y : Type 0} (f : X → Option Y) where
       → of_all f (xs ++ ys) ≡ option_and_then (λ some. option_map (λ more. some ++ more) (of_all f ys)) (of_all f xs)
   of_all-append [] ys = sym (nothing_before (of_all f ys))
   of_all-append (x ∷ xs) ys = rw (of_all-append xs ys) (onto (f x) (of_all f xs) (of_all f ys))
+
+  -- one item more is done
+  pub of_all-next : (done new : List Y) (xs : List X) (i : ℕ) (d : X) (y : Y) → i < length xs → f (get_or xs i d) ≡ Some y
+      → new ≡ done ++ y ∷ []
+      → option_map (λ more. new ++ more) (of_all f (drop (i + 1) xs))
+      ≡ option_map (λ more. done ++ more) (of_all f (drop i xs))
+  of_all-next done new xs i d y l e n =
+      rw (n, drop-cons xs i d, e, add-one) (grows done y (of_all f (drop (suc i) xs)))
+
+  -- of one there is nothing
+  pub of_all-stop : (xs : List X) (i : ℕ) (d : X) → i < length xs → f (get_or xs i d) ≡ None
+      → of_all f (drop i xs) ≡ None
+  of_all-stop xs i d l e = rw (drop-cons xs i d, e) refl
+
+  -- all are done
+  pub of_all-done : (done : List Y) (xs : List X) (i : ℕ) → length xs ≤ i
+      → option_map (λ more. done ++ more) (of_all f (drop i xs)) ≡ Some done
+  of_all-done done xs i l = rw (drop_of_length-le xs l) (ap Some (append-nil done))
+
+map_one : {X Y : Type 0} (f : X → Y) (xs : List X) (x : X) → map f (xs ++ x ∷ []) ≡ map f xs ++ f x ∷ []
+map_one f [] x = refl
+map_one f (z ∷ xs) x = ap (λ more. f z ∷ more) (map_one f xs x)
+
+-- a function at one item more
+pub map_behind : {X Y : Type 0} (f : X → Y) (xs new : List X) (x : X) → new ≡ xs ++ x ∷ [] → map f new ≡ map f xs ++ f x ∷ []
+map_behind f xs new x e = rw e (map_one f xs x)
+
+-- one more piece
+pub one_more_piece : (old now piece : List ℕ) (n : ℕ) → now ≡ old ++ repeated n piece
+    → now ++ piece ≡ old ++ repeated (n + 1) piece
+one_more_piece old now piece n e = rw (e, add-one n) (append_assoc old (repeated n piece) piece)
 
 -- one more numbered line
 pub one_more_line : (old now : List ℕ) (n : ℕ) (front back : List ℕ) → now ≡ old ++ all_numbered n front back

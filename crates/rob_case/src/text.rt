@@ -79,7 +79,7 @@ fn show(text: &mut String, byte: u8) -> Result<(), Trouble>
     ensures shown { Appends (string_bytes text.old) (Some (shown_byte byte))
         (string_bytes text.new) result }
 {
-    if (b' '..=b'~').contains(&byte) && byte != b'\\' {
+    if matches!(byte, b' '..=b'~') && byte != b'\\' {
         text.push(char::from(byte))?;
     } else {
         text.push('\\')?;

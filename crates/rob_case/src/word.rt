@@ -5,7 +5,7 @@ ghost use Rattle.rob_case.specs.Cases.{word_text};
 ghost use Rattle.rob_case.specs.declared.word.Word.{Word};
 
 /// What a line gives, by its first word.
-#[derive(Debug, Clone, Copy, PartialEq, Eq)]
+#[derive(Clone, Copy)]
 pub(crate) enum Word {
     /// Nothing: the line is empty.
     Nothing,
