@@ -1,93 +1,74 @@
 //! One model with the plain number type and with the quick one: what `solve` and `prove` print of it is the same.
 
-ghost use Rattle.rob_cert.specs.Shape.{HasShape};
-ghost use Rattle.rob_cert.specs.View.{certificate_of};
 ghost use Rattle.rob_model.specs.Valid.{IsValid};
-ghost use Rattle.rob_model.specs.View.{robust};
 
-use crate::cuts::Telling;
-use crate::{cuts, given};
-use rob_case::text::shown;
+use crate::answer::Answer;
+use crate::cuts::ended;
+use crate::stops::{LINE_END, stopped};
+use crate::{given, whole};
 use rob_case::{Case, Trouble};
-use rob_cert::{Cert, write_cert};
 use rob_dualize::solve_model;
-use rob_model::{Model, Spot};
+use rob_model::Model;
 use rob_number::{Exact, Tally};
-use rob_report::report_text;
-use std::alloc::Global;
-
-/// What stands between two lines, as bytes are shown.
-const LINE_END: &str = "\\0a";
 
 /// Whether the case's model is answered alike with both number types by a route, and the first line of the answer.
 pub(crate) fn compared<P: Exact, Q: Exact>(
-    alloc: Global,
+    answer: &mut Answer,
     case: &Case,
     route: &str,
-) -> Result<String, Trouble> {
-    let plain = answered::<P>(alloc, case, route)?;
-    let quick = answered::<Q>(alloc, case, route)?;
-    let word = if plain.as_str() == quick.as_str() {
-        "alike"
-    } else {
-        "not alike"
-    };
-    let first = first_line(plain.as_str());
-    Ok(format!(in alloc; "{word}: {first}")?)
+) -> Result<(), Trouble> {
+    let mut plain = Answer::new(answer.alloc);
+    answered::<P>(&mut plain, case, route)?;
+    with_plain::<Q>(answer, case, route, plain.text.as_str())
 }
 
-/// The first line of an answer, all of it where it has one line.
-fn first_line(answer: &str) -> &str {
-    match answer.split_once(LINE_END) {
-        Some((first, _)) => first,
-        None => answer,
-    }
+/// Whether it is answered with this number type as with the plain one.
+fn with_plain<Q: Exact>(
+    answer: &mut Answer,
+    case: &Case,
+    route: &str,
+    plain: &str,
+) -> Result<(), Trouble> {
+    let mut quick = Answer::new(answer.alloc);
+    answered::<Q>(&mut quick, case, route)?;
+    told(answer, plain, quick.text.as_str())
+}
+
+/// Whether two answers are alike, and the first line of the first one.
+fn told(answer: &mut Answer, plain: &str, quick: &str) -> Result<(), Trouble> {
+    answer.say(word(plain == quick))?;
+    let (first, _) = plain.split_once(LINE_END).unwrap_or((plain, ""));
+    answer.say(first)
+}
+
+/// The word for two answers that are alike, or that aren't.
+fn word(alike: bool) -> &'static str {
+    if alike { "alike: " } else { "not alike: " }
 }
 
 /// What a route prints of the case's model with these numbers. It alone has the model: what it calls is lent it.
-fn answered<N: Exact>(alloc: Global, case: &Case, route: &str) -> Result<String, Trouble> {
-    let model: Model<N> = given::model(alloc, case)?;
-    by_route(alloc, &model, route)
+fn answered<N: Exact>(answer: &mut Answer, case: &Case, route: &str) -> Result<(), Trouble> {
+    let model: Model<N> = given::model(answer.alloc, case)?;
+    by_route(answer, &model, route)
 }
 
 /// What a route prints of a model.
-fn by_route<N: Exact>(alloc: Global, model: &Model<N>, route: &str) -> Result<String, Trouble>
+fn by_route<N: Exact>(answer: &mut Answer, model: &Model<N>, route: &str) -> Result<(), Trouble>
     requires valid { IsValid N.value model.now }
 {
     match route {
-        "dual" => by_counterpart(alloc, model),
-        "cuts" => cuts::of_model(alloc, model, Telling::Prints),
+        "dual" => by_counterpart(answer, model),
+        "cuts" => whole::answer(answer, model, "cuts-text", ""),
         _ => Err(Trouble::Line),
     }
 }
 
 /// What comes of a model by its robust counterpart.
-fn by_counterpart<N: Exact>(alloc: Global, model: &Model<N>) -> Result<String, Trouble>
+fn by_counterpart<N: Exact>(answer: &mut Answer, model: &Model<N>) -> Result<(), Trouble>
     requires valid { IsValid N.value model.now }
 {
-    match solve_model(alloc, model, &mut Tally::new()) {
-        Ok(cert) => printed(alloc, model, &cert),
-        Err(stop) => cuts::stopped(alloc, &stop, Telling::Prints),
+    match solve_model(answer.alloc, model, &mut Tally::new()) {
+        Ok(cert) => ended(answer, model, cert, &[], true),
+        Err(stop) => stopped(answer, stop, true),
     }
-}
-
-/// What `solve` and then `prove` print of a certificate, as bytes are shown.
-pub(crate) fn printed<N: Exact>(
-    alloc: Global,
-    model: &Model<N>,
-    cert: &Cert<N>,
-) -> Result<String, Trouble>
-    requires valid { IsValid N.value model.now }
-    requires shape { HasShape (robust N.value model.now) (certificate_of N.value cert.now) }
-{
-    let mut text = report_text(alloc, model, cert)?;
-    let certificate = write_cert(alloc, model, cert)?;
-    text.push(certificate.bytes())?;
-    shown(alloc, text.bytes())
-}
-
-/// Where a number is wide, and in a second line all that is told of it.
-pub(crate) fn wide(alloc: Global, spot: &Spot) -> Result<String, Trouble> {
-    let place = given::wide(alloc, spot)?;
-    Ok(format!(in alloc; "{place}{LINE_END}{spot:?}")?)
 }

@@ -5,9 +5,9 @@ ghost use Rattle.rob_meaning.specs.Named.{IsNamed};
 ghost use Rattle.rob_model.specs.Valid.{IsValid};
 ghost use Rattle.rob_model.specs.View.{robust};
 
-use rob_case::numbers::{whole, wholes};
+use rob_case::numbers::{small, whole};
 use rob_case::{Case, Trouble};
-use rob_model::{Model, Spot};
+use rob_model::Model;
 use rob_number::{Exact, Tally};
 use rob_parse::read_model;
 use std::alloc::Global;
@@ -29,21 +29,11 @@ pub(crate) fn model<N: Exact>(alloc: Global, case: &Case) -> Result<Model<N>, Tr
 
 /// The numbers of columns in a line.
 pub(crate) fn columns(alloc: Global, line: &str) -> Result<Vec<u32>, Trouble> {
-    let numbers = wholes(alloc, line)?;
     let mut columns = Vec::new(alloc);
-    for number in numbers.as_slice() {
-        columns.push(column(*number)?)?;
+    for word in line.split_whitespace() {
+        columns.push(small(word)?)?;
     }
     Ok(columns)
-}
-
-/// A whole number as that of a column.
-fn column(number: i64) -> Result<u32, Trouble> {
-    if (0..=4_294_967_295).contains(&number) {
-        Ok(number as u32)
-    } else {
-        Err(Trouble::Line)
-    }
 }
 
 /// The fractions of a line.
@@ -57,10 +47,8 @@ pub(crate) fn fractions<N: Exact>(alloc: Global, line: &str) -> Result<Vec<N>, T
 
 /// The fraction of a word: a whole number, or one over another one.
 pub(crate) fn fraction<N: Exact>(word: &str) -> Result<N, Trouble> {
-    match word.split_once('/') {
-        Some((num, den)) => quotient(whole(num)?, whole(den)?),
-        None => quotient(whole(word)?, 1),
-    }
+    let (num, den) = word.split_once('/').unwrap_or((word, "1"));
+    quotient(whole(num)?, whole(den)?)
 }
 
 fn quotient<N: Exact>(num: i64, den: i64) -> Result<N, Trouble> {
@@ -70,26 +58,5 @@ fn quotient<N: Exact>(num: i64, den: i64) -> Result<N, Trouble> {
     match N::from_parts(num, den, &mut Tally::new()) {
         Ok(number) => Ok(number),
         Err(_) => Err(Trouble::Line),
-    }
-}
-
-/// The answer where no scenario is admitted: the weights of the set rows that show it.
-pub(crate) fn empty(alloc: Global, weights: &[i64]) -> Result<String, Trouble> {
-    let mut answer = String::from_str(alloc, "empty set by")?;
-    for weight in weights {
-        answer.push_str(format!(in alloc; " {weight}")?.as_str())?;
-    }
-    Ok(answer)
-}
-
-/// The answer where a number is wide: where it is, without the basis and the row of a dictionary.
-pub(crate) fn wide(alloc: Global, spot: &Spot) -> Result<String, Trouble> {
-    match spot {
-        Spot::Coefficient(part) => Ok(format!(in alloc; "wide coefficient of {part:?}")?),
-        Spot::Clearing(part) => Ok(format!(in alloc; "wide clearing of {part:?}")?),
-        Spot::Dictionary(program, _, _) => Ok(format!(in alloc; "wide row of {program:?}")?),
-        Spot::Sum(part, term) => Ok(format!(in alloc; "wide sum {term} of {part:?}")?),
-        Spot::Check(place) => Ok(format!(in alloc; "wide check of {place:?}")?),
-        Spot::Replay(line) => Ok(format!(in alloc; "wide record {line}")?),
     }
 }

@@ -3,12 +3,15 @@
 #![tactic(auto)]
 
 mod alike;
+mod answer;
 mod boxes;
 mod call;
 mod cuts;
 mod given;
+mod stops;
 mod sweep;
 mod tree;
+mod whole;
 mod worst;
 
 use call::Libraries;
