@@ -1,28 +1,23 @@
 -- How large the split model's sets are, by the parts of the model.
 use Rattle.std.proofs.Common.{◌≡◌, ℕ, zero, suc, ◌+◌, List, [], ◌∷◌, ◌++◌, map, length, refl, ap, ◌∙◌, arith, length-append}
-use Rattle.std.specs.Prelude.{pred, Option}
+use Rattle.std.specs.Prelude.{pred}
 use Rattle.std.proofs.lemmas.List.{length-map}
-use Rattle.rob_algebra.specs.Fraction.{Fraction}
 use Rattle.rob_meaning.specs.RobustModel.{Parameter, RobustModel, SetLine, budget, line}
 use Rattle.rob_meaning.specs.SetRows.{lift_count}
+use Rattle.rob_model.proofs.ConditionLemmas.{length-bound_names}
 use Rattle.rob_model.specs.GroupNames.{bound_names, parameter_bound_names}
 use Rattle.rob_pieces.specs.Cuts.{Cut, bit}
 use Rattle.rob_pieces.specs.SplitModel.{cell_lines, line_over, member_over, side_line, side_lines}
-use Rattle.rob_meaning.specs.Sizes.{declared_count}
-use Rattle.rob_meaning.proofs.Tables.SizeLemmas.{inequalities, length-both, line_rows, parameter_bounds, rows_of}
+use Rattle.rob_meaning.proofs.Tables.SizeLemmas.{inequalities, line_rows, parameter_bounds, rows_of}
 
 -- ---- the declared bounds of parameters
-both_names : (name : List ℕ) (lower upper : Option Fraction)
-    → length (bound_names name lower upper) ≡ declared_count lower upper
-both_names name lower upper = length-both _ _ lower upper
-
 pub length-parameter_bound_names : (ps : List Parameter) → length (parameter_bound_names ps) ≡ parameter_bounds ps
 length-parameter_bound_names [] = refl
 length-parameter_bound_names (p ∷ ps) =
     omega (
       arith,
       length-append (bound_names p.name p.lower p.upper) (parameter_bound_names ps),
-      both_names p.name p.lower p.upper,
+      length-bound_names p.name p.lower p.upper,
       length-parameter_bound_names ps,
     )
 

@@ -6,6 +6,7 @@ use Rattle.rob_algebra.specs.Width.{kept}
 use Rattle.rob_model.specs.GroupNames.{dotted, bound_names, parameter_bound_names}
 use Rattle.rob_meaning.specs.RobustModel.{RobustModel, Parameter}
 use Rattle.rob_meaning.specs.SetConditions.{SetCondition, lower_bound, upper_bound, stated, if_declared, bounds_from, all_stated}
+use Rattle.rob_meaning.proofs.Tables.SizeLemmas.{length-declared}
 use Rattle.rob_model.specs.View.{parameter_of, set_line_of, member_of}
 use Rattle.rob_model.specs.Within.{◌>>=◌, holds_within, declared_within, deviation_within, total_within, first_within}
 use Rattle.rob_model.proofs.PartLemmas.{drop_at, drop_all, stops, goes}
@@ -29,10 +30,6 @@ two_declared a b l u = omega (arith, l, u, few_declared a, few_declared b)
 pub count-map : {A B : Type 0} (f : A → B) (o : Option A) → count_of (option_map f o) ≡ count_of o
 count-map f None = refl
 count-map f (Some x) = refl
-
-length-declared : {A : Type 0} (f : Fraction → A) (o : Option Fraction) → length (if_declared f o) ≡ count_of o
-length-declared f None = refl
-length-declared f (Some x) = refl
 
 -- what follows from a test of condition `k`: the rest, or its number
 abbrev pub next_or : Option (Option ℕ) → ℕ → Bool → Option (Option ℕ)
@@ -221,7 +218,7 @@ module _ (limit : ℕ) (m : RobustModel) (s : Fraction) (p : List Fraction) wher
 
 -- ---- the number of declared bounds
 -- as many names as conditions
-length-bounds : (k : ℕ) (ps : List Parameter) → length (bounds_from k ps) ≡ length (parameter_bound_names ps)
+pub length-bounds : (k : ℕ) (ps : List Parameter) → length (bounds_from k ps) ≡ length (parameter_bound_names ps)
 length-bounds k [] = refl
 length-bounds k (d ∷ ps) =
     let lower = if_declared (lower_bound k) d.lower in

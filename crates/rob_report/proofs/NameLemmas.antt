@@ -1,15 +1,12 @@
 -- The names of a model's parts by their numbers, and how many conditions and columns the set has.
-use Rattle.std.proofs.Common.{◌≡◌, ℕ, zero, suc, ◌+◌, ◌*◌, ◌<◌, ◌≤◌, List, [], ◌∷◌, ◌++◌, length, arith, refl, ap, ap₂, sym, ◌∙◌, length-append}
-use Rattle.std.specs.Prelude.{codes}
+use Rattle.std.proofs.Common.{◌≡◌, ℕ, zero, suc, ◌+◌, ◌*◌, ◌<◌, ◌≤◌, List, [], ◌∷◌, ◌++◌, length, arith, refl, ap, sym, ◌∙◌, length-append}
 use Rattle.std.proofs.lemmas.List.{length-map}
 use Rattle.std.proofs.lemmas.Option.{get_or_from_slice_get}
 use Rattle.rob_algebra.specs.Fraction.{Fraction}
 use Rattle.rob_cert.specs.Spelling.{name_at}
-use Rattle.rob_meaning.proofs.Naming.NameLemmas.{both_declared}
 use Rattle.rob_meaning.specs.Names.{Name, set_column_names, set_condition_names}
-use Rattle.rob_meaning.specs.RobustModel.{Parameter, SetLine, RobustModel}
-use Rattle.rob_meaning.specs.SetConditions.{if_declared, all_stated, bounds_from, lower_bound, upper_bound, set_conditions}
-use Rattle.rob_model.specs.GroupNames.{bound_names, dotted, parameter_bound_names}
+use Rattle.rob_meaning.specs.RobustModel.{SetLine, RobustModel}
+use Rattle.rob_meaning.specs.SetConditions.{all_stated, bounds_from, set_conditions}
 use Rattle.rob_model.specs.Limits.{most_parameters}
 use Rattle.rob_model.specs.Naming.{AppendsName, set_place_names}
 use Rattle.rob_model.specs.Valid.{IsValid}
@@ -35,21 +32,6 @@ at_back (x ∷ xs) ys zero k e = absurd (omega (arith, e))
 at_back (x ∷ xs) ys (suc i) k e = at_back xs ys i k (omega (arith, e))
 
 -- ---- how many
-pub length-parameter_bound_names : (k : ℕ) (ps : List Parameter)
-    → length (parameter_bound_names ps) ≡ length (bounds_from k ps)
-length-parameter_bound_names k [] = refl
-length-parameter_bound_names k (p ∷ ps) =
-    length-append (bound_names p.name p.lower p.upper) (parameter_bound_names ps)
-    ∙ ap₂ ◌+◌
-    (length-append (if_declared (λ l. dotted p.name (codes "lower")) p.lower)
-    (if_declared (λ b. dotted p.name (codes "upper")) p.upper)
-    ∙ ap₂ ◌+◌ (both_declared (λ l. dotted p.name (codes "lower")) (lower_bound k) p.lower)
-    (both_declared (λ b. dotted p.name (codes "upper")) (upper_bound k) p.upper)
-    ∙ sym (length-append (if_declared (lower_bound k) p.lower) (if_declared (upper_bound k) p.upper)))
-    (length-parameter_bound_names (suc k) ps)
-    ∙ sym (length-append (if_declared (lower_bound k) p.lower ++ if_declared (upper_bound k) p.upper)
-    (bounds_from (suc k) ps))
-
 length-all_stated : (cs : List SetLine) → length (all_stated cs) ≡ length cs
 length-all_stated [] = refl
 length-all_stated (c ∷ cs) = ap suc (length-all_stated cs)

@@ -17,7 +17,7 @@ module _ {A B : Type 0} where
   both_append a c b d e f = length-append a c ∙ ap₂ ◌+◌ e f ∙ sym (length-append b d)
 
   -- one item for a bound, where it is declared
-  pub both_declared : (f : Fraction → A) (g : Fraction → B) (o : Option Fraction) →
+  both_declared : (f : Fraction → A) (g : Fraction → B) (o : Option Fraction) →
       length (if_declared f o) ≡ length (if_declared g o)
   both_declared f g None = refl
   both_declared f g (Some x) = refl

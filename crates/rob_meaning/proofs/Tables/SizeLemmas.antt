@@ -44,7 +44,7 @@ pub length-declared : {A : Type 0} (f : Fraction → A) (o : Option Fraction)
 length-declared f None = refl
 length-declared f (Some b) = refl
 
-pub length-both : {A : Type 0} (f g : Fraction → A) (lower upper : Option Fraction)
+length-both : {A : Type 0} (f g : Fraction → A) (lower upper : Option Fraction)
     → length (if_declared f lower ++ if_declared g upper) ≡ declared_count lower upper
 length-both f g lower upper =
     omega (
