@@ -8,7 +8,7 @@ use Rattle.rob_meaning.specs.Places.{0ℚ, Each}
 use Rattle.rob_meaning.specs.RobustModel as model
 use Rattle.rob_meaning.specs.RobustModel.{RobustModel, AdaptiveVariable}
 use Rattle.rob_meaning.proofs.Scenarios.AloneLemmas.{model_alone}
-use Rattle.rob_meaning.proofs.Lists.EachLemmas.{each_append}
+use Rattle.rob_meaning.proofs.Naming.NamedLemmas.{each_flat}
 use Rattle.rob_meaning.specs.WellFormed.{IsModel, IsExpression, IsSetSide, IsSetLine, IsMember}
 use Rattle.rob_rules.specs.declared.sort.Sort.{Sort}
 use Rattle.rob_rules.specs.declared.sort.Sort.TheVariants as sort
@@ -52,12 +52,6 @@ module _ {P Q : ℕ → Type 0} (to : (k : ℕ) → P k → Q k) where
     each_operand : (fs : Operands) → EachOperand P fs → EachOperand Q fs
     each_operand no_operands h = tt
     each_operand (operand f fs) h = (each_name f h.0, each_operand fs h.1)
-
--- what is true of the parts of each item is true of all parts
-pub each_flat : {A B : Type 0} (P : B → Type 0) (f : A → List B) (Q : A → Type 0) (to : (x : A) → Q x → Each P (f x))
-    (xs : List A) → Each Q xs → Each P (flat_map f xs)
-each_flat P f Q to [] h = tt
-each_flat P f Q to (x ∷ xs) h = each_append P (f x) (flat_map f xs) (to x h.0) (each_flat P f Q to xs h.1)
 
 module _ (limit : ℕ) (low : 1 ≤ limit) (m : RobustModel) (f : Earlier)
     (names : (k : ℕ) → Names (length m.parameters) (length m.variables) m.adaptives (sort_at f.sorts k)) where
@@ -266,13 +260,13 @@ module _ (limit : ℕ) (low : 1 ≤ limit) (m : RobustModel) (f : Earlier)
       (λ i. ap (λ (x : RobustModel). get_or x.line_sets i 0) is)
       (λ i. ap (λ (x : RobustModel). get_or x.row_sets i 0) is) (ap (λ (x : RobustModel). x.objective_set) is)
       (subst (Each (IsSetLine m)) (ap (λ (x : RobustModel). x.set_lines) (sym is))
-      (each_flat (IsSetLine m) (set_lines f.sorts) Good good_set_lines list good))
+      (each_flat (IsSetLine m) Good (set_lines f.sorts) good_set_lines list good))
       (subst (Each (λ (y : AdaptiveVariable). Each (λ k. k < length m.parameters) y.on))
       (ap (λ (x : RobustModel). x.adaptives) (sym is))
-      (each_flat _ (adaptives words f.sorts) Good (good_lists words) list good))
+      (each_flat _ Good (adaptives words f.sorts) (good_lists words) list good))
       (subst (IsExpression m) (ap (λ (x : RobustModel). x.objective) (sym is)) (good_goal list good))
       (subst (Each (λ (r : model.Row). IsExpression m r.left × IsExpression m r.right))
-      (ap (λ (x : RobustModel). x.rows) (sym is)) (each_flat _ (rows words f.sorts) Good (good_rows words) list good))
+      (ap (λ (x : RobustModel). x.rows) (sym is)) (each_flat _ Good (rows words f.sorts) (good_rows words) list good))
 
 -- what the statements of a text write
 abbrev pub written_by : (limit : ℕ) (text : List ℕ) (m : RobustModel) → ReadsModel limit text m → RobustModel

@@ -16,7 +16,7 @@ use Rattle.rob_rules.specs.Scopes.{Earlier, start}
 use Rattle.rob_parse.proofs.Sizes.LimitLemmas.{within_limits}
 use Rattle.rob_parse.proofs.Names.DeclaredLemmas.{numbers, all_declared, declared_are}
 use Rattle.rob_parse.proofs.Sets.InSets.{lines_distinct}
-use Rattle.rob_parse.proofs.Building.ModelLemmas.{each_flat}
+use Rattle.rob_meaning.proofs.Naming.NamedLemmas.{each_flat}
 use Rattle.rob_parse.proofs.Names.ChainLemmas.{model_chain, model_words}
 use Rattle.rob_parse.proofs.Names.NamedLemmas.{names_free, names_plain, names_distinct, names_spelled}
 use Rattle.rob_parse.proofs.Names.OnceLemmas.{IsInjective, IsOnce, all_once, injective, injective_start}
@@ -59,7 +59,7 @@ module _ (limit : ℕ) (words : List (List ℕ)) (list : List Statement) (f : Ea
 
   pub written_members : Each HasDistinctMembers (flat_map (set_lines f.sorts) list)
   written_members =
-      each_flat HasDistinctMembers (set_lines f.sorts) (IsOnce limit f inj) (once_members limit f inj) list once
+      each_flat HasDistinctMembers (IsOnce limit f inj) (set_lines f.sorts) (once_members limit f inj) list once
 
   pub named_parts : Each IsPlain words → AreDistinct words → length (model_of words f.sorts list).set_lines < 2 ^ 32
       → IsNamed (model_of words f.sorts list)
@@ -70,7 +70,7 @@ module _ (limit : ℕ) (words : List (List ℕ)) (list : List Statement) (f : Ea
         free = subst (Each IsFree) (sym are) (names_free words (numbers list) declared.0);
         distinct = subst AreDistinct (sym are) (names_distinct words (numbers list) apart declared.0 declared.1);
         lists =
-            each_flat (λ (y : model.AdaptiveVariable). AreDistinct y.on) (adaptives words f.sorts) (IsOnce limit f inj)
+            each_flat (λ (y : model.AdaptiveVariable). AreDistinct y.on) (IsOnce limit f inj) (adaptives words f.sorts)
             (once_list limit f inj words) list once;
         members =
             lines_distinct (written_of words f.sorts list) refl (flat_map (sets words) list)

@@ -12,7 +12,7 @@ use Rattle.rob_parse.specs.Written.{rows, set_lines}
 use Rattle.rob_parse.specs.Models.{line_sets, objective_set, row_sets, set_at, set_number}
 use Rattle.rob_rules.specs.Chains.{Chain}
 use Rattle.rob_rules.specs.Scopes.{Earlier, behind, start}
-use Rattle.rob_parse.proofs.Building.ModelLemmas.{each_flat}
+use Rattle.rob_meaning.proofs.Naming.NamedLemmas.{each_flat}
 use Rattle.rob_rules.proofs.Joining.GrowingLemmas.{nothing_at}
 use Rattle.rob_parse.proofs.Names.SortLemmas.{set_cases}
 
@@ -80,12 +80,12 @@ module _ (sorts : List (Option Sort)) (n : ℕ) (all : (k : ℕ) → set_number 
 
   pub lines_there : (list : List Statement) → Each (λ S. S < suc n) (flat_map (line_sets sorts) list)
   lines_there list =
-      each_flat (λ S. S < suc n) (line_sets sorts) (λ (s : Statement). Unit {0}) (λ s h. lines_of_one s) list
+      each_flat (λ S. S < suc n) (λ (s : Statement). Unit {0}) (line_sets sorts) (λ s h. lines_of_one s) list
       (all_units list)
 
   pub rows_there : (list : List Statement) → Each (λ S. S < suc n) (flat_map (row_sets sorts) list)
   rows_there list =
-      each_flat (λ S. S < suc n) (row_sets sorts) (λ (s : Statement). Unit {0}) (λ s h. rows_of_one s) list
+      each_flat (λ S. S < suc n) (λ (s : Statement). Unit {0}) (row_sets sorts) (λ s h. rows_of_one s) list
       (all_units list)
 
   pub objective_there : (goal : Option Goal) → objective_set sorts goal < suc n

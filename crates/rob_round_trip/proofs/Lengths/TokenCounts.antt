@@ -9,6 +9,7 @@ use Rattle.rob_meaning.specs.RobustModel as model
 use Rattle.rob_meaning.specs.RobustModel.{RobustModel}
 use Rattle.std.proofs.lemmas.List.{length-map}
 use Rattle.rob_meaning.proofs.Lists.EachLemmas.{each_append}
+use Rattle.rob_meaning.proofs.Naming.NamedLemmas.{each_flat}
 use Rattle.rob_rules.specs.declared.sort.Sort.{Sort}
 use Rattle.rob_syntax.specs.declared.syntax.Statement.{Statement}
 use Rattle.rob_syntax.specs.declared.syntax.Statement.TheVariants as parsed
@@ -24,7 +25,7 @@ use Rattle.rob_round_trip.specs.Pages.{IsShallow, ended}
 use Rattle.rob_rules.specs.Scopes.{start}
 use Rattle.rob_parse.proofs.Degrees.FitLemmas.{all_fit, goal_there}
 use Rattle.rob_parse.proofs.Names.ChainLemmas.{model_chain}
-use Rattle.rob_parse.proofs.Building.ModelLemmas.{each_flat, model_names, written_by}
+use Rattle.rob_parse.proofs.Building.ModelLemmas.{model_names, written_by}
 use Rattle.rob_round_trip.proofs.Written.PlacedModels.{is_written}
 use Rattle.rob_round_trip.proofs.Written.ReadModels.{Good, all_good}
 use Rattle.rob_round_trip.specs.Lines.{AreReadable, canonical_line}
@@ -286,12 +287,12 @@ module _ (limit : ℕ) (words : List (List ℕ)) (sorts : List (Option Sort)) (n
   lines_deep list some h =
       let join = each_append (IsShallow 0) in
       join (of_parameters list) _
-      (mapped parameter_words _ (each_flat _ (parameters words) IsLow parameters_deep list h))
-      (join (of_names list) _ (mapped declared_set_words _ (each_flat _ (sets words) IsLow names_deep list h))
+      (mapped parameter_words _ (each_flat _ IsLow (parameters words) parameters_deep list h))
+      (join (of_names list) _ (mapped declared_set_words _ (each_flat _ IsLow (sets words) names_deep list h))
       (join (of_set_lines list) _ (set_lines_deep list h)
-      (join (of_variables list) _ (mapped variable_words _ (each_flat _ (variables words) IsLow variables_deep list h))
+      (join (of_variables list) _ (mapped variable_words _ (each_flat _ IsLow (variables words) variables_deep list h))
       (join (of_adaptives list) _
-      (mapped (adaptive_words names) _ (each_flat _ (adaptives words sorts) IsLow adaptives_deep list h))
+      (mapped (adaptive_words names) _ (each_flat _ IsLow (adaptives words sorts) adaptives_deep list h))
       (goal_deep list some h, rows_deep list h)))))
 
 -- ---- the canonical text

@@ -3,6 +3,7 @@ use Rattle.std.proofs.Common.{◌≡◌, ◌≢◌, ℕ, ◌<◌, ◌≤◌, tru
 use Rattle.std.proofs.lemmas.List.{length-map}
 use Rattle.std.specs.Prelude.{None, IsSome}
 use Rattle.std.specs.List.{flat_map}
+use Rattle.rob_meaning.proofs.Naming.NamedLemmas.{each_flat}
 use Rattle.rob_meaning.specs.Places.{Each}
 use Rattle.rob_meaning.specs.RobustModel as model
 use Rattle.rob_meaning.specs.RobustModel.{RobustModel}
@@ -28,7 +29,7 @@ use Rattle.rob_rules.specs.RealTrees.{IsReal}
 use Rattle.rob_rules.specs.Scopes.{Earlier, behind, start}
 use Rattle.rob_syntax.specs.Trees.{tree_of}
 use Rattle.rob_parse.proofs.Degrees.FitLemmas.{statement_fits, goal_there}
-use Rattle.rob_parse.proofs.Building.ModelLemmas.{each_name, each_flat, stand, is_parameter, are_parameters, known_names, other_names, model_names, written_by}
+use Rattle.rob_parse.proofs.Building.ModelLemmas.{each_name, stand, is_parameter, are_parameters, known_names, other_names, model_names, written_by}
 use Rattle.rob_round_trip.proofs.Written.PlacedModels.{is_placed, is_written}
 use Rattle.rob_round_trip.proofs.Written.ReadableLemmas.{plain_number, signed_number, lower_fits, upper_fits, readable_tree}
 use Rattle.rob_parse.proofs.Names.ChainLemmas.{model_chain}
@@ -220,12 +221,12 @@ module _ (limit : ℕ) (low : 1 ≤ limit) (m : RobustModel) (names : Naming)
   parts_readable words list e chain goal none =
       let good = all_good words e list chain in
       record {
-        parameters = each_flat _ (parameters words) Good (of_parameters words) list good;
-        set_lines = each_flat _ (set_lines f.sorts) Good of_set_lines list good;
-        variables = each_flat _ (variables words) Good (of_variables words) list good;
-        adaptives = each_flat _ (adaptives words f.sorts) Good (of_adaptives words) list good;
+        parameters = each_flat _ Good (parameters words) (of_parameters words) list good;
+        set_lines = each_flat _ Good (set_lines f.sorts) of_set_lines list good;
+        variables = each_flat _ Good (variables words) (of_variables words) list good;
+        adaptives = each_flat _ Good (adaptives words f.sorts) (of_adaptives words) list good;
         objective = of_goal list good (goal_there limit words e list f chain goal none);
-        rows = each_flat _ (rows words f.sorts) Good (of_rows words) list good;
+        rows = each_flat _ Good (rows words f.sorts) (of_rows words) list good;
       }
 
 -- a model that a text reads as is readable
