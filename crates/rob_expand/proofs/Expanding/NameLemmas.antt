@@ -12,7 +12,7 @@ use Rattle.rob_index.specs.Expansion.{added, summed, ranges_of}
 use Rattle.rob_index.specs.Forms.{Ends, extensions, values_of}
 use Rattle.rob_index.specs.Fast.{names_in, nest_of}
 use Rattle.rob_index.specs.Rules.{is_long_name, plain_has_long, parts_have_long, factors_have_long, optional_has_long, has_no_member, is_no_statement}
-use Rattle.rob_index.proofs.LinesRead.ListLemmas.{or_false, any_map}
+use Rattle.rob_index.proofs.LinesRead.ListLemmas.{or_false, or_swap, any_map}
 use Rattle.rob_syntax.specs.Symbols.{add_word}
 use Rattle.rob_syntax.specs.Plain.{is_nothing}
 use Rattle.rob_settings.specs.declared.item.Item.{Item}
@@ -231,12 +231,6 @@ no_statement_is (stated.goal s e o) =
     or_both (plain_long e) (optional_long o)
     ∙ sym (list_any-append is_long_name (tree_names e) (option_to_list o))
 no_statement_is (stated.row n l r p o) = ap (λ (b : Bool). is_long_name n || b) (sides_long l p o)
-
-or_swap : (a b c d : Bool) → ((a || b) || (c || d)) ≡ ((a || c) || (b || d))
-or_swap true b c d = refl
-or_swap false true true d = refl
-or_swap false true false d = refl
-or_swap false false c d = refl
 
 -- of some statements: one lacks members, or a name is too long
 pub no_statements_are : (ps : List Statement)

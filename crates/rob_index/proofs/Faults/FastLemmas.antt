@@ -10,7 +10,7 @@ use Rattle.rob_index.specs.Forms.{weighed, value_of, minus, length_form, values_
 use Rattle.rob_index.specs.Places.{Place, of_ref, of_range, Inside}
 use Rattle.rob_index.specs.Rules.{is_long_at, is_out_at, is_long, is_out}
 use Rattle.rob_index.specs.Fast.{setting_of, unit_at, atom_form, sign_factor, nothing, steps_form, index_form, ends_of, nest_of, names_in, goes_over, goes_below, grows_long, is_long_fast, is_out_fast}
-use Rattle.rob_index.proofs.LinesRead.ListLemmas.{any_same, any_map, same_truth, natural_is, natural_low}
+use Rattle.rob_index.proofs.LinesRead.ListLemmas.{any_same, any_map, or_swap, same_truth, natural_is, natural_low}
 use Rattle.rob_index.proofs.Faults.FormLemmas.{plus_times_is, minus_is}
 use Rattle.rob_index.proofs.Faults.NestLemmas.{le_from, le_to}
 use Rattle.rob_index.proofs.Faults.DecisionLemmas.{reaches_is}
@@ -123,13 +123,7 @@ below_is v = grind (arith, ints)
 any_either : {A : Type 0} (p q : A → Bool) (xs : List A)
     → list_any (λ x. p x || q x) xs ≡ (list_any p xs || list_any q xs)
 any_either p q [] = refl
-any_either p q (x ∷ xs) = rw (any_either p q xs) (regroup (p x) (q x) (list_any p xs) (list_any q xs))
-  where
-    regroup : (a b c d : Bool) → ((a || b) || (c || d)) ≡ ((a || c) || (b || d))
-    regroup true b c d = refl
-    regroup false true true d = refl
-    regroup false true false d = refl
-    regroup false false c d = refl
+any_either p q (x ∷ xs) = rw (any_either p q xs) (or_swap (p x) (q x) (list_any p xs) (list_any q xs))
 
 -- ---- the rules
 pub grows_is : (around : List Range) (r : Range) → list_any (is_long_at r) (settings around []) ≡ grows_long around r

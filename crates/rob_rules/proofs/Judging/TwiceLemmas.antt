@@ -4,6 +4,7 @@ use Rattle.std.specs.Prelude.{◌||◌, ◌==◌}
 use Rattle.std.specs.List.{list_any}
 use Rattle.std.proofs.lemmas.List.Folds.{list_any-append}
 use Rattle.std.proofs.lemmas.Bool.Decides.{nat_tests}
+use Rattle.rob_index.proofs.LinesRead.ListLemmas.{or_swap}
 use Rattle.rob_rules.specs.declared.leaf.Leaf.{Leaf}
 use Rattle.rob_rules.specs.declared.leaf.Leaf.TheVariants as leaf
 use Rattle.rob_rules.specs.Faults.{is_name, has_twice}
@@ -27,12 +28,6 @@ one_more seen k (leaf.Name j) =
     list_any-append (λ i. j == i) seen (k ∷ []) ∙ ap (λ b. list_any (λ i. j == i) seen || b) (same_either_way j k)
 one_more seen k (leaf.Number _) = refl
 
-regroup : (a b c d : Bool) → (a || c) || (b || d) ≡ (a || b) || (c || d)
-regroup true b c d = refl
-regroup false true true d = refl
-regroup false true false d = refl
-regroup false false c d = refl
-
 regroup_more : (a b c d : Bool) → a || ((b || c) || d) ≡ (a || b) || (c || d)
 regroup_more true b c d = refl
 regroup_more false true c d = refl
@@ -43,7 +38,7 @@ any_more : (seen : List ℕ) (k : ℕ) (rest : List Leaf)
 any_more seen k [] = refl
 any_more seen k (s ∷ rest) =
     (λ i. one_more seen k s i || any_more seen k rest i)
-    ∙ regroup (is_seen seen s) (list_any (is_seen seen) rest) (is_name k s) (list_any (is_name k) rest)
+    ∙ or_swap (is_seen seen s) (is_name k s) (list_any (is_seen seen) rest) (list_any (is_name k) rest)
 
 again : (seen : List ℕ) (rest : List Leaf) → comes_again seen rest ≡ list_any (is_seen seen) rest || has_twice rest
 again seen [] = refl
