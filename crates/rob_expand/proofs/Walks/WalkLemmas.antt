@@ -114,11 +114,6 @@ module _ {A B : Type 0} (f : A → List B) where
   made_all done old is so_far =
       sym (append-nil done) ∙ ap (λ (l : List A). done ++ flat_map f l) (sym is) ∙ so_far
 
--- one item for each
-pub map_flat : {A B : Type 0} (f : A → B) (xs : List A) → map f xs ≡ flat_map (λ x. f x ∷ []) xs
-map_flat f [] = refl
-map_flat f (x ∷ xs) = ap (λ (l : List _). f x ∷ l) (map_flat f xs)
-
 pub flat_mapped : {A B C : Type 0} (f : B → List C) (g : A → B) (xs : List A)
     → flat_map f (map g xs) ≡ flat_map (λ x. f (g x)) xs
 flat_mapped f g [] = refl

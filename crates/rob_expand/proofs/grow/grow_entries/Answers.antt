@@ -1,11 +1,12 @@
-use Rattle.std.proofs.Common.{List, ap, sym, ◌∙◌, [], ◌∷◌}
+use Rattle.std.proofs.Common.{List, ap, ◌∙◌, [], ◌∷◌}
 use Rattle.std.specs.Prelude.{ℤ, fold}
 use Rattle.std.specs.List.{list_any}
+use Rattle.std.proofs.lemmas.List.Concat.{flat_map_single}
 use Rattle.rob_algebra.proofs.ListLemmas.{drop_at, drop_all}
 use Rattle.rob_index.specs.Rules.{is_long_name}
 use Rattle.rob_syntax.specs.Known.{texts}
 use Rattle.rob_expand.specs.Growing.{add_name, named_at}
-use Rattle.rob_expand.proofs.Walks.WalkLemmas.{words_more, words_all, long_more, long_all, map_flat}
+use Rattle.rob_expand.proofs.Walks.WalkLemmas.{words_more, words_all, long_more, long_all}
 use Rattle.rob_expand.proofs.grow.grow_entries.Goals as goal
 
 pub loop-setting-preserved : goal.loop-setting-preserved
@@ -31,11 +32,11 @@ pub returns : goal.returns
 returns c =
     let f = (λ (e : List ℤ). named_at (texts c.args.own.now.keys) c.args.name.now e ∷ []) in
     let none = drop_all c.loop-setting.setting-index c.args.settings.now c.loop-setting-test.false in
-    let same = map_flat (named_at (texts c.args.own.now.keys) c.args.name.now) c.args.settings.now in
+    let same = flat_map_single (named_at (texts c.args.own.now.keys) c.args.name.now) c.args.settings.now in
     record {
       words =
           words_all f _ _ none c.loop-setting.invariant.words
-          ∙ ap (fold add_name (texts c.args.words.now.keys)) (sym same);
+          ∙ ap (fold add_name (texts c.args.words.now.keys)) same;
       long = long_all f c.loop-setting.long _ none c.loop-setting.invariant.long
-          ∙ ap (list_any is_long_name) (sym same);
+          ∙ ap (list_any is_long_name) same;
     }

@@ -1,5 +1,6 @@
-use Rattle.std.proofs.Common.{List, [], ◌∷◌, ◌++◌, ap, sym, ◌∙◌}
+use Rattle.std.proofs.Common.{List, [], ◌∷◌, ◌++◌, ap, ◌∙◌}
 use Rattle.std.specs.Prelude.{ℤ}
+use Rattle.std.proofs.lemmas.List.Concat.{flat_map_single}
 use Rattle.rob_algebra.proofs.ListLemmas.{drop_at, drop_all}
 use Rattle.rob_syntax.specs.declared.syntax.Statement.{Statement}
 use Rattle.rob_syntax.specs.Known.{texts}
@@ -11,7 +12,7 @@ use Rattle.rob_expand.specs.Growing.{printed}
 use Rattle.rob_expand.specs.Instances.{instance}
 use Rattle.rob_settings.specs.Spots.{IsThin}
 use Rattle.rob_settings.proofs.SpotLemmas.{thin_along}
-use Rattle.rob_expand.proofs.Walks.WalkLemmas.{made_more, made_all, map_flat}
+use Rattle.rob_expand.proofs.Walks.WalkLemmas.{made_more, made_all}
 use Rattle.rob_expand.proofs.instance.append_instances.Goals as goal
 
 pub make_statement-requires : goal.make_statement-requires
@@ -45,5 +46,5 @@ returns c =
       appended =
           made_all (λ (s : Spot). f s ∷ []) c.loop-spot.list _
           (drop_all c.loop-spot.spot-index c.args.spots.now c.loop-spot-test.false) c.loop-spot.invariant
-          ∙ ap (λ (l : List Statement). c.args.list.now ++ l) (sym (map_flat f c.args.spots.now));
+          ∙ ap (λ (l : List Statement). c.args.list.now ++ l) (flat_map_single f c.args.spots.now);
     }

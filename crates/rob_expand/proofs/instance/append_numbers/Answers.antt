@@ -1,10 +1,11 @@
 use Rattle.std.proofs.Common.{ℕ, List, [], ◌∷◌, ◌++◌, ap, sym, ◌∙◌}
 use Rattle.std.specs.Prelude.{ℤ}
+use Rattle.std.proofs.lemmas.List.Concat.{flat_map_single}
 use Rattle.rob_algebra.proofs.ListLemmas.{map_map, drop_at, drop_all}
 use Rattle.rob_syntax.specs.Known.{texts}
 use Rattle.rob_syntax.specs.Symbols.{number_of}
 use Rattle.rob_expand.specs.Growing.{named_at}
-use Rattle.rob_expand.proofs.Walks.WalkLemmas.{made_more, made_all, map_flat}
+use Rattle.rob_expand.proofs.Walks.WalkLemmas.{made_more, made_all}
 use Rattle.rob_expand.proofs.instance.append_numbers.Goals as goal
 
 pub loop-setting-preserved : goal.loop-setting-preserved
@@ -31,5 +32,5 @@ returns c = record {
       ∙ ap (λ (l : List ℕ). c.args.numbers.now ++ l)
       (sym (map_map (number_of (texts c.args.names.words.now.keys))
       (named_at (texts c.args.names.own.now.keys) c.args.name.now)
-      c.args.settings.now ∙ map_flat f c.args.settings.now));
+      c.args.settings.now ∙ sym (flat_map_single f c.args.settings.now)));
 }
