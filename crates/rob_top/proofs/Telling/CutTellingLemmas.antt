@@ -1,7 +1,7 @@
 -- The cuts that a word spells, read from the left; and that it spells one list of cuts.
 use Rattle.std.proofs.Common.{pos, ◌≡◌, ◌≤◌, ◌<◌, ◌==◌, ◌+◌, ◌∙◌, ℕ, List, [], ◌∷◌, ◌++◌, length, map, Option, None, Some, Bool, true, false, inl, inr, refl, sym, ap, subst, arith}
 use Rattle.std.proofs.lemmas.Bool.{cases_Bool}
-use Rattle.std.proofs.lemmas.List.{length-map, map-append}
+use Rattle.std.proofs.lemmas.List.{length-map}
 use Rattle.std.proofs.lemmas.Option.{get_or_from_slice_get, slice_get_within}
 use Rattle.std.specs.Prelude.{slice_get}
 use Rattle.rob_algebra.specs.Fraction.{of_pair}
@@ -140,10 +140,6 @@ module _ (m : RobustModel) where
 pub not_three_told : {A B : Type 0} (f : A → B) (xs ys : List A) → xs ≡ ys → (length xs ≡ 3 → ⊥)
     → length (map f ys) ≡ 3 → ⊥
 not_three_told f xs ys same other full = other (ap (λ zs. length zs) same ∙ sym (length-map ys f) ∙ full)
-
-pub told_grown : {A B : Type 0} (f : A → B) (xs ys : List A) (x : A) → ys ≡ xs ++ x ∷ []
-    → map f xs ++ f x ∷ [] ≡ map f ys
-told_grown f xs ys x e = sym (ap (map f) e ∙ map-append f xs (x ∷ []))
 
 pub told_count : {A B : Type 0} (f : A → B) (xs : List A) → (0 < length (map f xs)) × (length (map f xs) ≤ 3)
     → (0 < length xs) × (length xs ≤ 3)

@@ -1,9 +1,10 @@
-use Rattle.std.proofs.Common.{ap, arith, map, refl, subst}
+use Rattle.std.proofs.Common.{ap, arith, map, refl, subst, sym}
 use Rattle.std.specs.Prelude.{option_map}
 use Rattle.rob_cells.specs.View.{cut_of}
 use Rattle.rob_model.specs.View.{robust}
+use Rattle.rob_syntax.proofs.Fronts.PartLemmas.{pushed}
 use Rattle.rob_words.specs.Names.{parts_behind, parts_of}
-use Rattle.rob_top.proofs.Telling.CutTellingLemmas.{HasTold, no_cut, not_three_told, some_part, told_all, told_count, told_grown, told_more, told_part}
+use Rattle.rob_top.proofs.Telling.CutTellingLemmas.{HasTold, no_cut, not_three_told, some_part, told_all, told_count, told_more, told_part}
 use Rattle.rob_top.proofs.splitting.cuts_of.Goals as goal
 
 pub returns-in_default-cut_at-clause-cuts : goal.returns-in_default-cut_at-clause-cuts
@@ -26,7 +27,7 @@ loop-rest-preserved g c =
     let told = map f c.loop-rest.cuts in
     let behind = option_map (λ word. word.now) c.first_part.result.1 in (
       subst (λ cuts. HasTold m g.N.Exact.limit all cuts (parts_behind behind))
-          (told_grown f c.loop-rest.cuts c.push.new.self c.in-Some-cut_at.next c.in_ok-push.ensures.appended)
+          (sym (pushed f c.loop-rest.cuts c.in-Some-cut_at.next c.in_ok-push.ensures.appended))
           (told_more m g.N.Exact.limit all told c.first_part.result.0.now (parts_behind behind)
           (told_part m g.N.Exact.limit all told (option_map (λ word. word.now) c.loop-rest.rest) c.in-Some.word.now
           c.first_part.result.0.now behind c.loop-rest.invariant.0 (ap (option_map (λ word. word.now)) c.in-Some.is)
