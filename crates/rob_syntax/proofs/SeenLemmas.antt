@@ -1,5 +1,7 @@
--- The symbols of the definitions are those of the code, one for one.
+-- The symbols of the definitions are those of the code, one for one, and so are bounds, relations and senses.
 use Rattle.std.proofs.Common.{◌≡◌, refl, ap}
+use Rattle.std.specs.Prelude.{Option, Some, None}
+use Rattle.std.specs.Option.{option_map}
 use Rattle.rob_index.specs.Symbols as index
 use Rattle.rob_syntax.specs.declared.symbol.Mark.{Mark}
 use Rattle.rob_syntax.specs.declared.symbol.Mark.TheVariants as mark
@@ -7,6 +9,14 @@ use Rattle.rob_syntax.specs.declared.symbol.Keyword.{Keyword}
 use Rattle.rob_syntax.specs.declared.symbol.Keyword.TheVariants as word
 use Rattle.rob_syntax.specs.declared.symbol.Symbol.{Symbol}
 use Rattle.rob_syntax.specs.declared.symbol.Symbol.TheVariants.{Name, Digits, Sign, Reserved}
+use Rattle.rob_syntax.specs.declared.syntax.Bounds.{Bounds}
+use Rattle.rob_syntax.specs.declared.syntax.Bounds.TheVariants.{Between, AtLeast, AtMost}
+use Rattle.rob_syntax.specs.declared.syntax.Rel.{Rel}
+use Rattle.rob_syntax.specs.declared.syntax.Rel.TheVariants as rel
+use Rattle.rob_syntax.specs.declared.syntax.Sense.{Sense}
+use Rattle.rob_syntax.specs.declared.syntax.Sense.TheVariants as sense
+use Rattle.rob_syntax.specs.Numbered.{own_bounds, own_rel, own_sense}
+use Rattle.rob_syntax.specs.Seen.{seen_bounds, seen_rel, seen_sense}
 use Rattle.rob_syntax.specs.SeenSymbols.{seen_mark, seen_keyword, seen_symbol}
 
 -- the code's sign
@@ -91,3 +101,19 @@ own-seen_symbol (Name k) = refl
 own-seen_symbol (Digits n) = refl
 own-seen_symbol (Sign m) = ap Sign (own-seen_mark m)
 own-seen_symbol (Reserved w) = ap Reserved (own-seen_keyword w)
+
+-- ---- what is seen, as it is written
+pub own-seen_bounds : (b : Option Bounds) → option_map own_bounds (option_map seen_bounds b) ≡ b
+own-seen_bounds None = refl
+own-seen_bounds (Some (Between both)) = refl
+own-seen_bounds (Some (AtLeast a)) = refl
+own-seen_bounds (Some (AtMost b)) = refl
+
+pub own-seen_rel : (r : Rel) → own_rel (seen_rel r) ≡ r
+own-seen_rel rel.AtMost = refl
+own-seen_rel rel.AtLeast = refl
+own-seen_rel rel.Equal = refl
+
+pub own-seen_sense : (s : Sense) → own_sense (seen_sense s) ≡ s
+own-seen_sense sense.Minimise = refl
+own-seen_sense sense.Maximise = refl

@@ -1,6 +1,6 @@
 -- What is made of a statement in a setting is its instance, with the numbers of words for names.
 use Rattle.std.proofs.Common.{◌≡◌, ℕ, false, List, [], ◌∷◌, ◌++◌, ◌<◌, ◌≤◌, ◌-◌, map, get_or, take, drop, length, refl, sym, ap, ◌∙◌, subst, arith}
-use Rattle.std.specs.Prelude.{ℤ, Option, Some, None, unwrap_or}
+use Rattle.std.specs.Prelude.{ℤ, Option, Some, unwrap_or}
 use Rattle.std.specs.Option.{option_map}
 use Rattle.std.specs.List.{flat_map}
 use Rattle.std.proofs.lemmas.List.{length-append, take_all}
@@ -10,12 +10,7 @@ use Rattle.rob_index.specs.Statements as stated
 use Rattle.rob_index.specs.Expansion.{added, summed, ranges_of}
 use Rattle.rob_index.specs.Forms.{extensions}
 use Rattle.rob_index.specs.Fast.{names_in, nest_of}
-use Rattle.rob_syntax.specs.declared.syntax.Bounds.{Bounds}
-use Rattle.rob_syntax.specs.declared.syntax.Bounds.TheVariants.{Between, AtLeast, AtMost}
 use Rattle.rob_syntax.specs.declared.syntax.Rel.{Rel}
-use Rattle.rob_syntax.specs.declared.syntax.Rel.TheVariants as rel
-use Rattle.rob_syntax.specs.declared.syntax.Sense.{Sense}
-use Rattle.rob_syntax.specs.declared.syntax.Sense.TheVariants as sense
 use Rattle.rob_syntax.specs.declared.syntax.Syntax.{Syntax}
 use Rattle.rob_syntax.specs.declared.syntax.Syntax.TheVariants as syntax
 use Rattle.rob_syntax.specs.declared.syntax.Summand.{Summand}
@@ -33,8 +28,8 @@ use Rattle.rob_syntax.specs.declared.syntax.Indexed.TheVariants as parsed
 use Rattle.rob_syntax.specs.declared.syntax.Relation.{Relation}
 use Rattle.rob_syntax.specs.declared.syntax.Statement.{Statement as CodeStatement}
 use Rattle.rob_syntax.specs.declared.syntax.Statement.TheVariants as code
-use Rattle.rob_syntax.specs.Numbered.{own_bounds, own_rel, own_sense, numbered_tree, numbered_parts, numbered_member, numbered_over, numbered_relation, numbered}
-use Rattle.rob_syntax.specs.Seen.{seen_bounds, seen_rel, seen_sense, seen_share, seen_ranged, seen_ranges, seen_ref, seen_tree, seen_statement}
+use Rattle.rob_syntax.specs.Numbered.{numbered_tree, numbered_parts, numbered_member, numbered_over, numbered_relation, numbered}
+use Rattle.rob_syntax.specs.Seen.{seen_rel, seen_share, seen_ranged, seen_ranges, seen_ref, seen_tree, seen_statement}
 use Rattle.rob_syntax.specs.Symbols.{number_of}
 use Rattle.rob_settings.specs.declared.item.Item.{Item}
 use Rattle.rob_expand.specs.declared.line.Line.{Line}
@@ -53,6 +48,7 @@ use Rattle.rob_expand.proofs.Values.TreesLemmas.{first_tree, second_tree}
 use Rattle.rob_expand.proofs.Walks.WalkLemmas.{flat_mapped}
 use Rattle.rob_expand.proofs.Expanding.NameLemmas.{set_is, items_are}
 use Rattle.rob_index.proofs.Faults.FastLemmas.{map_flat, flat_same}
+use Rattle.rob_syntax.proofs.SeenLemmas.{own-seen_bounds, own-seen_sense}
 
 -- ---- expressions
 module _ (own words : List Name) (vs : List ℤ) where
@@ -121,22 +117,6 @@ module _ (own words : List Name) (vs : List ℤ) where
       ap (λ (n : ℕ). numbered_tree words (first_at own (map placed_of (take n ts)) vs)) all
       ∙ ap (λ (l : List Code). numbered_tree words (first_at own (map placed_of l) vs))
       (take_all (length ts) ts (omega arith))
-
--- ---- what is as it is written
-pub rel_same : (r : Rel) → r ≡ own_rel (seen_rel r)
-rel_same rel.AtMost = refl
-rel_same rel.AtLeast = refl
-rel_same rel.Equal = refl
-
-pub sense_same : (s : Sense) → s ≡ own_sense (seen_sense s)
-sense_same sense.Minimise = refl
-sense_same sense.Maximise = refl
-
-pub bounds_same : (b : Option Bounds) → b ≡ option_map own_bounds (option_map seen_bounds b)
-bounds_same None = refl
-bounds_same (Some (Between both)) = refl
-bounds_same (Some (AtLeast a)) = refl
-bounds_same (Some (AtMost b)) = refl
 
 -- ---- the members of a budget
 module _ (own words : List Name) (vs : List ℤ) where
@@ -221,7 +201,7 @@ module _ (own words : List Name) (vs : List ℤ) (s : CodeIndexed) (line : Line)
   uncertain_made x here =
       let y : CodeIndexed = parsed.Uncertain x in
       let n = head_made own words vs (seen_statement y) line (line_at y here) (seen_ref x.name) refl in
-      let b = bounds_same x.bounds in
+      let b = sym (own-seen_bounds x.bounds) in
       let e : code.Uncertain (record { name = head_in own words line vs; bounds = x.bounds }) ≡ plain y =
       λ i. code.Uncertain (record { name = n i; bounds = b i }) in
       e ∙ ap plain (sym here)
@@ -231,7 +211,7 @@ module _ (own words : List Name) (vs : List ℤ) (s : CodeIndexed) (line : Line)
   var_made x here =
       let y : CodeIndexed = parsed.Var x in
       let n = head_made own words vs (seen_statement y) line (line_at y here) (seen_ref x.name) refl in
-      let b = bounds_same x.bounds in
+      let b = sym (own-seen_bounds x.bounds) in
       let e : code.Var (record { name = head_in own words line vs; bounds = x.bounds }) ≡ plain y =
       λ i. code.Var (record { name = n i; bounds = b i }) in
       e ∙ ap plain (sym here)
@@ -278,7 +258,7 @@ module _ (own words : List Name) (vs : List ℤ) (s : CodeIndexed) (line : Line)
       let t = ap (numbered_tree words)
       (first_made own words vs (seen_statement y) line (line_at y here) (seen_tree x.objective) [] refl) in
       let o = ap (numbered_over words) (set_made own words vs (seen_statement y) line (line_at y here)) in
-      let n = sense_same x.sense in
+      let n = sym (own-seen_sense x.sense) in
       let e : code.Goal (record {
         sense = x.sense;
         objective = numbered_tree words (first_at own (map placed_of line.trees) vs);
@@ -308,7 +288,7 @@ module _ (own words : List Name) (vs : List ℤ) (s : CodeIndexed) (line : Line)
       let y : CodeIndexed = parsed.Adaptive x in
       let il = line_at y here in
       let n = head_made own words vs (seen_statement y) line il (seen_ref x.name) refl in
-      let b = bounds_same x.bounds in
+      let b = sym (own-seen_bounds x.bounds) in
       let l = ap (map (number_of words))
       (ap (flat_map (λ (i : Item). item_names own i vs)) il.items_are
       ∙ sym (items_are own vs (names_in [] (seen_ranges x.ranges)) (map (seen_ranged seen_ref) x.on))) in

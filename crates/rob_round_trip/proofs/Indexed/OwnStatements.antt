@@ -9,7 +9,8 @@ use Rattle.rob_index.specs.Lines as lines
 use Rattle.rob_index.specs.Statements as stated
 use Rattle.rob_index.specs.Statements.{Indexed, Ranged, Ref, Share, Tree, TreeFactors, TreeParts}
 use Rattle.rob_round_trip.proofs.Indexed.PlainExpressions.{plain_expr, plain_factor, plain_factors, plain_term, plain_terms}
-use Rattle.rob_round_trip.proofs.Indexed.PlainLines.{bare_entry, bare_over, bare_share, bounds_back, is_line, line_seen, plain_line, plain_sides, rel_back, sense_back}
+use Rattle.rob_round_trip.proofs.Indexed.PlainLines.{bare_entry, bare_over, bare_share, is_line, line_seen, plain_line, plain_sides}
+use Rattle.rob_syntax.proofs.SeenLemmas.{own-seen_bounds, own-seen_rel, own-seen_sense}
 use Rattle.rob_syntax.specs.Grammar.{Expr, Factor, Factors, Term, Terms, expr, name, no_factors, no_terms, number, parens, signed, term, times, tree_expr, tree_factor, tree_factors, tree_term, tree_terms}
 use Rattle.rob_syntax.specs.Numbered.{own_bounds, own_numeral, own_rel, own_sense, own_signed}
 use Rattle.rob_syntax.specs.SeenSymbols.{seen_line}
@@ -133,10 +134,10 @@ same_sides s =
     let first = same_expr s.left in
     let second = same_expr s.right.inner in
     let over = same_over s.right.over in
-    λ i. record { left = first i; rel = rel_back s.rel i; right = second i; over = over i }
+    λ i. record { left = first i; rel = own-seen_rel s.rel i; right = second i; over = over i }
 
 same_line : (l : Line) → own_statement (plain_line l) ≡ statement_of l
-same_line (line.uncertain d) = λ i. parsed.Uncertain (record { name = d.name; bounds = bounds_back d.bounds i })
+same_line (line.uncertain d) = λ i. parsed.Uncertain (record { name = d.name; bounds = own-seen_bounds d.bounds i })
 same_line (line.over k) = refl
 same_line (line.set s) = ap parsed.Set (same_sides s)
 same_line (line.budget s) =
@@ -148,14 +149,14 @@ same_line (line.budget s) =
       members = record { name = m.first.name; spread = m.first.spread } ∷ more i;
       over = over i;
     })
-same_line (line.variable d) = λ i. parsed.Var (record { name = d.name; bounds = bounds_back d.bounds i })
+same_line (line.variable d) = λ i. parsed.Var (record { name = d.name; bounds = own-seen_bounds d.bounds i })
 same_line (line.adaptive p) =
     let on = same_names p.on in
-    λ i. parsed.Adaptive (record { name = p.name; on = on i; bounds = bounds_back p.bounds i })
+    λ i. parsed.Adaptive (record { name = p.name; on = on i; bounds = own-seen_bounds p.bounds i })
 same_line (line.goal s e) =
     let objective = same_expr e.inner in
     let over = same_over e.over in
-    λ i. parsed.Goal (record { sense = sense_back s i; objective = objective i; over = over i })
+    λ i. parsed.Goal (record { sense = own-seen_sense s i; objective = objective i; over = over i })
 same_line (line.row t) =
     let relation = same_sides t.sides in
     λ i. parsed.Row (record { name = t.name; relation = relation i })

@@ -20,9 +20,10 @@ use Rattle.rob_index.specs.Symbols as is
 use Rattle.rob_meaning.proofs.Lists.EachLemmas.{each_left, each_right}
 use Rattle.rob_round_trip.proofs.Indexed.PlainExpressions.{AreFound, back_expr, bare_ref, plain_expr, plain_of_expr, seen_both, seen_expr, seen_minus, seen_next, seen_number}
 use Rattle.rob_round_trip.specs.Shown.{IsFoundAgain}
+use Rattle.rob_syntax.proofs.SeenLemmas.{own-seen_bounds, own-seen_rel, own-seen_sense}
 use Rattle.rob_syntax.specs.Grammar.{spell_expr, spell_minus, spell_number}
 use Rattle.rob_syntax.specs.Lists.{spell_list, spell_more}
-use Rattle.rob_syntax.specs.Numbered.{numbered, numbered_member, numbered_relation, own_bounds, own_rel, own_sense}
+use Rattle.rob_syntax.specs.Numbered.{numbered, numbered_member, numbered_relation}
 use Rattle.rob_syntax.specs.SeenSymbols.{seen_line, seen_symbol}
 use Rattle.rob_syntax.specs.Seen.{seen_bounds, seen_numeral, seen_rel, seen_sense, seen_signed}
 use Rattle.rob_syntax.specs.Statements.{IsStatement, Line, Sides, members_of, relation_of, spell_line, spell_member, spell_members, spell_name, spell_optional, spell_over, spell_rel, spell_sense, spell_sides, spell_signed, statement_of}
@@ -238,21 +239,6 @@ is_plain (line.goal s e) = (plain_of_expr e.inner, over_plain e.over, refl)
 is_plain (line.row t) = (refl, sides_plain t.sides, refl)
 
 -- ---- with numbers for names it is the reader's statement
-pub bounds_back : (b : Option Bounds) → option_map own_bounds (option_map seen_bounds b) ≡ b
-bounds_back None = refl
-bounds_back (Some (Between both)) = refl
-bounds_back (Some (AtLeast a)) = refl
-bounds_back (Some (AtMost b)) = refl
-
-pub rel_back : (r : Rel) → own_rel (seen_rel r) ≡ r
-rel_back rel.AtMost = refl
-rel_back rel.AtLeast = refl
-rel_back rel.Equal = refl
-
-pub sense_back : (s : Sense) → own_sense (seen_sense s) ≡ s
-sense_back sense.Minimise = refl
-sense_back sense.Maximise = refl
-
 module _ (words : List (List ℕ)) where
   abbrev Found : List Symbol → Type 0
   Found symbols = AreFound words symbols
@@ -295,11 +281,11 @@ module _ (words : List (List ℕ)) where
       let first = back_expr words s.left (left (spell_expr s.left) (spell_rel s.rel ∷ end) h) in
       let second = back_expr words s.right.inner (left (spell_expr s.right.inner) (spell_over s.right.over) behind.1) in
       let over = over_back s.right.over (right (spell_expr s.right.inner) (spell_over s.right.over) behind.1) in
-      λ i. record { left = first i; rel = rel_back s.rel i; right = second i; over = over i }
+      λ i. record { left = first i; rel = own-seen_rel s.rel i; right = second i; over = over i }
 
   line_back : (l : Line) → Found (spell_line l)
       → numbered words (itself_line words (lines.statement_of (plain_line l))) ≡ statement_of l
-  line_back (line.uncertain d) h = λ i. parsed.Uncertain (record { name = h.1.0 i; bounds = bounds_back d.bounds i })
+  line_back (line.uncertain d) h = λ i. parsed.Uncertain (record { name = h.1.0 i; bounds = own-seen_bounds d.bounds i })
   line_back (line.over k) h = ap parsed.Over h.1.0
   line_back (line.set s) h = ap parsed.Set (sides_back s h.1)
   line_back (line.budget s) h =
@@ -315,14 +301,14 @@ module _ (words : List (List ℕ)) where
         members = record { name = first.0 i; spread = m.first.spread } ∷ more i;
         over = over i;
       })
-  line_back (line.variable d) h = λ i. parsed.Var (record { name = h.1.0 i; bounds = bounds_back d.bounds i })
+  line_back (line.variable d) h = λ i. parsed.Var (record { name = h.1.0 i; bounds = own-seen_bounds d.bounds i })
   line_back (line.adaptive p) h =
       let on = list_back p.on (left (spell_list spell_name p.on) (Sign mark.Close ∷ spell_optional p.bounds) h.1.1.1) in
-      λ i. parsed.Adaptive (record { name = h.1.0 i; on = on i; bounds = bounds_back p.bounds i })
+      λ i. parsed.Adaptive (record { name = h.1.0 i; on = on i; bounds = own-seen_bounds p.bounds i })
   line_back (line.goal s e) h =
       let objective = back_expr words e.inner (left (spell_expr e.inner) (spell_over e.over) h.1) in
       let over = over_back e.over (right (spell_expr e.inner) (spell_over e.over) h.1) in
-      λ i. parsed.Goal (record { sense = sense_back s i; objective = objective i; over = over i })
+      λ i. parsed.Goal (record { sense = own-seen_sense s i; objective = objective i; over = over i })
   line_back (line.row t) h =
       let relation = sides_back t.sides h.1.1.1 in
       λ i. parsed.Row (record { name = h.1.0 i; relation = relation i })

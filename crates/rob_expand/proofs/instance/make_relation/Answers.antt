@@ -1,10 +1,10 @@
-use Rattle.std.proofs.Common.{List, map, ap, ◌∙◌}
+use Rattle.std.proofs.Common.{List, map, ap, sym, ◌∙◌}
+use Rattle.rob_syntax.proofs.SeenLemmas.{own-seen_rel}
 use Rattle.rob_syntax.specs.Known.{texts}
 use Rattle.rob_syntax.specs.Numbered.{numbered_tree}
 use Rattle.rob_expand.specs.declared.placed.Placed.{Placed as Code}
 use Rattle.rob_expand.specs.Placed.{placed_of}
 use Rattle.rob_expand.specs.Making.{first_at, second_at}
-use Rattle.rob_expand.proofs.Expanding.MakeLemmas.{rel_same}
 use Rattle.rob_expand.proofs.instance.make_relation.Goals as goal
 
 pub returns : goal.returns
@@ -17,7 +17,7 @@ returns c = record {
       ∙ ap (λ (ts : List Code). numbered_tree words (first_at own (map placed_of ts) vs)) c.items.ensures.list in
       let p = c.in_ok-right.ensures.made
       ∙ ap (λ (ts : List Code). numbered_tree words (second_at own (map placed_of ts) vs)) c.items-2.ensures.list in
-      let r = rel_same c.args.rel in
+      let r = sym (own-seen_rel c.args.rel) in
       let o = c.in_ok-over.ensures.number in
       λ i. record { left = l i; rel = r i; right = p i; over = o i };
 }
