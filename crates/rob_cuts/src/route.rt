@@ -57,10 +57,7 @@ pub fn solve_cuts<N: Exact, L: Ledger>(
         Ok(finder) => finder,
         Err(stop) => return Err(stop),
     };
-    let mut run = match started(alloc, forms) {
-        Ok(run) => run,
-        Err(Memory) => return Err(Stop::Memory),
-    };
+    let mut run = started(alloc, forms)?;
     'rounds: loop {
         match next_round(alloc, Elaborated { forms, set }, &mut finder, &run, ledger) {
             Ok(Outcome::End(cert)) => return Ok((cert, Trace { rounds: run.rounds })),

@@ -21,8 +21,8 @@ returns-in-Err-clause-fits g c = set_fits c.requires.model c.in-Err.stop c.in-Er
 
 pub rounds-init : goal.rounds-init
 rounds-init g c = record {
-  state = state_none g.met.N.Exact.limit_low c.in-Ok-started.ensures.master c.in-Ok-started.ensures.within
-      c.in-Ok-started.ensures.rounds;
+  state = state_none g.met.N.Exact.limit_low c.in_ok-run.ensures.master c.in_ok-run.ensures.within
+      c.in_ok-run.ensures.rounds;
   finder = c.in-Ok.ensures.finder;
   wides = c.in-Ok.ensures.wides;
   counted = c.new.ensures.counted;
