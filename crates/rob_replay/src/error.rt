@@ -1,5 +1,9 @@
 //! Why a scenario file has no table.
 
+ghost use Rattle.std.specs.Prelude.{◌≡◌};
+ghost use Rattle.rob_replay.specs.declared.error.ReplayErr.TheVariants as Unreplayed;
+
+use rob_number::Memory;
 use thiserror::Error;
 
 /// Why a scenario file has no table.
@@ -14,4 +18,12 @@ pub enum ReplayErr {
     /// Memory was refused.
     #[error("out of memory")]
     Memory,
+}
+
+impl From<Memory> for ReplayErr {
+    ghost from_gives = { λ _ e. e ≡ Unreplayed.Memory };
+
+    fn from(_memory: Memory) -> ReplayErr {
+        ReplayErr::Memory
+    }
 }

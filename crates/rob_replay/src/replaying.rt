@@ -104,10 +104,7 @@ fn replay_records<N: Exact, L: Ledger>(
         };
         match replay_record(alloc, planned, i as u32 + 2, row, ledger) {
             Err(error) => return Err(error),
-            Ok(line) => match lines.push(line) {
-                Err(_) => return Err(ReplayErr::Memory),
-                Ok(()) => {}
-            },
+            Ok(line) => lines.push(line)?,
         }
     }
     Ok(lines)

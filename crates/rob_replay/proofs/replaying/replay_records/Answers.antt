@@ -20,7 +20,7 @@ pub loop-i-preserved : goal.loop-i-preserved
 loop-i-preserved g c =
     let value = g.N.Exact.value in
     record {
-      rest = rw (c.in-Ok-push.ensures.appended, map-append)
+      rest = rw (c.in_ok-push-in-Ok.ensures.appended, map-append)
           (sym (records_next fields_of g.N.Exact.limit (robust value c.args.model.now) (plan_of value c.args.plan.now)
           c.args.places.now c.args.rows.now c.loop-i.i (map (line_of value) c.loop-i.lines) c.index-rows-i.result
           c.loop-i-test.true c.index-rows-i.is (line_of value c.in-Ok.line) c.in-Ok.ensures.line)
