@@ -142,14 +142,8 @@ fn check_side<N: Exact, L: Ledger>(
         (node_of N.value node.now) progress.number) }
     ensures counted { CountsCheck L.ops L.wides ledger.old ledger.new result }
 {
-    let model = match behind(alloc, area.model, branch) {
-        Ok(model) => model,
-        Err(_) => return Err(TreeVerdict::Memory),
-    };
-    let path = match longer(alloc, area.path, branch) {
-        Ok(path) => path,
-        Err(_) => return Err(TreeVerdict::Memory),
-    };
+    let model = behind(alloc, area.model, branch)?;
+    let path = longer(alloc, area.path, branch)?;
     let side = Area {
         model: &model,
         names: area.names,

@@ -1,8 +1,11 @@
 //! What the check of a tree says.
 
+ghost use Rattle.std.specs.Prelude.{◌≡◌};
+ghost use Rattle.rob_tree.specs.declared.verdict.TreeVerdict.TheVariants as Is;
+
 use crate::tree::Branch;
 use rob_model::{Place, Spot};
-use rob_number::List;
+use rob_number::{List, Memory};
 
 /// What of a leaf fails.
 #[derive(Clone, Copy, Debug, PartialEq, Eq)]
@@ -31,4 +34,12 @@ pub enum TreeVerdict {
     TooWide(List<Branch>, Spot),
     /// Memory was refused.
     Memory,
+}
+
+impl From<Memory> for TreeVerdict {
+    ghost from_gives = { λ _ verdict. verdict ≡ Is.Memory };
+
+    fn from(_memory: Memory) -> TreeVerdict {
+        TreeVerdict::Memory
+    }
 }

@@ -15,14 +15,14 @@ check_side-behind-requires-clause-bounded g t c =
 pub check_side-check_node-requires : goal.check_side-check_node-requires
 check_side-check_node-requires g t c κs within =
     let r = c.requires in
-    let side = side_checks r.may c.in-Ok.ensures.tightened r.bounded in
-    (omega (arith, c.decreases), (within.0, (within.1, (c.in-Ok.ensures.valid, (side.0, (side.1, r.few))))))
+    let side = side_checks r.may c.in_ok-model.ensures.tightened r.bounded in
+    (omega (arith, c.decreases), (within.0, (within.1, (c.in_ok-model.ensures.valid, (side.0, (side.1, r.few))))))
 
 pub check_side-returns-clause-passed : goal.check_side-returns-clause-passed
 check_side-returns-clause-passed g t c =
     let p = c.args.progress in
     passed_told g.N.Exact.limit (status_of p.claim.status) (g.N.Exact.value p.claim.value)
-    (node_of g.N.Exact.value c.args.node.now) p.number c.check_node.result c.in-Ok.ensures.tightened
+    (node_of g.N.Exact.value c.args.node.now) p.number c.check_node.result c.in_ok-model.ensures.tightened
     c.check_node.ensures.passed
 
 pub check_side-returns-clause-stopped : goal.check_side-returns-clause-stopped
@@ -30,7 +30,7 @@ check_side-returns-clause-stopped g t c =
     let p = c.args.progress in
     stopped_told g.N.Exact.limit (status_of p.claim.status) (g.N.Exact.value p.claim.value)
     (node_of g.N.Exact.value c.args.node.now) p.number c.check_node.result c.items.result.now c.args.area.path.now
-    c.args.branch c.in-Ok.ensures.tightened (c.items.ensures.list ∙ c.in-Ok-longer.ensures.path)
+    c.args.branch c.in_ok-model.ensures.tightened (c.items.ensures.list ∙ c.in_ok-path.ensures.path)
     c.check_node.ensures.stopped
 
 -- ---- a node
