@@ -111,7 +111,6 @@ fn product(a: i32, b: Wide) -> i128
 
 /// `a * b`, where the second digit of `b` is 0.
 #[inline(always)]
-#[tactic(auto, using(crate::proofs::ShortLemmas::low_alone))]
 fn low_product(a: i32, b: Wide) -> i128
     requires low { b.high ≡ pos 0 }
     ensures value { result ≡ a *ℤ wide_of b }

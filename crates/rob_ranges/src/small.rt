@@ -27,7 +27,6 @@ pub fn value_inside(
 
 /// The same, where all numbers are kept in one digit.
 #[inline(always)]
-#[tactic(auto, using(crate::proofs::NestLemmas::sums_on))]
 pub fn small_inside(form: &Form, innermost: &Whole, values: &[Whole]) -> Option<i64>
     ensures value { IfSome result (λ value.
         value_of form.now (innermost.now ∷ values.now) ≡ value) }
