@@ -12,7 +12,7 @@ use Rattle.rob_counterpart.specs.RobustProgram.{RobustProgram, entry}
 use Rattle.rob_counterpart.specs.Splitting.{signed_entry}
 use Rattle.rob_counterpart.specs.Reform.{pairs, block, plan_entry, multiplier_entry, right_entry, row_entry, tau_cost, reform}
 use Rattle.rob_counterpart.specs.SamePrograms.{AreSame}
-use Rattle.rob_counterpart.proofs.Pairs.Blocks.{at_block}
+use Rattle.rob_algebra.proofs.WholeNumbers.{at_block}
 use Rattle.rob_counterpart.proofs.Positions.ReformPlaces.{where_not_less, where_same, where_other}
 use Rattle.rob_counterpart.proofs.Pairs.TabulateLemmas.{length-tabulate}
 use Rattle.rob_dualize.proofs.SetProgramLemmas.{negated_within}

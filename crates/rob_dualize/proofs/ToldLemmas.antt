@@ -9,7 +9,7 @@ use Rattle.rob_linear.specs.Programs.{Program}
 use Rattle.rob_meaning.specs.Places.{tabulate}
 use Rattle.rob_counterpart.specs.RobustProgram.{RobustProgram}
 use Rattle.rob_counterpart.specs.Reform.{pairs, block, multiplier, row_entry, right_entry, reform}
-use Rattle.rob_counterpart.proofs.Pairs.Blocks.{at_block}
+use Rattle.rob_algebra.proofs.WholeNumbers.{at_block}
 use Rattle.rob_counterpart.proofs.Pairs.TabulateLemmas.{length-tabulate}
 use Rattle.rob_dualize.specs.Told.{listed}
 use Rattle.rob_dualize.proofs.CounterpartLists.{IsListed}

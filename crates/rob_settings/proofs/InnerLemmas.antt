@@ -123,10 +123,6 @@ pub opposite_size : (a : ℤ) → int_lt a (pos 0) ≡ true → negsuc 0 *ℤ a 
 opposite_size (pos n) h = let l = lt_from (pos n) (pos 0) h in absurd (omega (arith, ints, l))
 opposite_size (negsuc n) h = ap pos (let e : 1 * suc n ≡ suc n = omega arith in e)
 
-pub own_size : (a : ℤ) → int_lt a (pos 0) ≡ false → a ≡ pos (nat_abs a)
-own_size (pos n) h = refl
-own_size (negsuc n) h = cc
-
 pub size_low : (a : ℤ) (n : ℕ) → a ≡ pos n → pos 0 ≤ℤ a
 size_low a n is = omega (arith, ints, is)
 

@@ -1,7 +1,7 @@
 -- Sums over pairs and blocks, and the rows and columns by their places.
 use Rattle.std.proofs.Common.{◌≡◌, ℕ, zero, suc, ◌+◌, ◌-◌, ◌*◌, ◌<◌, refl, ap, ◌∙◌, arith, inl, inr, ◌⊎◌}
 use Rattle.std.proofs.lemmas.Int.{ints}
-use Rattle.std.proofs.lemmas.Bool.{cases_eq, cases_lt}
+use Rattle.std.proofs.lemmas.Bool.{cases_eq}
 use lib.IntN.{ℤ, ◌+ℤ◌}
 use Rattle.rob_linear.specs.Vectors.{sum_to}
 use Rattle.rob_linear.proofs.LinearPrograms.Sums.{sum_split}
@@ -35,18 +35,7 @@ block_in (suc n) w i p il pl =
       | inr c ↦ let g : ((i * w) + p) < (n * w) = block_in n w i p (omega arith) pl in omega arith
     ]
 
--- each place is one in a block
-pub at_block : (n w t : ℕ) → t < n * w → (i : ℕ) × (p : ℕ) × (i < n) × (p < w) × (t ≡ (i * w) + p)
-at_block zero w t l = let e : zero * w ≡ zero = grind arith in absurd (omega arith)
-at_block (suc n) w t l =
-    let e : suc n * w ≡ (n * w) + w = grind arith in
-    elim (cases_lt t (n * w)) [
-      | inl c ↦ let g : (i : ℕ) × (p : ℕ) × (i < n) × (p < w) × (t ≡ (i * w) + p) = at_block n w t c in
-          (g.0, g.1, (let h : g.0 < n = g.2 in omega arith), g.3, g.4)
-      | inr c ↦ (n, t - (n * w), omega arith, omega arith, omega arith)
-    ]
-
--- and each number is even or odd
+-- each number is even or odd
 pub halves : (p : ℕ) → ((c : ℕ) × (p ≡ c + c)) ⊎ ((c : ℕ) × (p ≡ suc (c + c)))
 halves zero = inl (0, refl)
 halves (suc p) =

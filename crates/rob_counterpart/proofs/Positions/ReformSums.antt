@@ -7,7 +7,8 @@ use Rattle.rob_linear.specs.Vectors.{sum_to, dot}
 use Rattle.rob_linear.specs.Programs.{Program}
 use Rattle.rob_algebra.specs.Integer.{ring, zero-mul}
 use Rattle.rob_linear.proofs.LinearPrograms.Sums.{sum_ext, sum_zero, sum_one, sum_split}
-use Rattle.rob_counterpart.proofs.Pairs.Blocks.{sum_pairs, sum_blocks, block_in, at_block, halves}
+use Rattle.rob_counterpart.proofs.Pairs.Blocks.{sum_pairs, sum_blocks, block_in, halves}
+use Rattle.rob_algebra.proofs.WholeNumbers.{at_block}
 use Rattle.rob_counterpart.specs.RobustProgram.{RobustProgram}
 use Rattle.rob_counterpart.specs.Reform.{pairs, multiplier, block, positive_row, negative_row, constant_row, RowIs}
 use Rattle.rob_counterpart.specs.Splitting.{plus, minus}

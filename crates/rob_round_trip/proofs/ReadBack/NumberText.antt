@@ -18,6 +18,7 @@ use Rattle.rob_meaning.specs.Values.{signed}
 use Rattle.rob_parse.specs.Written.{fraction, signed_fraction}
 use Rattle.rob_round_trip.specs.Pages.{symbols_on}
 use Rattle.rob_algebra.specs.Width.{Fits}
+use Rattle.rob_algebra.proofs.WholeNumbers.{size_is}
 use Rattle.rob_syntax.specs.Statements.{spell_signed}
 use Rattle.rob_index.specs.Reading.{one}
 use Rattle.rob_syntax.specs.Symbols.{symbol_at, greatest_digits}
@@ -63,10 +64,6 @@ divisor_is den = go (den == 1) refl
     go : (one : Bool) → (den == 1) ≡ one → unwrap_or (if one then None else Some den) 1 ≡ den
     go true is = grind (arith, nat_tests)
     go false is = refl
-
-size_is : (z : ℤ) → int_lt z (pos 0) ≡ false → pos (nat_abs z) ≡ z
-size_is (pos n) plain = refl
-size_is (negsuc n) plain = cc
 
 pub fraction_back : (q : Fraction) → int_lt q.num (pos 0) ≡ false → fraction (numeral_of q) ≡ q
 fraction_back q plain =

@@ -1,6 +1,5 @@
 -- A dictionary, and a solver, that are made like others.
-use Rattle.std.proofs.Common.{◌≡◌, ℕ, zero, suc, ◌+◌, ◌-◌, ◌*◌, ◌<◌, ◌≤◌, ◌∙◌, sym, ap, subst, arith, inl, inr, List, length}
-use Rattle.std.proofs.lemmas.Bool.{cases_lt}
+use Rattle.std.proofs.Common.{◌≡◌, ℕ, ◌+◌, ◌-◌, ◌<◌, ◌≤◌, ◌∙◌, sym, ap, subst, arith, List, length}
 use lib.IntN.{ℤ, nat_abs}
 use Rattle.rob_linear.specs.Vectors.{at}
 use Rattle.rob_table.specs.Tables.{HasBounds}
@@ -57,20 +56,11 @@ raised_sound l l' n b p k t u workspace workspace' up er h = record {
   workspace_is = er;
 }
 
--- a place stands in a row
-pub in_row : (width count k : ℕ) → k < count * width → (i : ℕ) × (j : ℕ) × (i < count) × (j < width)
-    × (k ≡ i * width + j)
-in_row width zero k l = absurd (omega arith)
-in_row width (suc count) k l = elim (cases_lt k (count * width)) [
-  | inl b ↦ let r = in_row width count k b in (r.0, r.1, (let x : r.0 < count = r.2 in omega arith), r.3, r.4)
-  | inr a ↦ (count, k - count * width, omega arith, omega arith, omega arith)
-]
-
--- so each number is within the limit
+-- each number is within the limit, since its place stands in a row
 pub place_within : (limit width : ℕ) (table : List ℤ) (bounds : List ℕ) → HasBounds limit width table bounds → (k : ℕ)
     → k < length table → nat_abs (at table k) ≤ limit
 place_within limit width table bounds h k l =
-    let r = in_row width (length bounds) k (subst (λ n. k < n) h.size l) in
+    let r = at_block (length bounds) width k (subst (λ n. k < n) h.size l) in
     let w = h.within r.0 r.1 r.2 r.3 in
     let b = h.low r.0 r.2 in
     subst (λ n. nat_abs (at table n) ≤ limit) (sym r.4) (omega (arith, w, b))
