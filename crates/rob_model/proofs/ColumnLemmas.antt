@@ -80,7 +80,7 @@ module _ {N : Type 0} (value : N → Fraction) where
       ∙ ap (column_from column (map (adaptive_of value) (z ∷ ys)))
       (let next : suc (k + 1) ≡ suc k + 1 = omega arith in next)
 
-  list_at : (ys : List (Adaptive N)) (k : ℕ) (y : Adaptive N) → k < length ys → y ≡ get_or ys k y
+  pub list_at : (ys : List (Adaptive N)) (k : ℕ) (y : Adaptive N) → k < length ys → y ≡ get_or ys k y
       → list_in (map (adaptive_of value) ys) k ≡ y.on
   list_at [] k y h e = absurd (omega arith)
   list_at (z ∷ ys) zero y h e = ap (λ (w : Adaptive N). w.on) (sym e)

@@ -1,16 +1,16 @@
 -- The table of an adaptive variable, column by column.
-use Rattle.std.specs.Prelude.{◌≡◌, ℕ, zero, suc, ◌+◌, ◌<◌, ◌≤◌, List, [], ◌∷◌, map, length, drop, refl}
+use Rattle.std.specs.Prelude.{◌≡◌, ℕ, zero, suc, ◌+◌, ◌<◌, ◌≤◌, List, [], ◌∷◌, length, drop, refl}
 use Rattle.std.proofs.Common.{sym, ◌∙◌, ap, ap₂, arith, get_or, add-one}
 use Rattle.std.proofs.Math.Seq.{drop-cons}
 use Rattle.rob_algebra.specs.Fraction.{Fraction, ◌+ℚ◌, ◌*ℚ◌}
 use Rattle.rob_algebra.specs.FractionLaws as Q
 use Rattle.rob_meaning.specs.Coefficients.{unit, single, rule_table}
 use Rattle.rob_meaning.specs.Places.{0ℚ, 1ℚ}
-use Rattle.rob_meaning.specs.RobustModel.{column_count, column_of, list_in, list_of}
+use Rattle.rob_meaning.specs.RobustModel.{column_count, column_of, list_of}
 use Rattle.rob_model.specs.Limits.{most_columns}
-use Rattle.rob_model.proofs.ColumnLemmas.{rule_fits}
+use Rattle.rob_model.proofs.ColumnLemmas.{list_at, rule_fits}
 use Rattle.std.proofs.lemmas.Grind.{common_steps}
-use Rattle.rob_model.specs.View.{robust, adaptive_of}
+use Rattle.rob_model.specs.View.{robust}
 use Rattle.rob_model.specs.declared.model.Adaptive.{Adaptive}
 use Rattle.rob_model.specs.declared.model.Model.{Model}
 use Rattle.rob_sets.proofs.Cells.CellLemmas.{unit-other, single-same}
@@ -67,17 +67,11 @@ rule_end on i column k j old total h so_far =
 
 -- ---- the list of an adaptive variable
 module _ {N : Type 0} (value : N → Fraction) where
-  list_at : (ys : List (Adaptive N)) (k : ℕ) (y : Adaptive N) → k < length ys → y ≡ get_or ys k y
-      → y.on ≡ list_in (map (adaptive_of value) ys) k
-  list_at [] k y h e = absurd (omega arith)
-  list_at (z ∷ ys) zero y h e = ap (λ (w : Adaptive N). w.on) e
-  list_at (z ∷ ys) (suc k) y h e = list_at ys k y (omega arith) e
-
   pub list_is : (m : Model N) (k : ℕ) (y : Adaptive N) (ys : List (Adaptive N)) (on : List ℕ) → ys ≡ m.adaptives
       → k < length m.adaptives
       → y ≡ get_or ys k y → on ≡ y.on → on ≡ list_of (robust value m) k
   list_is m k y ys on same h is on_is =
-      on_is ∙ list_at m.adaptives k y h (is ∙ ap (λ (zs : List (Adaptive N)). get_or zs k y) same)
+      on_is ∙ sym (list_at value m.adaptives k y h (is ∙ ap (λ (zs : List (Adaptive N)). get_or zs k y) same))
 
   -- its columns are among the first 600, and so is the variable's
   pub rule_few : (m : Model N) (k : ℕ) → k < length m.adaptives → column_count (robust value m) ≤ most_columns
@@ -94,5 +88,5 @@ module _ {N : Type 0} (value : N → Fraction) where
       by p = omega (
         arith,
         rule_fits value m k p.0 p.0.on (column_of (robust value m) k) h p.1 refl refl few,
-        ap length (list_at m.adaptives k p.0 h p.1),
+        ap length (list_at value m.adaptives k p.0 h p.1),
       )
