@@ -3,7 +3,7 @@ use Rattle.std.proofs.Common.{◌≡◌, ℕ, suc, ◌+◌, ◌-◌, List, [], �
 use Rattle.std.specs.Prelude.{flat_map, codes, None}
 use Rattle.std.proofs.lemmas.List.{length-map, map-append, map_push}
 use Rattle.rob_meaning.specs.Places.{tabulate}
-use Rattle.rob_meaning.proofs.Lists.TabulateLemmas.{tabulate-more}
+use Rattle.rob_meaning.proofs.Lists.TabulateLemmas.{tabulate_next}
 use Rattle.rob_meaning.specs.RobustModel.{RobustModel, in_set}
 use Rattle.rob_meaning.specs.Expressions.{variable}
 use Rattle.rob_model.specs.View.{adaptive_of, parameter_of, robust, row_of, set_line_of, variable_of}
@@ -29,7 +29,7 @@ number_more old done n k pushed so_far =
     ∙ ap (λ (xs : List ℕ). xs ++ n ∷ []) so_far
     ∙ append_assoc old (tabulate k (λ _. n)) (n ∷ [])
     ∙ ap (λ (xs : List ℕ). old ++ xs)
-    (sym (tabulate-more k (λ _. n)) ∙ ap (λ j. tabulate j (λ (_ : ℕ). n)) (let e : suc k ≡ k + 1 = omega arith in e))
+    (tabulate_next (λ (_ : ℕ). n) k)
 
 -- the number for each item
 pub numbers_of : {A : Type 0} (xs : List A) (n : ℕ) → tabulate (length xs) (λ _. n) ≡ map (λ item. n) xs
@@ -76,8 +76,7 @@ module _ (m : RobustModel) (cuts : List Cut) where
   next_cell k =
       ap (λ c. with_cell m cuts c (split_over m cuts (tabulate k suc))) (let e : k + 1 ≡ suc k = omega arith in e)
       ∙ cell_more (tabulate k suc) (suc k)
-      ∙ ap (split_over m cuts) (sym (tabulate-more k suc)
-      ∙ ap (λ j. tabulate j suc) (let e : suc k ≡ k + 1 = omega arith in e))
+      ∙ ap (split_over m cuts) (tabulate_next suc k)
 
 -- ---- lists that grew
 module _ {A B : Type 0} (view : A → B) (old new : List A) (more : List B)

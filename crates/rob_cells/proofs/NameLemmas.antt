@@ -4,7 +4,7 @@ use Rattle.std.specs.Prelude.{codes, flat_map, Option, Some, None}
 use Rattle.std.proofs.lemmas.List.{map-append, map_push}
 use Rattle.rob_algebra.specs.Fraction.{Fraction}
 use Rattle.rob_cells.proofs.BuildingLemmas.{flat_more}
-use Rattle.rob_meaning.proofs.Lists.TabulateLemmas.{tabulate-more}
+use Rattle.rob_meaning.proofs.Lists.TabulateLemmas.{tabulate_next}
 use Rattle.rob_meaning.specs.Named.{adaptive_names, declared_names, row_names, variable_names, written_names}
 use Rattle.rob_meaning.specs.Names.{Name}
 use Rattle.rob_meaning.specs.Places.{Each, tabulate}
@@ -55,7 +55,7 @@ cell_names_more f old done next i grown so_far =
     ∙ append_assoc old (flat_map f (tabulate i suc)) (f (suc i))
     ∙ ap (λ xs. old ++ xs) (sym (flat_more f (tabulate i suc) (suc i)))
     ∙ ap (λ cs. old ++ flat_map f cs)
-    (sym (tabulate-more i suc) ∙ ap (λ k. tabulate k suc) (let e : suc i ≡ i + 1 = omega arith in e))
+    (tabulate_next suc i)
 
 -- the name of one cell more
 pub set_name_more : (old done next : List Name) (word name : Name) (i : ℕ) → word ≡ codes "cell"
@@ -69,7 +69,7 @@ set_name_more old done next word name i same named pushed so_far =
     ∙ append_assoc old (map (numbered (codes "cell")) (tabulate i suc)) (numbered (codes "cell") (suc i) ∷ [])
     ∙ ap (λ xs. old ++ xs) (sym (map_push (numbered (codes "cell")) (tabulate i suc) (suc i)))
     ∙ ap (λ cs. old ++ map (numbered (codes "cell")) cs)
-    (sym (tabulate-more i suc) ∙ ap (λ k. tabulate k suc) (let e : suc i ≡ i + 1 = omega arith in e))
+    (tabulate_next suc i)
 
 -- ---- the rows of declared bounds
 pub bound_names_are : (m : RobustModel) (c k : ℕ) (ys : List AdaptiveVariable)

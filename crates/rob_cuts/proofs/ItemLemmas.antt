@@ -10,7 +10,7 @@ use Rattle.rob_counterpart.proofs.Pairs.TabulateLemmas.{tabulate-same}
 use Rattle.rob_runs.specs.Cuts.{Cut, cut_of_number}
 use Rattle.rob_runs.specs.Readings.{of_form, by_form}
 use Rattle.rob_runs.proofs.Proving.StepLemmas.{of_form-append, weighted_kept-more}
-use Rattle.rob_sets.proofs.WholeRows.RowLemmas.{tabulate-more}
+use Rattle.rob_meaning.proofs.Lists.TabulateLemmas.{tabulate_next}
 use Rattle.rob_cuts.specs.Items.{item_of_cut, weighted_cuts, item_told}
 use Rattle.rob_cuts.specs.Certificates.{items_told}
 use Rattle.rob_cuts.specs.Rounds.{cut_of, cuts_told}
@@ -26,7 +26,7 @@ covers_more before all now g r x h e is =
     ∙ ap₂ (λ (xs : List Cover) (y : Cover). xs ++ covers_kept (y ∷ [])) h is
     ∙ append_assoc before (covers_kept (tabulate r g)) (covers_kept (g r ∷ []))
     ∙ ap (λ (ys : List Cover). before ++ ys)
-    (sym (covers_kept-append (tabulate r g) (g r ∷ [])) ∙ ap covers_kept (sym (tabulate-more r g)))
+    (sym (covers_kept-append (tabulate r g) (g r ∷ [])) ∙ ap covers_kept (tabulate_next g r))
 
 -- ---- items
 -- the cut of the round at a place

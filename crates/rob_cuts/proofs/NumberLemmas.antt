@@ -19,7 +19,7 @@ use Rattle.rob_dualize.proofs.TabulateLemmas.{item-tabulate}
 use Rattle.rob_counterpart.proofs.Positions.ReformPlaces.{signed_even, signed_odd, half_even, half_odd}
 use Rattle.rob_runs.specs.Cuts.{Cut}
 use Rattle.rob_runs.specs.Spots.{HasWidePrefix}
-use Rattle.rob_sets.proofs.WholeRows.RowLemmas.{tabulate-more}
+use Rattle.rob_meaning.proofs.Lists.TabulateLemmas.{tabulate_next}
 use Rattle.rob_dualize.specs.Wholes.{cost_of}
 use Rattle.rob_dualize.proofs.SetProgramLemmas.{negated_within}
 use Rattle.rob_cuts.specs.Master.{cut_number, cut_entry}
@@ -57,8 +57,8 @@ pair_more forms c j row now number h e is =
     ∙ ap₂ (λ (xs ys : List ℤ). xs ++ ys) h (ap₂ (λ (x y : ℤ). x ∷ (y ∷ [])) (sym even) (sym odd))
     ∙ sym (append_assoc (tabulate (j + j) (cut_entry forms c)) (cut_entry forms c (j + j) ∷ [])
     (cut_entry forms c ((j + j) + 1) ∷ []))
-    ∙ ap (λ (xs : List ℤ). xs ++ cut_entry forms c ((j + j) + 1) ∷ []) (sym (tabulate-more (j + j) (cut_entry forms c)))
-    ∙ sym (tabulate-more ((j + j) + 1) (cut_entry forms c))
+    ∙ ap (λ (xs : List ℤ). xs ++ cut_entry forms c ((j + j) + 1) ∷ []) (tabulate_next (cut_entry forms c) (j + j))
+    ∙ tabulate_next (cut_entry forms c) ((j + j) + 1)
     ∙ ap (λ v. tabulate v (cut_entry forms c)) (sym n)
 
 -- ---- sizes

@@ -24,7 +24,7 @@ use Rattle.rob_counterpart.specs.Splitting.{difference, plus, minus, OneIsZero}
 use Rattle.rob_counterpart.specs.Reform.{multiplier, positive_row, negative_row, constant_row, block, pairs}
 use Rattle.rob_counterpart.proofs.Pairs.Blocks.{block_in}
 use Rattle.rob_counterpart.proofs.Pairs.TabulateLemmas.{tabulate-same}
-use Rattle.rob_sets.proofs.WholeRows.RowLemmas.{tabulate-more}
+use Rattle.rob_meaning.proofs.Lists.TabulateLemmas.{tabulate_next}
 use Rattle.rob_dualize.specs.Numbers.{told}
 use Rattle.rob_counterpart.specs.ReadNumbers.{differences, cover_at, covers_at, covers_to, vector_at, item_at, items_to, concat, covers_kept, items_kept, all_zero}
 use Rattle.rob_counterpart.proofs.Proving.KeptLemmas.{covers_kept-append}
@@ -38,7 +38,7 @@ concat-next (x ∷ xs) ys = ap (λ (zs : List Cover). x ++ zs) (concat-next xs y
 pub covers_next : (d : RobustProgram) (n : ℕ) (x : ℕ → Fraction)
     → covers_to d (n + 1) x ≡ covers_to d n x ++ covers_kept (covers_at d x n)
 covers_next d n x =
-    ap covers_kept (ap concat (tabulate-more n (covers_at d x))
+    ap covers_kept (ap concat (sym (tabulate_next (covers_at d x) n))
     ∙ concat-next (tabulate n (covers_at d x)) (covers_at d x n))
     ∙ covers_kept-append (concat (tabulate n (covers_at d x))) (covers_at d x n)
 
@@ -58,7 +58,7 @@ kept_none c h = by (eq_ℚ c.amount 0ℚ) (eq_ℚ-decides c.amount 0ℚ).1
 
 kept_next : (r : ℕ) (g : ℕ → Cover) → covers_kept (tabulate (r + 1) g) ≡ covers_kept (tabulate r g)
     ++ covers_kept (g r ∷ [])
-kept_next r g = ap covers_kept (tabulate-more r g) ∙ covers_kept-append (tabulate r g) (g r ∷ [])
+kept_next r g = ap covers_kept (sym (tabulate_next g r)) ∙ covers_kept-append (tabulate r g) (g r ∷ [])
 
 module _ {N : Type 0} (value : N → Fraction) where
   pub cover_pushed : (all new : List (TheCover N)) (c : TheCover N) (before : List Cover) (g : ℕ → Cover) (r : ℕ)
@@ -94,7 +94,7 @@ items_kept-append (i ∷ xs) ys = by (all_zero (i.base ∷ i.vector)) (items_kep
 
 items_next : (d : RobustProgram) (n : ℕ) (y : ℕ → Fraction) → items_to d (n + 1) y ≡ items_to d n y
     ++ items_kept (item_at d y n ∷ [])
-items_next d n y = ap items_kept (tabulate-more n (item_at d y))
+items_next d n y = ap items_kept (sym (tabulate_next (item_at d y) n))
     ∙ items_kept-append (tabulate n (item_at d y)) (item_at d y n ∷ [])
 
 item_one : (i : Item) → all_zero (i.base ∷ i.vector) ≡ false → items_kept (i ∷ []) ≡ i ∷ []

@@ -6,7 +6,8 @@ use Rattle.rob_algebra.specs.Fraction.{Fraction}
 use Rattle.rob_meaning.specs.Places.{Each, tabulate}
 use Rattle.rob_meaning.proofs.Lists.EachLemmas.{each_append}
 use Rattle.rob_simplex.specs.Dictionaries.{columns_of}
-use Rattle.rob_sets.proofs.WholeRows.RowLemmas.{tabulate-more, pushed}
+use Rattle.rob_sets.proofs.WholeRows.RowLemmas.{pushed}
+use Rattle.rob_meaning.proofs.Lists.TabulateLemmas.{tabulate_next}
 
 -- the item at a place
 pub item-tabulate : {A : Type 0} (n : ℕ) (f : ℕ → A) (k : ℕ) (d : A) → k < n → slice_index_or (tabulate n f) k d ≡ f k
@@ -37,7 +38,7 @@ within_more limit items new x all e h =
 pub row_more : {N : Type 0} (value : N → Fraction) (items new : List N) (x : N) (n : ℕ) (f : ℕ → Fraction)
     → map value items ≡ tabulate n f → new ≡ items ++ x ∷ [] → value x ≡ f n
     → map value new ≡ tabulate (n + 1) f
-row_more value items new x n f h e is = pushed value items new x (tabulate n f) (f n) h e is ∙ sym (tabulate-more n f)
+row_more value items new x n f h e is = pushed value items new x (tabulate n f) (f n) h e is ∙ tabulate_next f n
 
 -- a list of columns, by position
 pub all_columns : (columns list : List ℕ) (n : ℕ) → n ≡ length columns → list ≡ tabulate n (columns_of columns)

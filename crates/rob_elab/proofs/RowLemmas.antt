@@ -12,7 +12,7 @@ use Rattle.rob_sets.specs.FirstWide.{IsWideCleared, Some_of}
 use Rattle.rob_sets.specs.declared.error.Stop.{Stop}
 use Rattle.rob_sets.proofs.WholeRows.ClearingSteps.{denominator-first, denominator-more, whole_none}
 use Rattle.rob_sets.proofs.Cells.ListLemmas.{some_left, some_right}
-use Rattle.rob_sets.proofs.WholeRows.RowLemmas.{tabulate-more}
+use Rattle.rob_meaning.proofs.Lists.TabulateLemmas.{tabulate_next}
 
 -- ---- the common denominator
 -- lists that grow, and what each grows by
@@ -42,7 +42,7 @@ module _ (xs ys : ℕ → List Fraction) (more : (k : ℕ) → xs (k + 1) ≡ xs
 module _ (before : List Fraction) (f : ℕ → Fraction) where
   one_more : (k : ℕ) → before ++ tabulate (k + 1) f ≡ (before ++ tabulate k f) ++ f k ∷ []
   one_more k =
-      ap (λ (zs : List Fraction). before ++ zs) (tabulate-more k f)
+      ap (λ (zs : List Fraction). before ++ zs) (sym (tabulate_next f k))
       ∙ sym (append_assoc before (tabulate k f) (f k ∷ []))
 
   multiple_is : (k : ℕ) (q : Fraction) (common : ℕ) → q ≡ f k → common ≡ denominator (before ++ tabulate k f)
@@ -72,7 +72,7 @@ module _ (columns : ℕ) (f : Table) where
   pub rows_more : (k : ℕ) → entries (rows_of (k + 1) columns f)
       ≡ entries (rows_of k columns f) ++ tabulate columns (f k)
   rows_more k =
-      ap entries (tabulate-more k (λ i. tabulate columns (f i)))
+      ap entries (sym (tabulate_next (λ i. tabulate columns (f i)) k))
       ∙ entries-both (rows_of k columns f) (tabulate columns (f k) ∷ [])
       ∙ ap (λ (zs : List Fraction). entries (rows_of k columns f) ++ zs) (append-nil (tabulate columns (f k)))
 
@@ -87,7 +87,7 @@ pub mapped_more : {A B : Type 0} (h : A → B) (items new : List B) (z : B) (n :
     → items ≡ map h (tabulate n f) → new ≡ items ++ z ∷ [] → z ≡ h (f n) → new ≡ map h (tabulate (n + 1) f)
 mapped_more {A} {B} h items new z n f so_far added is =
     added ∙ ap₂ (λ (ys : List B) (y : B). ys ++ y ∷ []) so_far is ∙ sym (map-append h (tabulate n f) (f n ∷ []))
-    ∙ ap (map h) (sym (tabulate-more n f))
+    ∙ ap (map h) (tabulate_next f n)
 
 module _ (P : Fraction → Type 0) where
   pub some_number : (n : ℕ) (f : ℕ → Fraction) (k : ℕ) → k < n → P (f k) → Some_of P (tabulate n f)

@@ -19,7 +19,7 @@ use Rattle.rob_elab.specs.declared.forms.Forms.{Forms}
 use Rattle.rob_runs.specs.Cuts.{wholes}
 use Rattle.rob_runs.specs.Spots.{HasWidePrefix, cost_term}
 use Rattle.rob_runs.proofs.Clearing.SumLemmas.{cost_is_number}
-use Rattle.rob_sets.proofs.WholeRows.RowLemmas.{tabulate-more}
+use Rattle.rob_meaning.proofs.Lists.TabulateLemmas.{tabulate_next}
 use Rattle.std.specs.Prelude.{Option, Some, None, MatchOption}
 use Rattle.rob_dualize.specs.SetProgram.{in_pairs}
 use Rattle.rob_dualize.proofs.SetProgramLemmas.{in_pairs-push}
@@ -71,7 +71,7 @@ module _ (forms : Forms) (i : ℕ) (whole : List ℤ) where
   costs_next c list new v h e is =
       is ∙ ap₂ (λ (xs : List ℤ) (x : ℤ). xs ++ x ∷ (neg_ℤ x ∷ [])) h e
       ∙ sym (in_pairs-push (tabulate c (column_part forms i whole)) (column_part forms i whole c))
-      ∙ ap in_pairs (sym (tabulate-more c (column_part forms i whole)))
+      ∙ ap in_pairs (tabulate_next (column_part forms i whole) c)
 
 pub pair_within : (limit : ℕ) (list new : List ℤ) (v : ℤ) → Each (λ a. nat_abs a ≤ limit) list → nat_abs v ≤ limit
     → new ≡ list ++ v ∷ (neg_ℤ v ∷ []) → Each (λ a. nat_abs a ≤ limit) new

@@ -1,6 +1,6 @@
 -- Set rows as lists of numbers.
 use Rattle.std.specs.Prelude.{◌≡◌, ℕ, ◌+◌, ◌≤◌, ℤ, nat_abs, List, [], ◌∷◌, ◌++◌, map, length}
-use Rattle.std.proofs.Common.{sym, ◌∙◌, ap, ap₂, subst, add-one, append_assoc}
+use Rattle.std.proofs.Common.{sym, ◌∙◌, ap, ap₂, subst, append_assoc}
 use Rattle.rob_algebra.specs.Fraction.{Fraction}
 use Rattle.std.proofs.lemmas.List.{length-map, map-append}
 use Rattle.rob_meaning.specs.Clearing.{denominator, whole_at}
@@ -15,10 +15,7 @@ use Rattle.rob_sets.specs.Appending.{AppendsLines, row_of}
 use Rattle.rob_sets.specs.FirstWide.{IsWideCleared}
 use Rattle.rob_sets.specs.SetForm.{RowFits, cleared_row, judged_row}
 use Rattle.rob_sets.specs.declared.set_form.SetRow.{SetRow}
-use Rattle.rob_meaning.proofs.Lists.TabulateLemmas.{tabulate-more as tabulate-suc}
-
-pub tabulate-more : {A : Type 0} (n : ℕ) (f : ℕ → A) → tabulate (n + 1) f ≡ tabulate n f ++ f n ∷ []
-tabulate-more n f = ap (λ k. tabulate k f) (add-one n) ∙ tabulate-suc n f
+use Rattle.rob_meaning.proofs.Lists.TabulateLemmas.{tabulate_next}
 
 module _ {N : Type 0} (value : N → Fraction) where
   pub pushed : (items new : List N) (x : N) (ys : List Fraction) (y : Fraction) → map value items ≡ ys
@@ -33,7 +30,7 @@ module _ {N : Type 0} (value : N → Fraction) where
       → new ≡ items ++ x ∷ [] → value x ≡ f n → map value new ≡ first ∷ tabulate (n + 1) f
   parameter_more items new x n first f h e is =
       pushed items new x (first ∷ tabulate n f) (f n) h e is
-      ∙ ap (λ (zs : List Fraction). first ∷ zs) (sym (tabulate-more n f))
+      ∙ ap (λ (zs : List Fraction). first ∷ zs) (tabulate_next f n)
 
   pub lift_more : (items new : List N) (x : N) (n : ℕ) (before : List Fraction) (first : Fraction) (f : ℕ → Fraction)
       → map value items ≡ first ∷ (before ++ tabulate n f)
@@ -42,7 +39,7 @@ module _ {N : Type 0} (value : N → Fraction) where
       pushed items new x (first ∷ (before ++ tabulate n f)) (f n) h e is
       ∙ ap (λ (zs : List Fraction). first ∷ zs)
       (append_assoc before (tabulate n f) (f n ∷ [])
-      ∙ ap (λ (zs : List Fraction). before ++ zs) (sym (tabulate-more n f)))
+      ∙ ap (λ (zs : List Fraction). before ++ zs) (tabulate_next f n))
 
   -- the numbers of a row are its right side and its coefficients
   pub row_is : (model : Model N) (f : Table) (parameters lifts : ℕ) (numbers : List N)
