@@ -69,11 +69,6 @@ module _ (sorts : List (Option Sort)) (count S : ℕ) where
   factors_are [] = refl
   factors_are (x ∷ xs) = ap (factor (taken count S (expression sorts (tree_of x)))) (factors_are xs)
 
--- one map behind another
-pub map_behind : {A B C : Type 0} (f : B → C) (g : A → B) (xs : List A) → map (λ x. f (g x)) xs ≡ map f (map g xs)
-map_behind f g [] = refl
-map_behind f g (x ∷ xs) = λ i. f (g x) ∷ map_behind f g xs i
-
 module _ (limit : ℕ) where
   -- the parts from a place on fit: so do the part there and those behind it
   pub summands_fit : (xs : List Summand) (i : ℕ) (x : Summand) → i < length xs → x ≡ get_or xs i x

@@ -1,4 +1,5 @@
-use Rattle.std.proofs.Common.{get_or, ◌∙◌}
+use Rattle.std.proofs.Common.{get_or, sym, ◌∙◌}
+use Rattle.rob_algebra.proofs.ListLemmas.{map_map}
 use Rattle.rob_number.proofs.CountLemmas.{only_later}
 use Rattle.rob_model.specs.View.{member_of}
 use Rattle.rob_model.proofs.PartLemmas.{each_at}
@@ -6,7 +7,7 @@ use Rattle.rob_parse.specs.Building.{FitsMember}
 use Rattle.rob_parse.specs.Written.{member}
 use Rattle.rob_parse.specs.Models.{member_taken}
 use Rattle.rob_syntax.specs.declared.syntax.Member.{Member}
-use Rattle.rob_parse.proofs.Building.MapLemmas.{map_behind, map_step, map_end, any_default, no_member}
+use Rattle.rob_parse.proofs.Building.MapLemmas.{map_step, map_end, any_default, no_member}
 use Rattle.rob_parse.proofs.parts.members.Goals as goal
 
 pub member-requires-clause-fits : goal.member-requires-clause-fits
@@ -37,4 +38,4 @@ returns-clause-read g c =
     map_end (member_of g.N.Exact.value)
     (λ (h : Member). member_taken c.args.place.count c.args.place.set (member c.args.sorts.now h)) c.loop-next.list
     c.args.members.now c.loop-next.next-index c.loop-next-test.false c.loop-next.invariant.read
-    ∙ map_behind (member_taken c.args.place.count c.args.place.set) (member c.args.sorts.now) c.args.members.now
+    ∙ sym (map_map (member_taken c.args.place.count c.args.place.set) (member c.args.sorts.now) c.args.members.now)
