@@ -17,7 +17,7 @@ use Rattle.rob_algebra.specs.Fraction.{Fraction}
 use Rattle.rob_counterpart.specs.Endings.{OptimalEnding, InfeasibleEnding, UnboundedEnding}
 use Rattle.rob_counterpart.specs.SamePrograms.{AreSame}
 use Rattle.rob_counterpart.proofs.Positions.SameSystems.{systems_same, auxiliaries_same}
-use Rattle.rob_linear.proofs.KeptOut.Beside.{kept_is}
+use Rattle.rob_linear.proofs.BasisPaths.TwoPhases.{kept_is}
 
 pub same_back : (P Q : Program) → AreSame P Q → AreSame Q P
 same_back P Q h =

@@ -19,7 +19,7 @@ use Rattle.rob_linear.proofs.BasisPaths.Starts.{auxiliary_tagged}
 use Rattle.rob_linear.proofs.BasisPaths.Costs.{basis_restarted}
 use Rattle.rob_linear.proofs.Bases.Turns.{own_low, own_high}
 use Rattle.rob_linear.proofs.BasisPaths.Phases.{place_low, place_high, row_placed, place_in}
-use Rattle.rob_linear.proofs.BasisPaths.TwoPhases.{kept_tagged, kept_low}
+use Rattle.rob_linear.proofs.BasisPaths.TwoPhases.{kept_tagged, kept_is}
 
 -- ---- sums of starting rows
 
@@ -117,7 +117,7 @@ module _ (P : Program) (basis : ℕ → ℕ) (rows : ℕ → ℕ → ℤ)
       (with_objective P.m extended (auxiliary_row P P.m))
   auxiliary_extended =
       basis_restarted (kept_of P) (auxiliary_row P) (own_of (kept_of P) basis) extended (auxiliary_row P P.m)
-      (kept_tagged P).last (λ t k tl kl. sym (kept_low P t k tl)) kept_extended first_cost
+      (kept_tagged P).last (λ t k tl kl. kept_is P t k tl) kept_extended first_cost
 
 -- each basis of the program has rows in the auxiliary form, and a kept row
 pub auxiliary_rows_exist : (P : Program) (basis : ℕ → ℕ) (rows : ℕ → ℕ → ℤ)

@@ -41,8 +41,8 @@ kept_tagged P =
       zero = kept_zero P;
     }
 
-pub kept_low : (P : Program) (t k : ℕ) → t < P.m → auxiliary_row P t k ≡ kept_row P t k
-kept_low P t k l = grind (arith, nat_tests)
+pub kept_is : (P : Program) (t k : ℕ) → t < P.m → kept_row P t k ≡ auxiliary_row P t k
+kept_is P t k l = grind (arith, nat_tests)
 
 pub kept_auxiliary : (P : Program) → kept_row P P.m (P.n + P.m) ≡ pos 0
 kept_auxiliary P = grind (arith, nat_tests)
@@ -52,7 +52,7 @@ pub kept_basis : (P : Program) (own : ℕ → ℕ) (rows : ℕ → ℕ → ℤ) 
     → RowOf (kept_of P) own P.m kept → IsBasis (kept_of P) own (with_objective P.m rows kept)
 kept_basis P own rows kept b h =
     basis_restarted (auxiliary_of P) (kept_row P) own rows kept (auxiliary_tagged P).last
-    (λ t k tl kl. kept_low P t k tl) b h
+    (λ t k tl kl. sym (kept_is P t k tl)) b h
 
 -- a pivot turns the kept row as it turns the others
 pub kept_turned : (P : Program) (own own' : ℕ → ℕ) (rows : ℕ → ℕ → ℤ) (kept new : ℕ → ℤ) (e col : ℕ)

@@ -8,7 +8,7 @@ use lib.IntN.{ℤ, pos, negsuc, ◌+ℤ◌, ◌*ℤ◌, neg_ℤ}
 use lib.Signed.{◌<ℤ◌}
 use Rattle.rob_algebra.specs.Integer.{ring, mul-zero, mul-one}
 use Rattle.rob_linear.specs.Systems.{System, LiesAlong}
-use Rattle.rob_linear.specs.Programs.{Program, auxiliary_row, auxiliary_of, kept_row, kept_of}
+use Rattle.rob_linear.specs.Programs.{Program, auxiliary_row, auxiliary_of, kept_of}
 use Rattle.rob_linear.specs.Turns.{own_of}
 use Rattle.rob_linear.specs.Multiples.{IsParallel, IsMultipleRow, HasMultipleRows, IsClearedBy, put_at}
 use Rattle.rob_linear.specs.Beside.{StandsBeside, beside_objective}
@@ -16,7 +16,7 @@ use Rattle.rob_linear.proofs.LinearPrograms.Sums.{sum_ext, sum_neg}
 use Rattle.rob_linear.proofs.Bases.Solutions.{tags_in, start_along}
 use Rattle.rob_linear.proofs.BasisPaths.Costs.{spanned_restarted}
 use Rattle.rob_linear.proofs.BasisPaths.Starts.{auxiliary_tagged}
-use Rattle.rob_linear.proofs.BasisPaths.TwoPhases.{kept_tagged}
+use Rattle.rob_linear.proofs.BasisPaths.TwoPhases.{kept_is, kept_tagged}
 use Rattle.rob_linear.proofs.Bases.Turns.{own_low, own_high}
 use Rattle.rob_linear.proofs.LinearPrograms.Programs.{auxiliary_cost_zero, auxiliary_cost_entry, auxiliary_cost_objective}
 use Rattle.rob_linear.proofs.RowForms.Multiples.{parallel_refl, parallel_sym, multiple_parallel, multiples_in, cleared_row, pivot_row}
@@ -31,9 +31,6 @@ neg_along S own i r a = record {
       ∙ sum_ext (suc S.m) (λ t. neg_ℤ (r (S.tag t) *ℤ S.start t k))
       (λ t. neg_ℤ (r (S.tag t)) *ℤ S.start t k) (λ t tl. simp ring);
 }
-
-pub kept_is : (P : Program) (t k : ℕ) → t < P.m → kept_row P t k ≡ auxiliary_row P t k
-kept_is P t k l = grind (arith, nat_tests)
 
 pub put_same : (basis : ℕ → ℕ) (q f : ℕ) → put_at basis q f q ≡ f
 put_same basis q f = grind (arith, nat_tests)

@@ -17,12 +17,12 @@ use Rattle.rob_linear.specs.Beside.{AreStarting, StandsBeside, EntersBeside, IsB
 use Rattle.rob_linear.proofs.Bases.Solutions.{tags_in, start_is_basis}
 use Rattle.rob_linear.proofs.BasisPaths.Starts.{auxiliary_tagged}
 use Rattle.rob_linear.proofs.BasisPaths.Measure.{rank_rises}
-use Rattle.rob_linear.proofs.BasisPaths.TwoPhases.{InFirst, kept_tagged}
+use Rattle.rob_linear.proofs.BasisPaths.TwoPhases.{InFirst, kept_is, kept_tagged}
 use Rattle.rob_linear.proofs.Bases.Turns.{own_low, own_high, basis_same, before_same, turn_stands}
 use Rattle.rob_linear.proofs.BasisPaths.ProgramPaths.{first_path}
 use Rattle.rob_linear.proofs.LinearPrograms.Programs.{auxiliary_tag-slack, auxiliary_tag-objective, auxiliary_entry, auxiliary_right, auxiliary_one, auxiliary_zero}
 use Rattle.rob_linear.proofs.RowForms.Multiples.{parallel_sym, multiple_parallel, multiples_in, rows_parallel, basis_multiples, rises_parallel, parallel_negative}
-use Rattle.rob_linear.proofs.KeptOut.Beside.{kept_is, put_same, put_other, back_rows, back_last, back_multiples, objective_at, objective_other}
+use Rattle.rob_linear.proofs.KeptOut.Beside.{put_same, put_other, back_rows, back_last, back_multiples, objective_at, objective_other}
 use Rattle.rob_linear.proofs.KeptOut.BesideTurns.{in_first, enters_back, leaves_other, least_is_other, before_negative}
 use Rattle.rob_linear.proofs.KeptOut.BesidePaths.{beside_turned, beside_turn}
 

@@ -19,10 +19,9 @@ use Rattle.rob_linear.proofs.BasisPaths.Starts.{system_tagged, auxiliary_tagged}
 use Rattle.rob_linear.proofs.BasisPaths.Auxiliary.{farkas_primitive}
 use Rattle.rob_linear.proofs.BasisPaths.LastBases.{never_at_zero}
 use Rattle.rob_linear.proofs.BasisPaths.Phases.{place_in}
-use Rattle.rob_linear.proofs.BasisPaths.TwoPhases.{kept_tagged, phase_change}
+use Rattle.rob_linear.proofs.BasisPaths.TwoPhases.{kept_is, kept_tagged, phase_change}
 use Rattle.rob_linear.proofs.Bases.Turns.{own_low}
 use Rattle.rob_linear.proofs.RowForms.Multiples.{parallel_sym, multiple_parallel, multiples_in, primitive_row, multiple_rows_exist, rows_parallel, basis_multiples, cleared_row, order_parallel, none_improves_parallel}
-use Rattle.rob_linear.proofs.KeptOut.Beside.{kept_is}
 
 -- a pivot turns the kept row as the others
 pub kept_multiple : (P : Program) (own own' : ℕ → ℕ) (rows : ℕ → ℕ → ℤ) (kept new : ℕ → ℤ) (e col : ℕ)
