@@ -39,37 +39,52 @@ fn combination(
 /// A row of two numbers in lowest terms.
 pub(crate) fn reduced(alloc: Global, line: &str) -> Result<String, Trouble> {
     match numbers(alloc, line)?.as_slice() {
-        [a, b] => {
-            let mut row = [*a, *b];
-            if !is_within(&row, LIMIT) {
-                return Err(Trouble::Line);
-            }
-            to_lowest_terms(&mut row, LIMIT);
-            Ok(format!(in alloc; "{} {}", row[0], row[1])?)
-        }
+        [a, b] => in_lowest_terms(alloc, [*a, *b]),
         _ => Err(Trouble::Line),
     }
+}
+
+/// A row in lowest terms.
+fn in_lowest_terms(alloc: Global, row: [i128; 2]) -> Result<String, Trouble> {
+    let mut row = row;
+    if !is_within(&row, LIMIT) {
+        return Err(Trouble::Line);
+    }
+    to_lowest_terms(&mut row, LIMIT);
+    Ok(format!(in alloc; "{} {}", row[0], row[1])?)
 }
 
 /// How a number over the second stands to the third over the last.
 pub(crate) fn order(alloc: Global, line: &str) -> Result<String, Trouble> {
     match numbers(alloc, line)?.as_slice() {
-        [a, p, b, q] if *p > 0 && *q > 0 => {
-            let order = lex_cmp(&[*a], *p, &[*b], *q);
-            Ok(format!(in alloc; "{order:?}")?)
-        }
+        [a, p, b, q] => order_of(alloc, *a, *p, *b, *q),
         _ => Err(Trouble::Line),
     }
+}
+
+/// How a number over a divisor stands to another.
+fn order_of(alloc: Global, a: i128, p: i128, b: i128, q: i128) -> Result<String, Trouble> {
+    if p <= 0 || q <= 0 {
+        return Err(Trouble::Line);
+    }
+    let order = lex_cmp(&[a], p, &[b], q);
+    Ok(format!(in alloc; "{order:?}")?)
 }
 
 /// The whole numbers of a line, of 128 bits.
 fn numbers(alloc: Global, line: &str) -> Result<Vec<i128>, Trouble> {
     let mut numbers = Vec::new(alloc);
+    append(&mut numbers, line)?;
+    Ok(numbers)
+}
+
+/// Appends these numbers.
+fn append(numbers: &mut Vec<i128>, line: &str) -> Result<(), Trouble> {
     for word in line.split(' ') {
         match word.parse::<i128>() {
             Ok(number) => numbers.push(number)?,
             Err(_) => return Err(Trouble::Line),
         }
     }
-    Ok(numbers)
+    Ok(())
 }

@@ -1,5 +1,6 @@
 //! Exact numbers, lists and texts.
 
+use crate::program::list;
 use rob_case::Trouble;
 use rob_case::numbers::{shown as shown_number, small, whole, wholes};
 use rob_case::text::{keyword, said, shown};
@@ -8,10 +9,11 @@ use std::alloc::Global;
 
 /// The pair of a word.
 fn pair(word: &str) -> Result<(i64, i64), Trouble> {
-    match word.split_once('/') {
-        Some((num, den)) => Ok((whole(num)?, whole(den)?)),
-        None => Ok((whole(word)?, 1)),
-    }
+    let (num, den) = match word.split_once('/') {
+        Some(parts) => parts,
+        None => (word, "1"),
+    };
+    Ok((whole(num)?, whole(den)?))
 }
 
 /// The number of a pair, or that it is wide.
@@ -124,11 +126,21 @@ pub(crate) fn divisor(alloc: Global, line: &str) -> Result<String, Trouble> {
 /// Pieces appended to a text, with `|` between them, and the text cut to a length.
 pub(crate) fn cut(alloc: Global, line: &str) -> Result<String, Trouble> {
     let (length, pieces) = keyword(line);
+    let length = small(length)? as usize;
     let mut text = Text::new(alloc);
+    cut_text(alloc, &mut text, pieces, length)
+}
+
+/// Pieces appended to the text, and the text cut to a length.
+fn cut_text(
+    alloc: Global,
+    text: &mut Text,
+    pieces: &str,
+    length: usize,
+) -> Result<String, Trouble> {
     for piece in pieces.split('|') {
         text.push(piece.as_bytes())?;
     }
-    let length = small(length)? as usize;
     if text.bytes().len() < length {
         return Err(Trouble::Line);
     }
@@ -138,10 +150,8 @@ pub(crate) fn cut(alloc: Global, line: &str) -> Result<String, Trouble> {
 
 /// Numbers pushed to a list.
 pub(crate) fn pushed(alloc: Global, line: &str) -> Result<String, Trouble> {
-    let mut list = List::new(alloc);
-    for number in wholes(alloc, line)? {
-        list.push(number)?;
-    }
+    let numbers = wholes(alloc, line)?;
+    let list = list(alloc, numbers.as_slice())?;
     let items = list.items();
     Ok(format!(in alloc; "{items:?}")?)
 }

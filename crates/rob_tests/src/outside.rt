@@ -66,12 +66,34 @@ pub(crate) fn fetches(alloc: Global, calls: &str) -> Result<String, Trouble> {
 fn fetch_each(alloc: Global, shelf: &mut MemShelf, calls: &str) -> Result<String, Trouble> {
     let mut answer = String::new(alloc);
     for call in calls.split('|') {
-        let one = fetched(alloc, shelf, call)?;
-        add(&mut answer, one.as_str())?;
+        let one = fetched(alloc, shelf, call);
+        add_text(&mut answer, one)?;
     }
-    let calls = shelf.calls();
-    add(&mut answer, format!(in alloc; "{calls} calls")?.as_str())?;
+    add_calls(alloc, &mut answer, shelf.calls())?;
     Ok(answer)
+}
+
+/// Adds an answer to those before.
+fn add_text(answers: &mut String, answer: Result<String, Trouble>) -> Result<(), Trouble> {
+    let answer = answer?;
+    add(answers, answer.as_str())
+}
+
+/// Adds how many calls were counted.
+fn add_calls(alloc: Global, answers: &mut String, calls: u64) -> Result<(), Trouble> {
+    let told = format!(in alloc; "{calls} calls")?;
+    add(answers, told.as_str())
+}
+
+/// Adds a word and a length.
+fn add_length(
+    alloc: Global,
+    answers: &mut String,
+    word: &str,
+    length: usize,
+) -> Result<(), Trouble> {
+    let told = format!(in alloc; "{word} {length}")?;
+    add(answers, told.as_str())
 }
 
 /// What a fetch from a shelf that never fails gives.
@@ -100,21 +122,20 @@ fn taken(answer: Result<(), SinkErr>) -> Result<&'static str, Trouble> {
 /// It alone has the sink: what it calls is lent it.
 pub(crate) fn puts(alloc: Global, pieces: &str) -> Result<String, Trouble> {
     let mut sink = MemSink::new(alloc, 9)?;
-    sink.fail_at(2, 3)?;
-    sink.fail_at(2, 0)?;
     put_each(alloc, &mut sink, pieces)
 }
 
-/// What puts into a sink give, with the bytes that it then holds, and how many it counted.
+/// What puts into a sink give, whose second call is made to fail, with the bytes that it then holds, and how many it
+/// counted.
 fn put_each(alloc: Global, sink: &mut MemSink, pieces: &str) -> Result<String, Trouble> {
+    sink.fail_at(2, 3)?;
+    sink.fail_at(2, 0)?;
     let mut answer = String::new(alloc);
     for piece in pieces.split('|') {
         let word = taken(sink.put(piece.as_bytes()))?;
-        let held = sink.bytes().len();
-        add(&mut answer, format!(in alloc; "{word} {held}")?.as_str())?;
+        add_length(alloc, &mut answer, word, sink.bytes().len())?;
     }
-    let calls = sink.calls();
-    add(&mut answer, format!(in alloc; "{calls} calls")?.as_str())?;
+    add_calls(alloc, &mut answer, sink.calls())?;
     Ok(answer)
 }
 
@@ -164,8 +185,7 @@ pub(crate) fn prints(alloc: Global, pieces: &str) -> Result<String, Trouble> {
     let mut answer = String::new(alloc);
     for piece in pieces.split('|') {
         let word = taken(sink.put(piece.as_bytes()))?;
-        let left = printer.paper.get();
-        add(&mut answer, format!(in alloc; "{word} {left}")?.as_str())?;
+        add_length(alloc, &mut answer, word, printer.paper.get())?;
     }
     Ok(answer)
 }

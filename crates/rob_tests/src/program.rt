@@ -7,7 +7,7 @@ use rob_rows::Lp;
 use std::alloc::Global;
 
 /// A list of numbers.
-fn list(alloc: Global, numbers: &[i64]) -> Result<List<i64>, Trouble> {
+pub(crate) fn list(alloc: Global, numbers: &[i64]) -> Result<List<i64>, Trouble> {
     let mut items = List::new(alloc);
     for number in numbers {
         items.push(*number)?;
@@ -21,19 +21,37 @@ pub(crate) fn program(alloc: Global, line: &str) -> Result<Lp, Trouble> {
     let Some((rows, objective)) = line.split_once('|') else {
         return Err(Trouble::Line);
     };
-    let c = wholes(alloc, objective)?;
-    let mut a = List::new(alloc);
-    let mut b = List::new(alloc);
+    let c = numbers(alloc, objective)?;
+    let mut lp = Lp {
+        a: List::new(alloc),
+        b: List::new(alloc),
+        c,
+    };
+    append_rows(alloc, &mut lp, rows)?;
+    Ok(lp)
+}
+
+/// The list of a line's numbers.
+fn numbers(alloc: Global, line: &str) -> Result<List<i64>, Trouble> {
+    let numbers = wholes(alloc, line)?;
+    list(alloc, numbers.as_slice())
+}
+
+/// Appends rows, with `/` between them.
+fn append_rows(alloc: Global, lp: &mut Lp, rows: &str) -> Result<(), Trouble> {
     for row in rows.split('/') {
         let numbers = wholes(alloc, row)?;
-        if let Some((right, left)) = numbers.as_slice().split_last() {
-            a.push(list(alloc, left)?)?;
-            b.push(*right)?;
-        }
+        append_row(alloc, lp, numbers.as_slice())?;
     }
-    Ok(Lp {
-        a,
-        b,
-        c: list(alloc, c.as_slice())?,
-    })
+    Ok(())
+}
+
+/// Appends a row: its coefficients and then its right side; nothing where there are no numbers.
+fn append_row(alloc: Global, lp: &mut Lp, numbers: &[i64]) -> Result<(), Trouble> {
+    if let Some((right, left)) = numbers.split_last() {
+        let row = list(alloc, left)?;
+        lp.a.push(row)?;
+        lp.b.push(*right)?;
+    }
+    Ok(())
 }

@@ -45,16 +45,33 @@ fn optimum<N: Exact>(
     requires rows { rows ≡ positions work.now }
 {
     let mut answer = String::from_str(alloc, "optimal")?;
-    put(alloc, &mut answer, work.value())?;
-    answer.push_str(" at")?;
-    for j in 0..columns {
-        put(alloc, &mut answer, work.x(j))?;
-    }
-    answer.push_str(" with")?;
-    for i in 0..rows {
-        put(alloc, &mut answer, work.y(i))?;
-    }
+    put_optimum(alloc, &mut answer, work, columns, rows)?;
     Ok(answer)
+}
+
+/// Appends the value, the point and the dual values.
+fn put_optimum<N: Exact>(
+    alloc: Global,
+    text: &mut String,
+    work: &Work<N, i64>,
+    columns: u32,
+    rows: u32,
+) -> Result<(), Trouble>
+    requires optimum { HasOptimum work.now }
+    requires point { HasPoint work.now }
+    requires columns { columns ≡ work.now.columns }
+    requires rows { rows ≡ positions work.now }
+{
+    put(alloc, text, work.value())?;
+    text.push_str(" at")?;
+    for j in 0..columns {
+        put(alloc, text, work.x(j))?;
+    }
+    text.push_str(" with")?;
+    for i in 0..rows {
+        put(alloc, text, work.y(i))?;
+    }
+    Ok(())
 }
 
 /// The ray of an unbounded program, and the column that grows.
@@ -64,10 +81,24 @@ fn ray<N: Exact>(alloc: Global, work: &Work<N, i64>, columns: u32) -> Result<Str
 {
     let column = work.column();
     let mut answer = format!(in alloc; "unbounded in column {column} along")?;
-    for j in 0..columns {
-        put(alloc, &mut answer, work.ray(j))?;
-    }
+    put_ray(alloc, &mut answer, work, columns)?;
     Ok(answer)
+}
+
+/// Appends the ray.
+fn put_ray<N: Exact>(
+    alloc: Global,
+    text: &mut String,
+    work: &Work<N, i64>,
+    columns: u32,
+) -> Result<(), Trouble>
+    requires ray { HasRay work.now }
+    requires columns { columns ≡ work.now.columns }
+{
+    for j in 0..columns {
+        put(alloc, text, work.ray(j))?;
+    }
+    Ok(())
 }
 
 /// The weights that show that a program is infeasible.
@@ -76,11 +107,25 @@ fn weights<N: Exact>(alloc: Global, work: &Work<N, i64>, rows: u32) -> Result<St
     requires rows { rows ≡ positions work.now }
 {
     let mut answer = String::from_str(alloc, "infeasible by")?;
-    for i in 0..rows {
-        let weight = work.farkas(i);
-        answer.push_str(format!(in alloc; " {weight}")?.as_str())?;
-    }
+    put_weights(alloc, &mut answer, work, rows)?;
     Ok(answer)
+}
+
+/// Appends the weights.
+fn put_weights<N: Exact>(
+    alloc: Global,
+    text: &mut String,
+    work: &Work<N, i64>,
+    rows: u32,
+) -> Result<(), Trouble>
+    requires weights { HasWeights work.now }
+    requires rows { rows ≡ positions work.now }
+{
+    for i in 0..rows {
+        let word = format!(in alloc; " {}", work.farkas(i))?;
+        text.push_str(word.as_str())?;
+    }
+    Ok(())
 }
 
 /// How many columns a program has, and how many rows.
@@ -103,12 +148,13 @@ pub(crate) fn answer<N: Exact>(alloc: Global, word: &str, line: &str) -> Result<
 
 /// The answer of a call on a program, and on a cost. It alone has the program's solver: what it calls is lent it.
 fn of_program<N: Exact>(alloc: Global, word: &str, lp: &Lp, cost: &str) -> Result<String, Trouble> {
+    let cost = wholes(alloc, cost)?;
     let mut work = made::<N>(alloc, lp)?;
     let size = Size {
         columns: lp.c.items().len() as u32,
         rows: lp.b.items().len() as u32,
     };
-    of_solver(alloc, word, lp, &mut work, size, cost)
+    of_solver(alloc, word, lp, &mut work, size, cost.as_slice())
 }
 
 /// The answer of a call on a program and its solver, and on a cost.
@@ -118,7 +164,7 @@ fn of_solver<N: Exact>(
     lp: &Lp,
     work: &mut Work<N, i64>,
     size: Size,
-    cost: &str,
+    cost: &[i64],
 ) -> Result<String, Trouble>
     requires made { IsMadeFor (program_of lp.now) work.old }
     requires columns { size.columns ≡ work.old.columns }
@@ -199,14 +245,13 @@ fn resumed<N: Exact>(
     alloc: Global,
     lp: &Lp,
     work: &mut Work<N, i64>,
-    cost: &str,
+    cost: &[i64],
 ) -> Result<String, Trouble>
     requires made { IsMadeFor (program_of lp.now) work.old }
 {
-    let cost = wholes(alloc, cost)?;
     match work.solve(&mut Tally::new()) {
-        Ok(LpKind::Optimal) => resumed_from(alloc, lp, work, cost.as_slice()),
-        Ok(LpKind::Unbounded) => resumed_from(alloc, lp, work, cost.as_slice()),
+        Ok(LpKind::Optimal) => resumed_from(alloc, lp, work, cost),
+        Ok(LpKind::Unbounded) => resumed_from(alloc, lp, work, cost),
         Ok(LpKind::Infeasible) => Ok(String::from_str(alloc, "infeasible")?),
         Err(stop) => Ok(format!(in alloc; "{stop:?}")?),
     }
@@ -245,16 +290,15 @@ fn combined<N: Exact>(
     alloc: Global,
     lp: &Lp,
     work: &mut Work<N, i64>,
-    cost: &str,
+    cost: &[i64],
 ) -> Result<String, Trouble>
     requires made { IsMadeFor (program_of lp.now) work.old }
 {
-    let cost = wholes(alloc, cost)?;
     let mut ledger = Tally::new();
     match work.solve(&mut ledger) {
         Ok(LpKind::Optimal) => {
             let columns = lp.c.items().len();
-            combined_from(alloc, work, cost.as_slice(), columns, ledger.ops())
+            combined_from(alloc, work, cost, columns, ledger.ops())
         }
         Ok(_) => Err(Trouble::Line),
         Err(stop) => Ok(format!(in alloc; "{stop:?}")?),

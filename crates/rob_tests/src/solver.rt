@@ -17,13 +17,18 @@ use std::alloc::Global;
 /// lent it.
 pub(crate) fn solved<N: Exact>(alloc: Global, line: &str) -> Result<String, Trouble> {
     let lp = program(alloc, line)?;
+    of_program::<N>(alloc, &lp)
+}
+
+/// What solving a program gives that isn't too large.
+fn of_program<N: Exact>(alloc: Global, lp: &Lp) -> Result<String, Trouble> {
     if lp.c.items().len() + lp.b.items().len() >= 1 << 31 {
         return Err(Trouble::Line);
     }
     if !lp.is_shaped() || !lp.is_within(N::LIMIT as u64) {
         return Err(Trouble::Line);
     }
-    answer::<N>(alloc, &lp)
+    answer::<N>(alloc, lp)
 }
 
 /// What solving a program gives that a solver takes.
@@ -72,14 +77,31 @@ fn optimum<N: Exact>(
     requires rows { rows ≡ positions solver.now }
 {
     let mut answer = String::from_str(alloc, "optimal")?;
-    put(alloc, &mut answer, solver.value())?;
-    answer.push_str(" at")?;
-    for j in 0..columns {
-        put(alloc, &mut answer, solver.x(j))?;
-    }
-    answer.push_str(" with")?;
-    for i in 0..rows {
-        put(alloc, &mut answer, solver.y(i))?;
-    }
+    put_optimum(alloc, &mut answer, solver, columns, rows)?;
     Ok(answer)
+}
+
+/// Appends the value, the point and the dual values.
+fn put_optimum<N: Exact>(
+    alloc: Global,
+    text: &mut String,
+    solver: &Solver<N>,
+    columns: u32,
+    rows: u32,
+) -> Result<(), Trouble>
+    requires optimum { HasOptimum solver.now }
+    requires point { HasPoint solver.now }
+    requires columns { columns ≡ solver.now.columns }
+    requires rows { rows ≡ positions solver.now }
+{
+    put(alloc, text, solver.value())?;
+    text.push_str(" at")?;
+    for j in 0..columns {
+        put(alloc, text, solver.x(j))?;
+    }
+    text.push_str(" with")?;
+    for i in 0..rows {
+        put(alloc, text, solver.y(i))?;
+    }
+    Ok(())
 }
