@@ -72,11 +72,7 @@ pub(crate) fn boxed<N: Exact>(
 }
 
 /// The canonical text of the box behind a branch on a variable that has both bounds.
-fn box_text<N: Exact>(
-    answer: &mut Answer,
-    model: &Model<N>,
-    branch: Branch,
-) -> Result<(), Trouble>
+fn box_text<N: Exact>(answer: &mut Answer, model: &Model<N>, branch: Branch) -> Result<(), Trouble>
     requires valid { IsValid N.value model.now }
     requires within { nat_abs branch.k ≤ N.limit }
 {

@@ -25,12 +25,7 @@ impl Calls<HostRuntime> for Libraries {
 
 /// Behind `narrow` comes a call with numbers of 8 bits; the others have 62. What is told to be alike is so with two
 /// number types.
-fn put_answer(
-    answer: &mut Answer,
-    case: &Case,
-    word: &str,
-    rest: &str,
-) -> Result<(), Trouble> {
+fn put_answer(answer: &mut Answer, case: &Case, word: &str, rest: &str) -> Result<(), Trouble> {
     match word {
         "narrow" => {
             let (word, rest) = keyword(rest);
@@ -43,12 +38,7 @@ fn put_answer(
 }
 
 /// The answer of a call of a width, on the case's model. It alone has the model: what it calls is lent it.
-fn call<N: Exact>(
-    answer: &mut Answer,
-    case: &Case,
-    word: &str,
-    rest: &str,
-) -> Result<(), Trouble> {
+fn call<N: Exact>(answer: &mut Answer, case: &Case, word: &str, rest: &str) -> Result<(), Trouble> {
     let model: Model<N> = given::model(answer.alloc, case)?;
     of_model(answer, case, &model, word, rest)
 }

@@ -103,11 +103,7 @@ fn printed<N: Exact>(
 }
 
 /// The certificate's status, value, plan, direction and items, and the rounds.
-fn parts<N: Exact>(
-    answer: &mut Answer,
-    cert: &Cert<N>,
-    made: &[Round],
-) -> Result<(), Trouble> {
+fn parts<N: Exact>(answer: &mut Answer, cert: &Cert<N>, made: &[Round]) -> Result<(), Trouble> {
     answer.say(status_word(cert.status))?;
     answer.number(" ", cert.value)?;
     answer.list(" plan", cert.plan.items())?;
@@ -161,5 +157,9 @@ fn kind_word(kind: LpKind) -> &'static str {
 
 /// What was tried in a round: a direction, or a plan.
 fn tried_words(by_step: bool) -> &'static str {
-    if by_step { " step form " } else { " plan form " }
+    if by_step {
+        " step form "
+    } else {
+        " plan form "
+    }
 }

@@ -210,5 +210,9 @@ fn same_text<N: Exact>(
 {
     let again = written(answer.alloc, model, columns, tree)?;
     let same = again.bytes() == text;
-    answer.say(if same { "written again" } else { "written otherwise" })
+    answer.say(if same {
+        "written again"
+    } else {
+        "written otherwise"
+    })
 }

@@ -7,9 +7,8 @@ ghost use Rattle.rob_worst.specs.Finders.{IsFinder};
 ghost use Rattle.rob_worst.specs.Finding.{HasConstantWithin};
 
 use crate::answer::Answer;
-use crate::given;
-use crate::stops;
 use crate::whole::Written;
+use crate::{given, stops};
 use rob_case::Trouble;
 use rob_case::numbers::small;
 use rob_case::text::keyword;
@@ -127,9 +126,15 @@ fn found<N: Exact>(
     let form = asked.form;
     if by_step {
         let step = asked.step.as_slice();
-        told(answer, worst_step(answer.alloc, forms, set, form, step, ledger))
+        told(
+            answer,
+            worst_step(answer.alloc, forms, set, form, step, ledger),
+        )
     } else {
-        told(answer, worst(answer.alloc, forms, set, form, &asked.plan, ledger))
+        told(
+            answer,
+            worst(answer.alloc, forms, set, form, &asked.plan, ledger),
+        )
     }
 }
 
@@ -267,9 +272,15 @@ fn next<N: Exact>(
     let form = asked.form;
     if by_step {
         let step = asked.step.as_slice();
-        told(answer, finder.at_step(answer.alloc, forms, set, form, step, ledger))
+        told(
+            answer,
+            finder.at_step(answer.alloc, forms, set, form, step, ledger),
+        )
     } else {
-        told(answer, finder.at_plan(answer.alloc, forms, set, form, &asked.plan, ledger))
+        told(
+            answer,
+            finder.at_plan(answer.alloc, forms, set, form, &asked.plan, ledger),
+        )
     }
 }
 
@@ -308,12 +319,7 @@ fn told_of<N: Exact>(answer: &mut Answer, found: &Result<Worst<N>, Stop>) -> Res
 }
 
 /// Appends the slack that a search shows.
-fn put_slack<N: Exact>(
-    answer: &mut Answer,
-    scale: N,
-    peak: N,
-    constant: i64,
-) -> Result<(), Trouble>
+fn put_slack<N: Exact>(answer: &mut Answer, scale: N, peak: N, constant: i64) -> Result<(), Trouble>
     requires constant { nat_abs constant ≤ N.limit }
 {
     if scale.sign() == 0 {

@@ -10,12 +10,12 @@ loop-num-preserved g c =
     let num = get_or c.args.nums.now c.loop-num.num-index (pos 0) in
     let seen : to_z w64 (of_z w64 num) ≡ num = search rules in
     record {
-  count = one_longer c.loop-num.list _ _ c.loop-num.num-index c.in_ok-push.ensures.appended c.loop-num.invariant.count;
-  rest = of_all-next (exact_of g.N.Exact.limit) (map g.N.Exact.value c.loop-num.list) _ c.args.nums.now
-      c.loop-num.num-index (pos 0) (g.N.Exact.value c.in_ok-exact.field-0) c.loop-num-test.true
-      (ap (exact_of g.N.Exact.limit) (sym seen) ∙ c.in_ok-exact.ensures.exact) (map_behind g.N.Exact.value c.loop-num.list _ _ c.in_ok-push.ensures.appended)
-      ∙ c.loop-num.invariant.rest;
-}
+      count = one_longer c.loop-num.list _ _ c.loop-num.num-index c.in_ok-push.ensures.appended c.loop-num.invariant.count;
+      rest = of_all-next (exact_of g.N.Exact.limit) (map g.N.Exact.value c.loop-num.list) _ c.args.nums.now
+          c.loop-num.num-index (pos 0) (g.N.Exact.value c.in_ok-exact.field-0) c.loop-num-test.true
+          (ap (exact_of g.N.Exact.limit) (sym seen) ∙ c.in_ok-exact.ensures.exact) (map_behind g.N.Exact.value c.loop-num.list _ _ c.in_ok-push.ensures.appended)
+          ∙ c.loop-num.invariant.rest;
+    }
 
 pub returns-in_err-exact-clause-exact : goal.returns-in_err-exact-clause-exact
 returns-in_err-exact-clause-exact g c =
