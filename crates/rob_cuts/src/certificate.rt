@@ -16,7 +16,7 @@ use crate::items::items;
 use crate::kept::{Covered, Kept};
 use rob_cert::{Cert, Round, Status};
 use rob_dualize::infeasible::with_items;
-use rob_dualize::told::{dual_values, exact_weights, whole};
+use rob_dualize::numbers::{dual_values, exact_weights, whole};
 use rob_model::{Plan, Scenario};
 use rob_number::{Exact, List, Memory};
 use rob_solver::Solver;

@@ -11,7 +11,7 @@ ghost use Rattle.rob_cuts.specs.Items.{weighted_cuts, covers_of_form, item_told}
 ghost use Rattle.rob_cuts.specs.Rounds.{cuts_told, RoundFits};
 
 use rob_cert::{Cover, Item, Round};
-use rob_dualize::told::whole;
+use rob_dualize::numbers::whole;
 use rob_number::{Exact, List, Memory};
 use std::alloc::Global;
 

@@ -18,7 +18,7 @@ use crate::items::append_covers;
 use crate::kept::{Kept, is_kept};
 use rob_cert::{Cover, Stop, Worst};
 use rob_dualize::Elaborated;
-use rob_dualize::told::whole;
+use rob_dualize::numbers::whole;
 use rob_model::Plan;
 use rob_number::{Exact, Ledger, List, Memory};
 use rob_worst::Finder;

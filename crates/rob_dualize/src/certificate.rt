@@ -10,8 +10,8 @@ ghost use Rattle.rob_dualize.specs.Wholes.{wholes_in, counterpart_in, FitsSolver
 use crate::counterpart::{program_columns, program_rows};
 use crate::elaborated::Elaborated;
 use crate::infeasible::with_items;
+use crate::numbers::{dual_values, exact_weights, point, ray, whole};
 use crate::reading::{covers, items, pair_difference, pair_differences};
-use crate::told::{dual_values, exact_weights, point, ray, whole};
 use rob_cert::{Cert, Status};
 use rob_model::Scenario;
 use rob_number::{Exact, List, LpKind, Memory};

@@ -5,7 +5,7 @@ ghost use Rattle.rob_model.specs.View.{scenario_of};
 ghost use Rattle.rob_cert.specs.View.{certificate_of, item_of};
 ghost use Rattle.rob_dualize.specs.Ending.{infeasible_with};
 
-use crate::told::whole;
+use crate::numbers::whole;
 use rob_cert::{Cert, Item, Status};
 use rob_model::Scenario;
 use rob_number::{Exact, List};

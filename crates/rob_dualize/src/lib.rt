@@ -10,13 +10,13 @@ pub mod entries;
 pub mod infeasible;
 pub mod laws;
 mod model;
+pub mod numbers;
 pub mod reading;
 mod route;
 mod scenario;
 pub mod set_lp;
 pub mod set_program;
 pub mod stop;
-pub mod told;
 
 pub use bounds::model_bounds;
 pub use elaborated::Elaborated;

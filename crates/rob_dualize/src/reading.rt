@@ -13,7 +13,7 @@ ghost use Rattle.rob_counterpart.specs.ReadNumbers.{differences, covers_at, cove
 ghost use Rattle.rob_dualize.specs.Wholes.{wholes_in, counterpart_in, FitsSolver, IsFew};
 
 use crate::elaborated::Elaborated;
-use crate::told::whole;
+use crate::numbers::whole;
 use rob_cert::{Cover, Item};
 use rob_number::{Exact, List, Memory};
 use std::alloc::Global;

@@ -14,10 +14,10 @@ ghost use Rattle.rob_dualize.specs.Ending.{IsMadeAs, IsSolvedAs, IsStoppedAs, Te
 ghost use Rattle.rob_dualize.specs.SetSolving.{program_of_set, HasSetCause, IsFewSet, IsSetOfModel, IsSolved};
 ghost use Rattle.rob_dualize.specs.Solving.{CountsAnswer};
 
+use crate::numbers::{point, weights};
 use crate::reading::pair_differences;
 use crate::set_lp::set_lp;
 use crate::stop::{position, wide};
-use crate::told::{point, weights};
 use rob_cert::Stop;
 use rob_model::Program;
 use rob_number::{Exact, Ledger, List, LpKind, Memory};

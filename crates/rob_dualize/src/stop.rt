@@ -5,7 +5,7 @@ ghost use Rattle.rob_cert.specs.declared.ending.Stop.TheVariants.{Memory as OutO
 ghost use Rattle.rob_simplex.specs.Solvers.{positions};
 ghost use Rattle.rob_dualize.specs.Ending.{IsWideStop, StopsAt, position_of};
 
-use crate::told::basis;
+use crate::numbers::basis;
 use rob_cert::{Stop, Trace};
 use rob_model::{Program, Spot};
 use rob_number::{Exact, List, Memory};

@@ -24,7 +24,7 @@ use rob_cert::{Cert, CertErr, Status, Worst, read_cert};
 use rob_commands::Ended;
 use rob_commands::reply::{Reply, certificate_rule, fault, no_plan};
 use rob_dualize::Elaborated;
-use rob_dualize::told::whole;
+use rob_dualize::numbers::whole;
 use rob_model::{Model, Plan, Spot, Where, find_form};
 use rob_number::{Exact, Ledger, Memory, Wide};
 use rob_report::worst_text;

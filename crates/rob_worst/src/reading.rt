@@ -13,9 +13,9 @@ ghost use Rattle.rob_worst.specs.Tasks.{FitsSet};
 
 use crate::task::Task;
 use rob_cert::Worst;
+use rob_dualize::numbers::{basis, dual_values, ray, whole};
 use rob_dualize::reading::pair_differences;
 use rob_dualize::set_program::parameters;
-use rob_dualize::told::{basis, dual_values, ray, whole};
 use rob_model::Scenario;
 use rob_number::{Exact, List, LpKind, Memory};
 use rob_sets::SetForm;

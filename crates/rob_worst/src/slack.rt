@@ -6,7 +6,7 @@ ghost use Rattle.rob_algebra.specs.Width.{Fits, IsWide};
 ghost use Rattle.rob_number.specs.Counts.{CountsWide};
 ghost use Rattle.rob_runs.specs.Spots.{slack_of};
 
-use rob_dualize::told::whole;
+use rob_dualize::numbers::whole;
 use rob_number::{Exact, Ledger, Wide};
 
 /// The slack of the form at its worst scenario, from what `worst` tells of it: minus the sum of the peak and the

@@ -8,7 +8,7 @@ ghost use Rattle.rob_sets.specs.FirstWide.{Some_of};
 ghost use Rattle.rob_sets.specs.Stops.{StopsFor};
 ghost use Rattle.rob_worst.specs.Vectors.{plan_of, step_of};
 
-use rob_dualize::told::whole;
+use rob_dualize::numbers::whole;
 use rob_model::Plan;
 use rob_number::{Exact, List, Memory};
 use rob_sets::clearing::whole as cleared_number;

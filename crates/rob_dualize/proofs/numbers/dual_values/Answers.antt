@@ -1,6 +1,6 @@
 use Rattle.rob_simplex.specs.Solutions.{dual_of}
 use Rattle.rob_dualize.proofs.TabulateLemmas.{row_more}
-use Rattle.rob_dualize.proofs.told.dual_values.Goals as goal
+use Rattle.rob_dualize.proofs.numbers.dual_values.Goals as goal
 
 pub loop-i-preserved : goal.loop-i-preserved
 loop-i-preserved g c =

@@ -1,6 +1,6 @@
 use Rattle.rob_simplex.specs.Solutions.{ray_of}
 use Rattle.rob_dualize.proofs.TabulateLemmas.{row_more}
-use Rattle.rob_dualize.proofs.told.ray.Goals as goal
+use Rattle.rob_dualize.proofs.numbers.ray.Goals as goal
 
 pub loop-j-preserved : goal.loop-j-preserved
 loop-j-preserved g c =

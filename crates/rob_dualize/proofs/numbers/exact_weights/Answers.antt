@@ -4,7 +4,7 @@ use Rattle.rob_algebra.specs.Fraction.{of_int}
 use Rattle.rob_simplex.specs.Solutions.{weights_of}
 use Rattle.rob_dualize.proofs.EntryLemmas.{seen_same}
 use Rattle.rob_dualize.proofs.TabulateLemmas.{row_more}
-use Rattle.rob_dualize.proofs.told.exact_weights.Goals as goal
+use Rattle.rob_dualize.proofs.numbers.exact_weights.Goals as goal
 
 pub whole-requires : goal.whole-requires
 whole-requires g c = record {

@@ -1,7 +1,7 @@
 use Rattle.std.specs.Prelude.{◌≡◌}
 use Rattle.rob_meaning.specs.Places.{tabulate}
 use Rattle.rob_simplex.specs.Dictionaries.{columns_of}
-use Rattle.rob_dualize.proofs.told.basis.Given as goal
+use Rattle.rob_dualize.proofs.numbers.basis.Given as goal
 
 -- the columns so far
 abbrev pub invariant-loop-i : goal.invariant-loop-i

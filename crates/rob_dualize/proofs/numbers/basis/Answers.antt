@@ -2,7 +2,7 @@ use Rattle.std.proofs.Common.{◌≡◌, arith, length}
 use Rattle.rob_meaning.proofs.Lists.TabulateLemmas.{item_more}
 use Rattle.rob_simplex.specs.Dictionaries.{columns_of}
 use Rattle.rob_dualize.proofs.TabulateLemmas.{all_columns}
-use Rattle.rob_dualize.proofs.told.basis.Goals as goal
+use Rattle.rob_dualize.proofs.numbers.basis.Goals as goal
 
 pub loop-i-preserved : goal.loop-i-preserved
 loop-i-preserved g c =

@@ -1,7 +1,7 @@
 use Rattle.std.specs.Prelude.{◌≡◌, ◌≤◌, nat_abs}
 use Rattle.rob_meaning.specs.Places.{Each, tabulate}
 use Rattle.rob_simplex.specs.Solutions.{weights_of}
-use Rattle.rob_dualize.proofs.told.weights.Given as goal
+use Rattle.rob_dualize.proofs.numbers.weights.Given as goal
 
 -- the weights so far
 abbrev pub invariant-loop-i : goal.invariant-loop-i

@@ -3,7 +3,7 @@ use Rattle.rob_meaning.proofs.Lists.TabulateLemmas.{item_more}
 use Rattle.rob_simplex.specs.Solutions.{weights_of}
 use Rattle.rob_dualize.proofs.EntryLemmas.{seen_same}
 use Rattle.rob_dualize.proofs.TabulateLemmas.{within_more}
-use Rattle.rob_dualize.proofs.told.weights.Goals as goal
+use Rattle.rob_dualize.proofs.numbers.weights.Goals as goal
 
 pub loop-i-preserved : goal.loop-i-preserved
 loop-i-preserved g c =

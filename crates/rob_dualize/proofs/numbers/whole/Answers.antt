@@ -6,7 +6,7 @@ use Rattle.rob_algebra.proofs.Parts.{of_int-one}
 use Rattle.rob_number.specs.Answer.{answer}
 use Rattle.rob_number.proofs.AnswerLaws.{ok_tells, ok_where_fits}
 use Rattle.rob_simplex.proofs.Telling.Quotients.{of_pair_fits, of_pair_seen}
-use Rattle.rob_dualize.proofs.told.whole.Goals as goal
+use Rattle.rob_dualize.proofs.numbers.whole.Goals as goal
 
 pub unwrap-requires : goal.unwrap-requires
 unwrap-requires g c =
