@@ -12,7 +12,7 @@ use Rattle.rob_meaning.specs.Vectors.{scale}
 use Rattle.rob_meaning.proofs.Lists.EachLemmas.{each_map}
 use Rattle.rob_meaning.proofs.Tables.MatrixLemmas.{length-matrices}
 use Rattle.rob_cert.specs.Shape.{IsCoverOf, IsItemOf, AreCoversOf, AreItemsOf}
-use Rattle.rob_cert.specs.declared.trace.Round.{Round as Told}
+use Rattle.rob_cert.specs.declared.trace.Round.{Round as Traced}
 use Rattle.rob_cert.proofs.Writing.ShapeLemmas.{no_covers, no_items}
 use Rattle.rob_counterpart.specs.ReadCertificates.{plan_read, bound_read, weight_of}
 use Rattle.rob_dualize.specs.Solving.{IsLastScenario}
@@ -64,7 +64,7 @@ module _ (m : RobustModel) where
     pub scale_is : p.scale ≡ cleared_by (plan_at m x)
     pub covers : p.covers ≡ covers_of_amounts m amounts
 
-  module _ (rounds : List Told) (t : TellsRun m rounds) (few : length rounds < 2 ^ 32)
+  module _ (rounds : List Traced) (t : TellsRun m rounds) (few : length rounds < 2 ^ 32)
       (inside : List Fraction) (admitted : Admits m inside) (last : IsLastScenario m inside) where
     few_cuts : length (cuts_told rounds) < 2 ^ 32
     few_cuts = let e : length (cuts_told rounds) ≡ length rounds = length-cuts rounds in omega arith

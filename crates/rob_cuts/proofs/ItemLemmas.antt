@@ -3,7 +3,7 @@ use Rattle.std.proofs.Common.{◌≡◌, ℕ, zero, suc, ◌+◌, ◌<◌, List,
 use Rattle.rob_algebra.specs.Fraction.{Fraction, of_int}
 use Rattle.rob_meaning.specs.Certificates.{Cover, Item}
 use Rattle.rob_meaning.specs.Places.{tabulate}
-use Rattle.rob_cert.specs.declared.trace.Round.{Round as Told}
+use Rattle.rob_cert.specs.declared.trace.Round.{Round as Traced}
 use Rattle.rob_counterpart.specs.MasterItems.{weighted_kept}
 use Rattle.rob_counterpart.specs.ReadNumbers.{covers_kept}
 use Rattle.rob_counterpart.proofs.Pairs.TabulateLemmas.{tabulate-same}
@@ -30,7 +30,7 @@ covers_more before all now g r x h e is =
 
 -- ---- items
 -- the cut of the round at a place
-pub numbered_told : (rounds : List Told) (q : ℕ) (r : Told) → q < length rounds → r ≡ get_or rounds q r
+pub numbered_told : (rounds : List Traced) (q : ℕ) (r : Traced) → q < length rounds → r ≡ get_or rounds q r
     → cut_of_number (cuts_told rounds) q ≡ cut_of r
 numbered_told [] q r l e = absurd (omega arith)
 numbered_told (x ∷ rounds) zero r l e = ap cut_of (sym e)
@@ -52,7 +52,7 @@ items_more form cuts weight before all now q x h e is =
     ∙ ap (λ n. of_form form (weighted_cuts cuts weight n)) (sym (add-one q)))
 
 -- the item of the round at a place
-pub item_at : (rounds : List Told) (weight : ℕ → Fraction) (q : ℕ) (r : Told) (w : Fraction) → q < length rounds
+pub item_at : (rounds : List Traced) (weight : ℕ → Fraction) (q : ℕ) (r : Traced) (w : Fraction) → q < length rounds
     → r ≡ get_or rounds q r → weight q ≡ w
     → item_told r w ≡ item_of_cut (cuts_told rounds) weight q
 item_at rounds weight q r w l e ew =
@@ -65,7 +65,7 @@ item_at rounds weight q r w l e ew =
     }) (sym (numbered_told rounds q r l e))
 
 -- only the weights of the rounds count
-pub items_told-same : (forms : ℕ) (rounds : List Told) (weight other : ℕ → Fraction)
+pub items_told-same : (forms : ℕ) (rounds : List Traced) (weight other : ℕ → Fraction)
     → ((q : ℕ) → q < length rounds → weight q ≡ other q)
     → by_form forms (weighted_cuts (cuts_told rounds) weight (length rounds)) ≡ items_told forms rounds other
 items_told-same forms rounds weight other h =

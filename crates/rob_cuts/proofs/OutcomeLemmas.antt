@@ -9,7 +9,7 @@ use Rattle.rob_meaning.specs.UncertaintySet.{Admits}
 use Rattle.rob_meaning.specs.Vectors.{scale}
 use Rattle.rob_meaning.specs.WellFormed.{IsModel}
 use Rattle.rob_cert.specs.View.{cover_of}
-use Rattle.rob_cert.specs.declared.trace.Round.{Round as Told}
+use Rattle.rob_cert.specs.declared.trace.Round.{Round as Traced}
 use Rattle.rob_cert.specs.declared.ending.Stop.{Stop}
 use Rattle.rob_cert.specs.declared.ending.Stop.TheVariants.{Memory}
 use Rattle.rob_elab.specs.Forms.{IsForms}
@@ -55,13 +55,13 @@ use Rattle.rob_cuts.proofs.RoundLemmas.{IsEndedMaster, few_rounds, best_next, be
 use Rattle.rob_cuts.proofs.SolvingLemmas.{or_stopped}
 use Rattle.rob_cuts.proofs.StopLemmas.{IsWideThere, step_place}
 
-module _ {N : Type 0} (value : N → Fraction) (limit : ℕ) (m : RobustModel) (rounds : List Told) where
+module _ {N : Type 0} (value : N → Fraction) (limit : ℕ) (m : RobustModel) (rounds : List Traced) where
   -- a further round
-  pub leads_on : (round : Told) → IsNext limit m rounds round → (t : Outcome N) → t ≡ outcome.Cut round
+  pub leads_on : (round : Traced) → IsNext limit m rounds round → (t : Outcome N) → t ≡ outcome.Cut round
       → IsOutcome value limit m rounds t
   leads_on round next t e = subst (IsOutcome value limit m rounds) (sym e) next
 
-  pub answer_leads_on : (round : Told) → IsNext limit m rounds round → (answer : Result (Outcome N) NoMemory)
+  pub answer_leads_on : (round : Traced) → IsNext limit m rounds round → (answer : Result (Outcome N) NoMemory)
       → IfOk answer (λ t. t ≡ outcome.Cut round)
       → IfOk answer (IsOutcome value limit m rounds)
   answer_leads_on round next (Ok t) e = leads_on round next t e
@@ -102,7 +102,7 @@ covered_at value m x amounts plan kept ep eb h ec es = record
     { kept = h; plan = ep; bound = eb; scale_is = es; covers = ec }
 
 -- a round more
-further : {N : Type 0} (value : N → Fraction) (limit : ℕ) (m : RobustModel) (rounds : List Told) (round : Told)
+further : {N : Type 0} (value : N → Fraction) (limit : ℕ) (m : RobustModel) (rounds : List Traced) (round : Traced)
     → IsNext limit m rounds round → (answer : Result (Outcome N) NoMemory) → IfOk answer (λ t. t ≡ outcome.Cut round)
     → (result : Result (Outcome N) Stop)
     → MatchResult result (λ x. answer ≡ Ok x) (λ stop. stop ≡ Memory)
@@ -111,7 +111,7 @@ further value limit m rounds round next answer is result e =
     leads_or_stops value limit m rounds answer (answer_leads_on value limit m rounds round next answer is) result e
 
 -- ---- a master with a best plan
-module _ {N : Type 0} (value : N → Fraction) (limit : ℕ) {m : RobustModel} {forms : Forms} {rounds : List Told}
+module _ {N : Type 0} (value : N → Fraction) (limit : ℕ) {m : RobustModel} {forms : Forms} {rounds : List Traced}
     {master : Lp} {s : Solver} (r : IsEndedMaster m forms rounds master kind.Optimal s) where
   -- it is cut off
   pub best_cut_off : (cut : Made) → IsPlanLook limit m value (point_of s) (of_plan.Broken cut)
@@ -151,7 +151,7 @@ module _ {N : Type 0} (value : N → Fraction) (limit : ℕ) {m : RobustModel} {
       result e
 
 -- ---- a master of which no plan keeps the cuts
-module _ {N : Type 0} (value : N → Fraction) (limit : ℕ) {m : RobustModel} {forms : Forms} {rounds : List Told}
+module _ {N : Type 0} (value : N → Fraction) (limit : ℕ) {m : RobustModel} {forms : Forms} {rounds : List Traced}
     {master : Lp} {s : Solver} (r : IsEndedMaster m forms rounds master kind.Infeasible s) where
   pub infeasible_out : IsModel m → TellsRun m rounds → positions s < 2 ^ 31 → {set : SetForm} → IsSetForm m set
       → (finder : Finder N) → IsFinder set finder → (answer : Result (Outcome N) NoMemory)
@@ -171,7 +171,7 @@ module _ {N : Type 0} (value : N → Fraction) (limit : ℕ) {m : RobustModel} {
       result e
 
 -- ---- a master without a best plan
-module _ {N : Type 0} (value : N → Fraction) (limit : ℕ) {m : RobustModel} {forms : Forms} {rounds : List Told}
+module _ {N : Type 0} (value : N → Fraction) (limit : ℕ) {m : RobustModel} {forms : Forms} {rounds : List Traced}
     {master : Lp} {s : Solver} (r : IsEndedMaster m forms rounds master kind.Unbounded s) where
   -- its direction is cut off
   pub step_cut_off : (cut : Made) → IsStepLook limit m value (ray_of s) (of_step.Broken cut)

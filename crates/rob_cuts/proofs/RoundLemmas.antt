@@ -13,7 +13,7 @@ use Rattle.rob_number.specs.declared.lp_kind.LpKind.{LpKind}
 use Rattle.rob_number.specs.declared.lp_kind.LpKind.TheVariants as kind
 use Rattle.rob_cert.specs.declared.ending.Stop.{Stop}
 use Rattle.rob_cert.specs.declared.ending.Stop.TheVariants.{EmptySet, Wide, Memory}
-use Rattle.rob_cert.specs.declared.trace.Round.{Round as Told}
+use Rattle.rob_cert.specs.declared.trace.Round.{Round as Traced}
 use Rattle.rob_elab.specs.Forms.{IsForms}
 use Rattle.rob_elab.specs.declared.forms.Forms.{Forms}
 use Rattle.rob_rows.specs.LinearPrograms.{program_of}
@@ -53,7 +53,7 @@ use Rattle.rob_cuts.proofs.StopLemmas.{master_place, scan_stopped}
 use Rattle.rob_dualize.proofs.RefusalLemmas.{refused_at}
 use Rattle.rob_dualize.proofs.SetLemmas.{same_trans}
 
-module _ {m : RobustModel} {forms : Forms} (f : IsForms m forms) (rounds : List Told) {master : Lp}
+module _ {m : RobustModel} {forms : Forms} (f : IsForms m forms) (rounds : List Traced) {master : Lp}
     (list : IsMasterList forms (cuts_told rounds) master) (s : Solver) where
   ended_as : (k : LpKind) → HasEnded (program_of master) k s → HasEnded (master_over m (cuts_told rounds)) k s
   ended_as k h = record {
@@ -93,18 +93,18 @@ module _ {m : RobustModel} {forms : Forms} (f : IsForms m forms) (rounds : List 
       (refused_master limit stop rows wide caused))
 
 -- ---- a master over the rounds that has ended so
-pub record IsEndedMaster (m : RobustModel) (forms : Forms) (rounds : List Told) (master : Lp) (k : LpKind)
+pub record IsEndedMaster (m : RobustModel) (forms : Forms) (rounds : List Traced) (master : Lp) (k : LpKind)
     (s : Solver) : Type 0 where
   pub are_forms : IsForms m forms
   pub list : IsMasterList forms (cuts_told rounds) master
   pub ended : HasEnded (program_of master) k s
 
-pub round_of : {m : RobustModel} {forms : Forms} {rounds : List Told} {master : Lp} {k : LpKind} {s : Solver}
+pub round_of : {m : RobustModel} {forms : Forms} {rounds : List Traced} {master : Lp} {k : LpKind} {s : Solver}
     → IsForms m forms → IsMasterList forms (cuts_told rounds) master → HasEnded (program_of master) k s
     → IsEndedMaster m forms rounds master k s
 round_of f list ended = record { are_forms = f; list = list; ended = ended }
 
-module _ {m : RobustModel} {forms : Forms} {rounds : List Told} {master : Lp} {k : LpKind} {s : Solver}
+module _ {m : RobustModel} {forms : Forms} {rounds : List Traced} {master : Lp} {k : LpKind} {s : Solver}
     (r : IsEndedMaster m forms rounds master k s) where
   pub master_ended : HasEnded (master_over m (cuts_told rounds)) k s
   master_ended = ended_as r.are_forms rounds r.list s k r.ended
@@ -121,7 +121,7 @@ module _ {m : RobustModel} {forms : Forms} {rounds : List Told} {master : Lp} {k
       ap (λ (n : ℕ). suc n + suc n) r.are_forms.columns ∙ sym e.same.width ∙ e.columns
 
 -- ---- with a best plan
-module _ {m : RobustModel} {forms : Forms} {rounds : List Told} {master : Lp} {s : Solver}
+module _ {m : RobustModel} {forms : Forms} {rounds : List Traced} {master : Lp} {s : Solver}
     (r : IsEndedMaster m forms rounds master kind.Optimal s) where
   best_master : MasterIsOptimal m (cuts_told rounds) s.basis (point_of s) (dual_of s)
   best_master = optimal_master m (cuts_told rounds) s (master_ended r)
@@ -139,13 +139,13 @@ module _ {m : RobustModel} {forms : Forms} {rounds : List Told} {master : Lp} {s
   best_stopped limit = scan_stopped limit m (cuts_told rounds) false (plan_at m (point_of s)) best_looks
 
   pub best_next : (limit : ℕ) (c : Cut) → CutsOff m (plan_at m (point_of s)) c → CutFits limit (length m.parameters) c
-      → (round : Told) → round ≡ round_told (record { kind = best; by_step = false; basis = s.basis; cut = c })
+      → (round : Traced) → round ≡ round_told (record { kind = best; by_step = false; basis = s.basis; cut = c })
       → IsNext limit m rounds round
   best_next limit c o fits round e = record {
     next = record { kind = best; by_step = false; basis = s.basis; cut = c };
     is_round = (point_of s, dual_of s, best_master, o);
     told = e;
-    fits = subst (λ (r : Told). CutFits limit (length m.parameters) (cut_of r)) (sym e) fits;
+    fits = subst (λ (r : Traced). CutFits limit (length m.parameters) (cut_of r)) (sym e) fits;
   }
 
   pub best_end : TellsRun m rounds → length rounds < 2 ^ 32 → (inside : List Fraction) → Admits m inside
@@ -156,7 +156,7 @@ module _ {m : RobustModel} {forms : Forms} {rounds : List Told} {master : Lp} {s
       optimal_end_is m rounds t few inside admitted last s.basis (point_of s) (dual_of s) amounts p best_master k
 
 -- ---- without any plan
-module _ {m : RobustModel} {forms : Forms} {rounds : List Told} {master : Lp} {s : Solver}
+module _ {m : RobustModel} {forms : Forms} {rounds : List Traced} {master : Lp} {s : Solver}
     (r : IsEndedMaster m forms rounds master kind.Infeasible s) where
   pub empty_end : TellsRun m rounds → length rounds < 2 ^ 32 → (inside : List Fraction) → Admits m inside
       → IsLastScenario m inside
@@ -172,7 +172,7 @@ module _ {m : RobustModel} {forms : Forms} {rounds : List Told} {master : Lp} {s
       (λ q l. o.2 q (omega arith))
 
 -- ---- without a best plan
-module _ {m : RobustModel} {forms : Forms} {rounds : List Told} {master : Lp} {s : Solver}
+module _ {m : RobustModel} {forms : Forms} {rounds : List Traced} {master : Lp} {s : Solver}
     (r : IsEndedMaster m forms rounds master kind.Unbounded s) where
   boundless_master : MasterIsUnbounded m (cuts_told rounds) s.basis (column_of s.state) (point_of s) (ray_of s)
   boundless_master = unbounded_master m (cuts_told rounds) s (master_ended r)
@@ -204,7 +204,7 @@ module _ {m : RobustModel} {forms : Forms} {rounds : List Told} {master : Lp} {s
   step_stopped limit = scan_stopped limit m (cuts_told rounds) true (direction_at m (ray_of s)) step_looks
 
   pub step_next : (limit : ℕ) (c : Cut) → CutsOff m (direction_at m (ray_of s)) c
-      → CutFits limit (length m.parameters) c → (round : Told)
+      → CutFits limit (length m.parameters) c → (round : Traced)
       → round ≡ round_told (record {
         kind = boundless (column_of s.state);
         by_step = true;
@@ -215,7 +215,7 @@ module _ {m : RobustModel} {forms : Forms} {rounds : List Told} {master : Lp} {s
     next = record { kind = boundless (column_of s.state); by_step = true; basis = s.basis; cut = c };
     is_round = (point_of s, ray_of s, boundless_master, o);
     told = e;
-    fits = subst (λ (r : Told). CutFits limit (length m.parameters) (cut_of r)) (sym e) fits;
+    fits = subst (λ (r : Traced). CutFits limit (length m.parameters) (cut_of r)) (sym e) fits;
   }
 
   -- where the direction keeps all forms
@@ -242,7 +242,7 @@ module _ {m : RobustModel} {forms : Forms} {rounds : List Told} {master : Lp} {s
     point_stopped limit = scan_stopped limit m (cuts_told rounds) false (plan_at m (point_of s)) point_looks
 
     pub point_next : (limit : ℕ) (c : Cut) → CutsOff m (plan_at m (point_of s)) c
-        → CutFits limit (length m.parameters) c → (round : Told)
+        → CutFits limit (length m.parameters) c → (round : Traced)
         → round ≡ round_told (record {
           kind = boundless (column_of s.state);
           by_step = false;
@@ -253,7 +253,7 @@ module _ {m : RobustModel} {forms : Forms} {rounds : List Told} {master : Lp} {s
       next = record { kind = boundless (column_of s.state); by_step = false; basis = s.basis; cut = c };
       is_round = (point_of s, ray_of s, boundless_master, direction_keeps_all, o);
       told = e;
-      fits = subst (λ (r : Told). CutFits limit (length m.parameters) (cut_of r)) (sym e) fits;
+      fits = subst (λ (r : Traced). CutFits limit (length m.parameters) (cut_of r)) (sym e) fits;
     }
 
     pub boundless_end : TellsRun m rounds → length rounds < 2 ^ 32 → (inside : List Fraction) → Admits m inside

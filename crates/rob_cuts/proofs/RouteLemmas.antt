@@ -5,7 +5,7 @@ use Rattle.rob_algebra.specs.Fraction.{Fraction}
 use Rattle.rob_meaning.specs.Places.{Each}
 use Rattle.rob_meaning.specs.RobustModel.{RobustModel}
 use Rattle.rob_cert.specs.declared.ending.Stop.{Stop}
-use Rattle.rob_cert.specs.declared.trace.Round.{Round as Told}
+use Rattle.rob_cert.specs.declared.trace.Round.{Round as Traced}
 use Rattle.rob_elab.specs.Elaborated.{AreElaborated}
 use Rattle.rob_elab.specs.declared.forms.Forms.{Forms}
 use Rattle.rob_rows.specs.LinearPrograms.{HasNumbersWithin}
@@ -36,21 +36,21 @@ use Rattle.rob_meaning.proofs.Lists.EachLemmas.{each_push}
 pub state_none : {limit : ℕ} {forms : Forms} {set : SetForm} {run : Run} → 1 ≤ limit → IsMasterList forms [] run.master
     → ((limit : ℕ) → 1 ≤ limit → HasNumbersWithin limit run.master) → run.rounds ≡ [] → IsRunSoFar limit forms set run
 state_none {limit = limit} {forms = forms} {run = run} one list within e = record {
-  master = subst (λ (rounds : List Told). IsMasterList forms (cuts_told rounds) run.master) (sym e) list;
+  master = subst (λ (rounds : List Traced). IsMasterList forms (cuts_told rounds) run.master) (sym e) list;
   within = within limit one;
-  fits = subst (λ (rounds : List Told). Each (RoundFits limit) rounds) (sym e) tt;
+  fits = subst (λ (rounds : List Traced). Each (RoundFits limit) rounds) (sym e) tt;
   tells = λ m model f st. record { trace = []; run = tt; told = e };
 }
 
 -- ---- the round that comes next
 -- after the run so far, of each model with these forms and set rows
-pub record IsNextOf (limit : ℕ) (forms : Forms) (set : SetForm) (run : Run) (round : Told) : Type 0 where
+pub record IsNextOf (limit : ℕ) (forms : Forms) (set : SetForm) (run : Run) (round : Traced) : Type 0 where
   pub one : AreOfModel limit forms set
   pub state : IsRunSoFar limit forms set run
   pub next : HoldsOfEach forms set (λ m. IsNext limit m run.rounds round)
 
 pub next_of : {limit : ℕ} {forms : Forms} {set : SetForm} {run : Run} → AreOfModel limit forms set
-    → IsRunSoFar limit forms set run → {N : Type 0} (value : N → Fraction) {o : Outcome N} {round : Told}
+    → IsRunSoFar limit forms set run → {N : Type 0} (value : N → Fraction) {o : Outcome N} {round : Traced}
     → o ≡ outcome.Cut round → HoldsOfEach forms set (λ m. IsOutcome value limit m run.rounds o)
     → IsNextOf limit forms set run round
 next_of {limit = limit} {run = run} one state value is leads = record {
@@ -59,7 +59,7 @@ next_of {limit = limit} {run = run} one state value is leads = record {
   next = λ m model f st. subst (IsOutcome value limit m run.rounds) is (leads m model f st);
 }
 
-module _ {limit : ℕ} {forms : Forms} {set : SetForm} {run : Run} {round : Told}
+module _ {limit : ℕ} {forms : Forms} {set : SetForm} {run : Run} {round : Traced}
     (r : IsNextOf limit forms set run round) where
   abbrev m : RobustModel
   m = r.one.elaborated.model
@@ -89,11 +89,11 @@ module _ {limit : ℕ} {forms : Forms} {set : SetForm} {run : Run} {round : Told
           (sym (ap cuts_told e ∙ cuts-more run.rounds round))
           (cut_added forms (cuts_told run.rounds) (cut_of round) run.master now.master r.state.master adds);
       within = within r.state.within;
-      fits = subst (λ (rounds : List Told). Each (RoundFits limit) rounds) (sym e)
+      fits = subst (λ (rounds : List Traced). Each (RoundFits limit) rounds) (sym e)
           (each_push (RoundFits limit) run.rounds round r.state.fits
           (fits_alone limit (length m.parameters) round next_here.fits));
       tells = λ m model f st. let n = r.next m model f st in
-          subst (λ (rounds : List Told). TellsRun m rounds) (sym e)
+          subst (λ (rounds : List Traced). TellsRun m rounds) (sym e)
           (tells_more m run.rounds (r.state.tells m model f st) n.next round n.is_round n.told);
     }
 

@@ -1,4 +1,4 @@
--- Told rounds and their run.
+-- The rounds of a trace, and their run.
 use Rattle.std.proofs.Common.{◌≡◌, ℕ, suc, ◌+◌, ◌^◌, ◌<◌, ◌≤◌, List, [], ◌∷◌, ◌++◌, map, length, refl, sym, ap, ap₂, ◌∙◌, subst, arith}
 use Rattle.std.proofs.lemmas.List.{length-map, map-append}
 use Rattle.rob_algebra.specs.Fraction.{Fraction, of_int}
@@ -7,7 +7,7 @@ use Rattle.rob_meaning.specs.Forms.{matrices}
 use Rattle.rob_meaning.specs.Places.{Each, tabulate}
 use Rattle.rob_meaning.specs.RobustModel.{RobustModel}
 use Rattle.rob_meaning.specs.SetRows.{set_rows, set_column_count}
-use Rattle.rob_cert.specs.declared.trace.Round.{Round as Told}
+use Rattle.rob_cert.specs.declared.trace.Round.{Round as Traced}
 use Rattle.rob_elab.specs.Forms.{IsForms}
 use Rattle.rob_elab.specs.declared.forms.Forms.{Forms}
 use Rattle.rob_sets.specs.SetForm.{IsSetForm, cleared_row}
@@ -31,17 +31,17 @@ pub cuts-told : (trace : List Round) → cuts_told (map round_told trace) ≡ tr
 cuts-told [] = refl
 cuts-told (r ∷ trace) = ap (λ (cs : List Cut). r.cut ∷ cs) (cuts-told trace)
 
-pub cuts-more : (rounds : List Told) (r : Told) → cuts_told (rounds ++ r ∷ []) ≡ cuts_told rounds ++ cut_of r ∷ []
+pub cuts-more : (rounds : List Traced) (r : Traced) → cuts_told (rounds ++ r ∷ []) ≡ cuts_told rounds ++ cut_of r ∷ []
 cuts-more rounds r = map-append cut_of rounds (r ∷ [])
 
-pub length-cuts : (rounds : List Told) → length (cuts_told rounds) ≡ length rounds
+pub length-cuts : (rounds : List Traced) → length (cuts_told rounds) ≡ length rounds
 length-cuts [] = refl
 length-cuts (r ∷ rounds) = ap suc (length-cuts rounds)
 
-pub fits_alone : (limit n : ℕ) (r : Told) → CutFits limit n (cut_of r) → RoundFits limit r
+pub fits_alone : (limit n : ℕ) (r : Traced) → CutFits limit n (cut_of r) → RoundFits limit r
 fits_alone limit n r h = record { base = h.base; vector = h.vector }
 
-module _ (m : RobustModel) (rounds : List Told) (t : TellsRun m rounds) where
+module _ (m : RobustModel) (rounds : List Traced) (t : TellsRun m rounds) where
   pub trace_is : cuts_told rounds ≡ trace_cuts t.trace
   trace_is = ap cuts_told t.told ∙ cuts-told t.trace
 
@@ -49,12 +49,13 @@ module _ (m : RobustModel) (rounds : List Told) (t : TellsRun m rounds) where
   are_cuts_told = subst (λ (cs : List Cut). Each (IsCut m) cs) (sym trace_is) (run_cuts m t.trace t.run)
 
   -- a round more
-  pub tells_more : (r : Round) (round : Told) → IsRound m (cuts_told rounds) r → round ≡ round_told r
+  pub tells_more : (r : Round) (round : Traced) → IsRound m (cuts_told rounds) r → round ≡ round_told r
       → TellsRun m (rounds ++ round ∷ [])
   tells_more r round next e = record {
     trace = t.trace ++ r ∷ [];
     run = run_more m t.trace r t.run (subst (λ (cs : List Cut). IsRound m cs r) trace_is next);
-    told = ap₂ (λ (xs : List Told) (x : Told). xs ++ x ∷ []) t.told e ∙ sym (map-append round_told t.trace (r ∷ []));
+    told = ap₂ (λ (xs : List Traced) (x : Traced). xs ++ x ∷ []) t.told e
+        ∙ sym (map-append round_told t.trace (r ∷ []));
   }
 
   pub rounds_few : length rounds ≤ basic_cut_limit m
@@ -69,9 +70,9 @@ module _ (m : RobustModel) (rounds : List Told) (t : TellsRun m rounds) where
       same (x ∷ xs) = ap suc (same xs)
 
   -- the form of the next round's cut exists
-  pub next_form : (r : Round) (round : Told) → IsRound m (cuts_told rounds) r → round ≡ round_told r
+  pub next_form : (r : Round) (round : Traced) → IsRound m (cuts_told rounds) r → round ≡ round_told r
       → round.form < length (matrices m)
-  next_form r round next e = subst (λ (x : Told). x.form < length (matrices m)) (sym e)
+  next_form r round next e = subst (λ (x : Traced). x.form < length (matrices m)) (sym e)
       (round_cut m (cuts_told rounds) r next).form_in
 
   -- the items are the run's

@@ -19,7 +19,7 @@ use Rattle.rob_cert.specs.View.{certificate_of}
 use Rattle.rob_cert.specs.declared.certificate.Cert.{Cert}
 use Rattle.rob_cert.specs.declared.ending.Stop.{Stop}
 use Rattle.rob_cert.specs.declared.ending.Stop.TheVariants.{EmptySet, Wide, Memory}
-use Rattle.rob_cert.specs.declared.trace.Round.{Round as Told}
+use Rattle.rob_cert.specs.declared.trace.Round.{Round as Traced}
 use Rattle.rob_dualize.specs.Solving.{CountsStop}
 use Rattle.rob_runs.specs.Cuts.{Cut}
 use Rattle.rob_runs.specs.Readings.{IsReadOff}
@@ -83,7 +83,7 @@ set_fits {limit = limit} one stop h = by stop (h one.elaborated.model one.is_mod
   where
     by : (stop : Stop) → HasSetCause limit one.elaborated.model stop → StopFits limit stop
     by (EmptySet weights) h = tt
-    by (Wide place trace) h = subst (λ (rounds : List Told). Each (RoundFits limit) rounds) (sym h.1) tt
+    by (Wide place trace) h = subst (λ (rounds : List Traced). Each (RoundFits limit) rounds) (sym h.1) tt
     by Memory h = tt
 
 -- ---- rounds
@@ -97,7 +97,7 @@ after_set m trace (cost f k) o n = n
 after_set m trace (cut_clearing f) o n = n
 after_set m trace (cut_sum f j) o n = n
 
-module _ (m : RobustModel) (rounds : List Told) (t : TellsRun m rounds) where
+module _ (m : RobustModel) (rounds : List Traced) (t : TellsRun m rounds) where
   cause_is : (limit : ℕ) (stop : Stop) → HasScenario m → StopsWith (IsWideThere limit m (cuts_told rounds)) stop
       → HasCause limit m (stop_after stop rounds)
   cause_is limit (EmptySet weights) n h = absurd h

@@ -11,7 +11,7 @@ use Rattle.rob_model.specs.declared.place.Program.TheVariants as program
 use Rattle.rob_model.specs.declared.place.Where.TheVariants as of
 use Rattle.rob_cert.specs.declared.ending.Stop.{Stop}
 use Rattle.rob_cert.specs.declared.ending.Stop.TheVariants.{EmptySet, Wide, Memory}
-use Rattle.rob_cert.specs.declared.trace.Round.{Round as Told}
+use Rattle.rob_cert.specs.declared.trace.Round.{Round as Traced}
 use Rattle.rob_elab.specs.Forms.{IsForms}
 use Rattle.rob_elab.specs.declared.forms.Forms.{Forms}
 use Rattle.rob_counterpart.specs.Counterpart.{cell}
@@ -162,9 +162,9 @@ product_same m forms f c j =
     ap {B = ℕ → ℤ} (λ (all : List (List (List ℤ))) (k : ℕ). cell (matrix_at all c.form) k j *ℤ at (c.base ∷ c.vector)
     k) f.matrices
 
-pub sum_place : (limit : ℕ) (m : RobustModel) (forms : Forms) → IsForms m forms → (rounds : List Told) (round : Told)
-    → IsNext limit m rounds round → (place : Spot) → IsInSum limit forms (cut_of round) place
-    → IsWideThere limit m (cuts_told rounds) place
+pub sum_place : (limit : ℕ) (m : RobustModel) (forms : Forms) → IsForms m forms
+    → (rounds : List Traced) (round : Traced) → IsNext limit m rounds round → (place : Spot)
+    → IsInSum limit forms (cut_of round) place → IsWideThere limit m (cuts_told rounds) place
 sum_place limit m forms f rounds round next place w =
     let e : cut_of round ≡ next.next.cut = ap cut_of next.told in
     let columns : suc (suc forms.columns) ≡ form_columns m = ap (λ (n : ℕ). suc (suc n)) f.columns in

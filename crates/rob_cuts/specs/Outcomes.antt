@@ -10,7 +10,7 @@ use Rattle.rob_rows.specs.declared.program.Lp.{Lp}
 use Rattle.rob_simplex.specs.Solvers.{Solver, positions}
 use Rattle.rob_cert.specs.Shape.{HasShape}
 use Rattle.rob_cert.specs.View.{certificate_of}
-use Rattle.rob_cert.specs.declared.trace.Round.{Round as Told}
+use Rattle.rob_cert.specs.declared.trace.Round.{Round as Traced}
 use Rattle.rob_cert.specs.declared.ending.Stop.{Stop}
 use Rattle.rob_dualize.specs.Ending.{HasEnded}
 use Rattle.rob_dualize.specs.Solving.{IsLastScenario}
@@ -47,7 +47,7 @@ pub record IsEnd (m : RobustModel) (cuts : List Cut) (c : Certificate) : Type 0 
   pub inside : IsLastScenario m c.inside
 
 -- the round comes next after these rounds, and is told; no number of its cut is over the limit
-pub record IsNext (limit : ℕ) (m : RobustModel) (rounds : List Told) (round : Told) : Type 0 where
+pub record IsNext (limit : ℕ) (m : RobustModel) (rounds : List Traced) (round : Traced) : Type 0 where
   pub next : Round
   pub is_round : IsRound m (cuts_told rounds) next
   pub told : round ≡ round_told next
@@ -60,7 +60,7 @@ IsOfRound other = ⊤
 
 -- the number at the place is wide in the round that comes next, whose program, where it is one of a row, is refused for
 -- the row
-abbrev pub IsWideNext : ℕ → RobustModel → List Told → Stop → Type 0
+abbrev pub IsWideNext : ℕ → RobustModel → List Traced → Stop → Type 0
 IsWideNext limit m rounds stop =
     StopsWith
     (λ place. (spot : RunSpot) × IsOfRound spot × (place ≡ spot_told spot)
@@ -68,12 +68,12 @@ IsWideNext limit m rounds stop =
     stop
 
 -- a further round, or the end
-abbrev pub IsOutcome : {N : Type 0} → (N → Fraction) → ℕ → RobustModel → List Told → Outcome N → Type 0
+abbrev pub IsOutcome : {N : Type 0} → (N → Fraction) → ℕ → RobustModel → List Traced → Outcome N → Type 0
 IsOutcome value limit m rounds (outcome.Cut round) = IsNext limit m rounds round
 IsOutcome value limit m rounds (outcome.End cert) = IsEnd m (cuts_told rounds) (certificate_of value cert)
 
 -- what the round behind these rounds leads to, of each well formed model whose forms and set rows these are
-abbrev pub LeadsOn : {N : Type 0} → (N → Fraction) → ℕ → Elaborated → List Told → Result (Outcome N) Stop → Type 0
+abbrev pub LeadsOn : {N : Type 0} → (N → Fraction) → ℕ → Elaborated → List Traced → Result (Outcome N) Stop → Type 0
 LeadsOn value limit model rounds result =
     HoldsOfEach model.forms.now model.set.now
     (λ m. MatchResult result (IsOutcome value limit m rounds) (IsWideNext limit m rounds))

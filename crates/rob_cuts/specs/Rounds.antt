@@ -4,7 +4,7 @@ use Rattle.rob_algebra.specs.Fraction.{Fraction}
 use Rattle.rob_meaning.specs.Clearing.{denominator}
 use Rattle.rob_number.specs.declared.lp_kind.LpKind.{LpKind}
 use Rattle.rob_number.specs.declared.lp_kind.LpKind.TheVariants.{Optimal, Unbounded}
-use Rattle.rob_cert.specs.declared.trace.Round.{Round as Told}
+use Rattle.rob_cert.specs.declared.trace.Round.{Round as Traced}
 use Rattle.rob_meaning.specs.Places.{Each}
 use Rattle.rob_meaning.specs.RobustModel.{RobustModel}
 use Rattle.rob_runs.specs.Cuts.{Cut, wholes}
@@ -16,7 +16,7 @@ kind_told best = Optimal
 kind_told (boundless column) = Unbounded
 
 -- a round as it is told
-abbrev pub round_told : Round → Told
+abbrev pub round_told : Round → Traced
 round_told r = record {
   kind = kind_told r.kind;
   by_step = r.by_step;
@@ -28,15 +28,15 @@ round_told r = record {
 }
 
 -- the cut of a told round
-abbrev pub cut_of : Told → Cut
+abbrev pub cut_of : Traced → Cut
 cut_of r = record { form = r.form; base = r.base; vector = r.vector }
 
 -- the cuts of told rounds
-abbrev pub cuts_told : List Told → List Cut
+abbrev pub cuts_told : List Traced → List Cut
 cuts_told rounds = map cut_of rounds
 
 -- the rounds are what is told of a run
-pub record TellsRun (m : RobustModel) (rounds : List Told) : Type 0 where
+pub record TellsRun (m : RobustModel) (rounds : List Traced) : Type 0 where
   pub trace : List Round
   pub run : IsRun m trace
   pub told : rounds ≡ map round_told trace
@@ -56,6 +56,6 @@ pub record CutFits (limit n : ℕ) (c : Cut) : Type 0 where
   pub count : length c.vector ≡ n
 
 -- the same of a told round, whatever the number of parameters
-pub record RoundFits (limit : ℕ) (r : Told) : Type 0 where
+pub record RoundFits (limit : ℕ) (r : Traced) : Type 0 where
   pub base : nat_abs r.base ≤ limit
   pub vector : Each (λ a. nat_abs a ≤ limit) r.vector

@@ -14,7 +14,7 @@ use Rattle.rob_elab.specs.Elaborated.{AreElaborated}
 use Rattle.rob_cert.specs.Shape.{HasShape}
 use Rattle.rob_cert.specs.declared.ending.Stop.{Stop}
 use Rattle.rob_cert.specs.declared.ending.Stop.TheVariants.{EmptySet, Wide, Memory}
-use Rattle.rob_cert.specs.declared.trace.Round.{Round as Told}
+use Rattle.rob_cert.specs.declared.trace.Round.{Round as Traced}
 use Rattle.rob_dualize.specs.Solving.{HasScenario, IsLastScenario, TellsEmpty}
 use Rattle.rob_dualize.specs.Wholes.{counterpart_in, IsFew}
 use Rattle.rob_dualize.specs.declared.elaborated.Elaborated.{Elaborated}
@@ -36,7 +36,7 @@ pub record FitsRoute (limit : ℕ) (model : Elaborated) : Type 0 where
   pub few : IsFew (counterpart_in model)
 
 -- the rounds are a run, which is finished; the certificate is read off there, proves, and has its shape
-pub record IsSolution (m : RobustModel) (c : Certificate) (told : List Told) : Type 0 where
+pub record IsSolution (m : RobustModel) (c : Certificate) (told : List Traced) : Type 0 where
   pub trace : List Round
   pub run : IsRun m trace
   pub rounds : told ≡ map round_told trace
@@ -54,7 +54,7 @@ ComesAfterSet m trace other = HasScenario m
 
 -- the rounds are a run, and the number at the place is wide in its next round; where it is one of a row, its program is
 -- refused for the row
-pub record IsWideAfterRounds (limit : ℕ) (m : RobustModel) (place : Spot) (told : List Told) : Type 0 where
+pub record IsWideAfterRounds (limit : ℕ) (m : RobustModel) (place : Spot) (told : List Traced) : Type 0 where
   pub trace : List Round
   pub rounds : told ≡ map round_told trace
   pub spot : RunSpot

@@ -4,7 +4,7 @@ use Rattle.rob_model.specs.declared.place.Spot.{Spot}
 use Rattle.rob_model.specs.declared.place.Spot.TheVariants.{Clearing, Sum}
 use Rattle.rob_model.specs.declared.place.Where.TheVariants as of
 use Rattle.rob_elab.specs.declared.forms.Forms.{Forms}
-use Rattle.rob_cert.specs.declared.trace.Round.{Round as Told}
+use Rattle.rob_cert.specs.declared.trace.Round.{Round as Traced}
 use Rattle.rob_simplex.specs.Solvers.{positions}
 use Rattle.rob_solver.specs.declared.solving.Stopped.{Stopped}
 use Rattle.rob_solver.specs.declared.solving.Stopped.TheVariants as unsolved
@@ -39,7 +39,7 @@ IsRefused place refusal.Wide stop = IsWideStop place stop
 IsRefused place refusal.Memory stop = stop ≡ Memory
 
 -- the stop with the rounds before it
-abbrev pub stop_after : Stop → List Told → Stop
+abbrev pub stop_after : Stop → List Traced → Stop
 stop_after (EmptySet weights) rounds = EmptySet weights
 stop_after (Wide place trace) rounds = Wide place (record { rounds = rounds })
 stop_after Memory rounds = Memory

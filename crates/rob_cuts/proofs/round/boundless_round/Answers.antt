@@ -1,7 +1,7 @@
 use Rattle.std.proofs.Common.{ℕ, List, length, ap, ap₂, ◌∙◌, Some, to_z, of_z, w64}
 use lib.IntN.{ℤ}
 use Rattle.rob_number.specs.declared.lp_kind.LpKind.TheVariants.{Unbounded}
-use Rattle.rob_cert.specs.declared.trace.Round.{Round as Told}
+use Rattle.rob_cert.specs.declared.trace.Round.{Round as Traced}
 use Rattle.rob_simplex.specs.Solvers.{column_of}
 use Rattle.rob_cuts.specs.declared.round.Outcome.TheVariants as outcome
 use Rattle.rob_cuts.proofs.round.boundless_round.Goals as goal
@@ -12,7 +12,7 @@ basis-requires g c = record { positions = ap length c.items.ensures.list ∙ c.r
 
 pub returns : goal.returns
 returns g c =
-    let told : List ℕ → ℕ → ℤ → Told = λ basis column base. record {
+    let told : List ℕ → ℕ → ℤ → Traced = λ basis column base. record {
       kind = Unbounded;
       by_step = c.args.by_step;
       basis = basis;

@@ -1,7 +1,7 @@
 use Rattle.std.proofs.Common.{ℕ, List, length, sym, ap, ap₂, ◌∙◌, subst}
 use Rattle.rob_meaning.specs.Places.{Each}
 use Rattle.rob_model.specs.View.{scenario_of}
-use Rattle.rob_cert.specs.declared.trace.Round.{Round as Told}
+use Rattle.rob_cert.specs.declared.trace.Round.{Round as Traced}
 use Rattle.rob_simplex.specs.Solutions.{dual_of}
 use Rattle.rob_cuts.specs.Certificates.{optimal_with, items_told}
 use Rattle.rob_cuts.specs.Covered.{covered_plan}
@@ -13,7 +13,7 @@ optimal-requires g c = record {
   optimum = c.requires.optimum;
   rows = ap length c.items-2.ensures.list ∙ c.requires.rows;
   few = c.requires.few_rows;
-  fits = subst (λ (rounds : List Told). Each (RoundFits g.N.Exact.limit) rounds) (sym c.items-2.ensures.list)
+  fits = subst (λ (rounds : List Traced). Each (RoundFits g.N.Exact.limit) rounds) (sym c.items-2.ensures.list)
       c.requires.fits;
 }
 
@@ -25,7 +25,7 @@ returns g c =
         scenario_of value c.in_ok-inside.inside,
         λ m set model f st is. c.in_ok-inside.ensures.scenario m set model f st is,
         c.in_ok-cert.ensures.certificate
-            ∙ ap₂ (λ (n : ℕ) (rounds : List Told).
+            ∙ ap₂ (λ (n : ℕ) (rounds : List Traced).
             optimal_with (scenario_of value c.in_ok-inside.inside)
             (covered_plan value c.args.best.plan c.args.best.kept)
             (items_told n rounds (dual_of c.args.solver.now)))
