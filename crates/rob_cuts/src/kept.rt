@@ -7,8 +7,9 @@ ghost use Rattle.rob_meaning.specs.Places.{0ℚ};
 
 use rob_cert::Cover;
 use rob_model::Plan;
+use rob_number::fraction::long_product;
 use rob_number::{Exact, List};
-use rob_worst::sums::{long_product, long_sum};
+use rob_worst::sums::long_sum;
 
 /// What shows that all forms are kept: covers, as often as the scale says.
 #[derive(Debug, Drop)]

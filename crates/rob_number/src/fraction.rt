@@ -25,7 +25,8 @@ pub struct Frac<const B: u32> {
 }
 
 /// The product of two numbers of at most 62 bits.
-fn product(a: i64, b: i64) -> i128
+#[inline(always)]
+pub fn long_product(a: i64, b: i64) -> i128
     requires left { nat_abs a < 2 ^ 62 }
     requires right { nat_abs b < 2 ^ 62 }
     ensures value { result ≡ a *ℤ b }
@@ -111,7 +112,7 @@ impl<const B: u32> Frac<B> {
         ensures value { result ≡ (value_of self.entry).num *ℤ (value_of other.entry).num }
         ensures size { nat_abs result < 2 ^ 124 }
     {
-        product(self.numerator(), other.numerator())
+        long_product(self.numerator(), other.numerator())
     }
 
     /// The product of the denominators.
@@ -119,7 +120,7 @@ impl<const B: u32> Frac<B> {
         ensures value { result ≡ (value_of self.entry).den * (value_of other.entry).den }
         ensures positive { 0 < result }
     {
-        product(self.denominator(), other.denominator()) as u128
+        long_product(self.denominator(), other.denominator()) as u128
     }
 
     /// The numerator, over the product of the denominators in place of its own.
@@ -127,7 +128,7 @@ impl<const B: u32> Frac<B> {
         ensures value { result ≡ (value_of self.entry).num *ℤ pos (value_of other.entry).den }
         ensures size { nat_abs result < 2 ^ 124 }
     {
-        product(self.numerator(), other.denominator())
+        long_product(self.numerator(), other.denominator())
     }
 
     /// The numerator of the sum, over the product of the denominators.

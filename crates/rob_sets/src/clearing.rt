@@ -1,6 +1,6 @@
 //! Fractions times their least common denominator.
 
-ghost use Rattle.std.specs.Prelude.{◌≡◌, ◌≤◌, ◌<◌, ◌/◌, ◌^◌, pos, ◌*ℤ◌, ◌<ℤ◌, nat_abs, map, OnOk, IfOk, IfErr, MatchOption};
+ghost use Rattle.std.specs.Prelude.{◌≡◌, ◌≤◌, ◌<◌, ◌/◌, ◌^◌, pos, ◌<ℤ◌, nat_abs, map, OnOk, IfOk, IfErr, MatchOption};
 ghost use Rattle.rob_algebra.specs.Width.{IsWideWhole};
 ghost use Rattle.rob_number.specs.Counts.{Rose, NeverFell};
 ghost use Rattle.rob_meaning.specs.Clearing.{lcm, denominator as common_denominator, whole_at};
@@ -9,6 +9,7 @@ ghost use Rattle.rob_sets.specs.FirstWide.{Some_of, IsWideCleared};
 ghost use Rattle.rob_sets.specs.Stops.{StopsFor};
 
 use crate::error::Stop;
+use rob_number::fraction::long_product;
 use rob_number::{Exact, Ledger, List, gcd128};
 use std::alloc::Global;
 
@@ -61,16 +62,6 @@ fn quotient(common: u64, denominator: i64) -> i64
     (common / denominator as u64) as i64
 }
 
-/// The product of two numbers of at most 62 bits.
-fn product(a: i64, b: i64) -> i128
-    requires left { nat_abs a < 2 ^ 62 }
-    requires right { nat_abs b < 2 ^ 62 }
-    ensures value { result ≡ a *ℤ b }
-    ensures size { nat_abs result < 2 ^ 124 }
-{
-    a as i128 * b as i128
-}
-
 /// A number times a denominator that makes it whole, or none where that is over the limit.
 pub fn whole<N: Exact>(q: N, common: u64) -> Option<i64>
     requires within { common ≤ N.limit }
@@ -78,7 +69,7 @@ pub fn whole<N: Exact>(q: N, common: u64) -> Option<i64>
         (λ z. (z ≡ whole_at common (N.value q)) × (nat_abs z ≤ N.limit)) }
 {
     let times = quotient(common, q.den());
-    let number = product(q.num(), times);
+    let number = long_product(q.num(), times);
     if number.unsigned_abs() <= N::LIMIT as u128 {
         Some(number as i64)
     } else {

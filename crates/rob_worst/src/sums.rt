@@ -3,6 +3,7 @@
 ghost use Rattle.std.specs.Prelude.{◌≡◌, ◌≤◌, ◌<◌, ◌-◌, ◌^◌, ◌+ℤ◌, ◌*ℤ◌, nat_abs, neg_ℤ, [], ◌∷◌, ◌++◌, OnOk, MatchOption};
 ghost use Rattle.rob_algebra.specs.Width.{IsWideWhole};
 
+use rob_number::fraction::long_product;
 use rob_number::{Exact, List, Memory};
 
 /// A sum and one product more, or none where that is over the limit.
@@ -19,16 +20,6 @@ pub fn added<N: Exact>(sum: i64, a: i64, b: i64) -> Option<i64>
     } else {
         None
     }
-}
-
-/// The product of two numbers of at most 62 bits.
-pub fn long_product(a: i64, b: i64) -> i128
-    requires left { nat_abs a < 2 ^ 62 }
-    requires right { nat_abs b < 2 ^ 62 }
-    ensures value { result ≡ a *ℤ b }
-    ensures size { nat_abs result < 2 ^ 124 }
-{
-    a as i128 * b as i128
 }
 
 /// The sum of a number of at most 62 bits and one of at most 124.

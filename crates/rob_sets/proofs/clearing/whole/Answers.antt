@@ -12,47 +12,47 @@ quotient-times-requires-clause-positive g c =
     (sym (seen_within g.N.Exact.limit c.den.result g.met.N.Exact.limit_high c.den.ensures.within))
     c.den.ensures.positive
 
-pub product-number-requires-clause-left : goal.product-number-requires-clause-left
-product-number-requires-clause-left g c =
+pub long_product-number-requires-clause-left : goal.long_product-number-requires-clause-left
+long_product-number-requires-clause-left g c =
     seen_small c.num.result (omega (arith, c.num.ensures.within, g.met.N.Exact.limit_high))
 
-pub product-number-requires-clause-right : goal.product-number-requires-clause-right
-product-number-requires-clause-right g c = seen_small c.quotient-times.result c.quotient-times.ensures.size
+pub long_product-number-requires-clause-right : goal.long_product-number-requires-clause-right
+long_product-number-requires-clause-right g c = seen_small c.quotient-times.result c.quotient-times.ensures.size
 
 pub overflow_cast-result : goal.overflow_cast-result
 overflow_cast-result g c =
-    kept_fits g.N.Exact.limit c.LIMIT.result c.product-number.result c.unsigned_abs.result
-    (c.LIMIT.ensures ∙ g.met.N.Exact.limit_told) g.met.N.Exact.limit_high c.product-number.ensures.size
+    kept_fits g.N.Exact.limit c.LIMIT.result c.long_product-number.result c.unsigned_abs.result
+    (c.LIMIT.ensures ∙ g.met.N.Exact.limit_told) g.met.N.Exact.limit_high c.long_product-number.ensures.size
     c.unsigned_abs.ensures.value c.if-unsigned_abs-LIMIT.true
 
 pub returns-then-unsigned_abs-LIMIT : goal.returns-then-unsigned_abs-LIMIT
 returns-then-unsigned_abs-LIMIT g c =
     let q = g.N.Exact.value c.args.q in
-    let is = product_value c.product-number.result c.num.result c.quotient-times.result q.num
-    (pos (c.args.common / q.den)) c.product-number.ensures.value
+    let is = product_value c.long_product-number.result c.num.result c.quotient-times.result q.num
+    (pos (c.args.common / q.den)) c.long_product-number.ensures.value
     (omega (arith, c.num.ensures.within, g.met.N.Exact.limit_high)) c.quotient-times.ensures.size
     c.num.ensures.numerator
     (c.quotient-times.ensures.value ∙ ap (λ z. pos (c.args.common / nat_abs z))
     (seen_within g.N.Exact.limit c.den.result g.met.N.Exact.limit_high c.den.ensures.within
     ∙ c.den.ensures.denominator)) in
     let told = c.LIMIT.ensures ∙ g.met.N.Exact.limit_told in
-    let seen = kept_seen g.N.Exact.limit c.LIMIT.result c.product-number.result c.unsigned_abs.result told
-    g.met.N.Exact.limit_high c.product-number.ensures.size c.unsigned_abs.ensures.value
+    let seen = kept_seen g.N.Exact.limit c.LIMIT.result c.long_product-number.result c.unsigned_abs.result told
+    g.met.N.Exact.limit_high c.long_product-number.ensures.size c.unsigned_abs.ensures.value
     c.if-unsigned_abs-LIMIT.true in
     record {
       whole = (
         seen ∙ is,
         subst (λ z. nat_abs z ≤ g.N.Exact.limit) (sym seen) (within_limit g.N.Exact.limit c.LIMIT.result
-            c.product-number.result c.unsigned_abs.result told g.met.N.Exact.limit_high
-            c.product-number.ensures.size c.unsigned_abs.ensures.value c.if-unsigned_abs-LIMIT.true),
+            c.long_product-number.result c.unsigned_abs.result told g.met.N.Exact.limit_high
+            c.long_product-number.ensures.size c.unsigned_abs.ensures.value c.if-unsigned_abs-LIMIT.true),
       );
     }
 
 pub returns-else-unsigned_abs-LIMIT : goal.returns-else-unsigned_abs-LIMIT
 returns-else-unsigned_abs-LIMIT g c =
     let q = g.N.Exact.value c.args.q in
-    let is = product_value c.product-number.result c.num.result c.quotient-times.result q.num
-    (pos (c.args.common / q.den)) c.product-number.ensures.value
+    let is = product_value c.long_product-number.result c.num.result c.quotient-times.result q.num
+    (pos (c.args.common / q.den)) c.long_product-number.ensures.value
     (omega (arith, c.num.ensures.within, g.met.N.Exact.limit_high)) c.quotient-times.ensures.size
     c.num.ensures.numerator
     (c.quotient-times.ensures.value ∙ ap (λ z. pos (c.args.common / nat_abs z))
@@ -60,7 +60,7 @@ returns-else-unsigned_abs-LIMIT g c =
     ∙ c.den.ensures.denominator)) in
     record {
       whole = subst (λ z. g.N.Exact.limit < nat_abs z) is (over_limit g.N.Exact.limit c.LIMIT.result
-          c.product-number.result c.unsigned_abs.result (c.LIMIT.ensures ∙ g.met.N.Exact.limit_told)
-          g.met.N.Exact.limit_high c.product-number.ensures.size c.unsigned_abs.ensures.value
+          c.long_product-number.result c.unsigned_abs.result (c.LIMIT.ensures ∙ g.met.N.Exact.limit_told)
+          g.met.N.Exact.limit_high c.long_product-number.ensures.size c.unsigned_abs.ensures.value
           c.if-unsigned_abs-LIMIT.false);
     }
