@@ -1,10 +1,8 @@
 //! Numbers of 64 bits as the entries of rows: each call is one of rows of such numbers.
 
-ghost use Rattle.std.specs.Prelude.{◌≡◌, ◌*ℤ◌};
-
 use crate::entry::Entry;
 use rob_number::Wide;
-use rob_rows::{Factors, bound_of, combine_lowest, lowest};
+use rob_rows::{Factors, bound_of, combine_lowest, lowest, product};
 use std::cmp::Ordering;
 
 impl Entry for i64 {
@@ -91,11 +89,4 @@ impl Entry for i64 {
     fn reduce(row: &mut [i64], limit: u128) {
         rob_rows::to_lowest_terms(row, limit as u64)
     }
-}
-
-/// a * b
-fn product(a: i64, b: i64) -> i128
-    ensures value { result ≡ a *ℤ b }
-{
-    a as i128 * b as i128
 }

@@ -19,7 +19,7 @@ pub use combination::combine_lowest;
 pub use factors::{Factors, lowest};
 pub use laws::{lexicographic_law, primitive_part_laws, program_law};
 pub use narrow::bound_of;
-pub use order::lex_cmp;
+pub use order::{lex_cmp, product};
 pub use pivot_row::combine;
 pub use program::Lp;
 pub use reduction::to_lowest_terms;
