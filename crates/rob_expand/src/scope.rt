@@ -1,6 +1,6 @@
 //! The names of the ranges around a place in an expression, and the forms that stand for their values.
 
-ghost use Rattle.std.specs.Prelude.{◌≡◌, [], drop, true, IfOk, OnOk};
+ghost use Rattle.std.specs.Prelude.{◌≡◌, [], true, IfOk, OnOk};
 ghost use Rattle.rob_index.specs.Fast as fast;
 ghost use Rattle.rob_index.specs.Forms.{length_form, plus_times};
 ghost use Rattle.rob_syntax.specs.Seen.{seen_index, seen_range};
@@ -8,6 +8,7 @@ ghost use Rattle.rob_expand.specs.Scopes.{AddNothing, AreEqual, inside, IsIndex,
 
 use rob_index_forms::{ends_of, index_form};
 use rob_number::Memory;
+use rob_number::list::remove_first;
 use rob_ranges::{Form, Whole};
 use rob_syntax::syntax::{Index, Range};
 use std::alloc::Global;
@@ -86,16 +87,6 @@ impl Scope {
         put_starts(&mut form, alloc, self.bound.as_slice())?;
         Ok(form)
     }
-}
-
-/// Removes the first item, if there is one.
-fn remove_first<T: Drop>(items: &mut Vec<T>)
-    ensures left { items.new.items ≡ drop 1 items.old.items }
-{
-    if items.is_empty() {
-        return;
-    }
-    items.remove(0);
 }
 
 /// Puts in what stands for the innermost values.

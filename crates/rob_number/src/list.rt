@@ -1,6 +1,6 @@
 //! Lists that contracts see as the list of their items.
 
-ghost use Rattle.std.specs.Prelude.{◌≡◌, [], ◌∷◌, ◌++◌, OnOk, OnErr};
+ghost use Rattle.std.specs.Prelude.{◌≡◌, [], ◌∷◌, ◌++◌, drop, OnOk, OnErr};
 
 use crate::memory::Memory;
 use std::alloc::Global;
@@ -58,4 +58,14 @@ impl<T> From<Vec<T>> for List<T> {
     fn from(items: Vec<T>) -> List<T> {
         List { items }
     }
+}
+
+/// Removes the first item, if there is one.
+pub fn remove_first<T: Drop>(items: &mut Vec<T>)
+    ensures left { items.new.items ≡ drop 1 items.old.items }
+{
+    if items.is_empty() {
+        return;
+    }
+    items.remove(0);
 }

@@ -1,5 +1,5 @@
 -- The ranges around a place by their names and the forms of their ends: one range more, one fewer.
-use Rattle.std.proofs.Common.{◌≡◌, ◌+◌, ℕ, ◌==◌, Bool, true, false, List, [], ◌∷◌, ◌++◌, length, drop, refl, ap, ◌∙◌, arith}
+use Rattle.std.proofs.Common.{◌≡◌, ◌+◌, ℕ, ◌==◌, Bool, true, false, List, [], ◌∷◌, ◌++◌, length, refl, ap, ◌∙◌, arith}
 use Rattle.std.specs.Prelude.{◌||◌, not}
 use Rattle.std.specs.List.{list_any}
 use Rattle.rob_index.specs.Statements.{Atom, digits, bound, Step, Index, Range}
@@ -35,11 +35,6 @@ inside_is above r = λ i. record { names = names_last [] above r i; nest = nest_
 -- one fewer
 pub outside_is : (a : Around) (r : Range) → outside (inside a r) ≡ a
 outside_is a r = λ i. record { names = a.names; nest = all_but_last_is a.nest (ends_of a.names r) i }
-
--- no name is behind none
-pub none_behind : (ns : List ℕ) → length ns ≡ 0 → ns ≡ drop 1 ns
-none_behind [] h = refl
-none_behind (n ∷ ns) h = absurd (omega (arith, h))
 
 -- ---- names
 either_way : (a b c : Bool) → (a || (b || c)) ≡ ((b || a) || c)

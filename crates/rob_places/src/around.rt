@@ -1,6 +1,6 @@
 //! The ranges around a place.
 
-ghost use Rattle.std.specs.Prelude.{◌≡◌, drop, length, IfOk, OnOk};
+ghost use Rattle.std.specs.Prelude.{◌≡◌, length, IfOk, OnOk};
 ghost use Rattle.rob_index.specs.Fast.{index_form};
 ghost use Rattle.rob_syntax.specs.Seen.{seen_atom, seen_index, seen_range};
 ghost use Rattle.rob_places.specs.Around.{binds, has_loose, inside, is_loose, nothing_around, outside};
@@ -8,6 +8,7 @@ ghost use Rattle.rob_places.specs.Tests.{form_of, length_of};
 
 use rob_index_forms::{ends_of, index_form};
 use rob_number::Memory;
+use rob_number::list::remove_first;
 use rob_ranges::{Form, Nest};
 use rob_syntax::syntax::{Atom, Index, Range};
 use std::alloc::Global;
@@ -118,15 +119,4 @@ impl Around {
         }
         false
     }
-}
-
-/// Removes the first name, if there is one.
-#[tactic(auto, using(crate::proofs::AroundLemmas::none_behind))]
-fn remove_first(names: &mut Vec<usize>)
-    ensures left { names.new.items ≡ drop 1 names.old.items }
-{
-    if names.is_empty() {
-        return;
-    }
-    names.remove(0);
 }
