@@ -23,12 +23,12 @@ use rob_expand::lines::line_of;
 use rob_expand::name::GREATEST_INDEX;
 use rob_expand::placed::{Part, Placed};
 use rob_number::Memory;
-use rob_ranges::run::Run;
+use rob_ranges::run::{Run, successor};
 use rob_ranges::{Ends, Form, Values, Whole};
 use rob_settings::inner::Inner;
 use rob_settings::item::{Item, Named};
 use rob_settings::live::first_live;
-use rob_settings::setting::{next, with_value};
+use rob_settings::setting::with_value;
 use rob_settings::settings::{Setting, all_settings};
 use rob_settings::spot::{middle, one_at, thin_in, thin_places};
 use rob_syntax::syntax::Indexed;
@@ -178,7 +178,7 @@ fn judge_values(
         let inside = with_value(alloc, &live, values)?;
         let here = judge_ranges(alloc, inner, inside.items())?;
         found = worse(found, here);
-        value = next(alloc, &live)?;
+        value = successor(alloc, &live)?;
     }
 }
 

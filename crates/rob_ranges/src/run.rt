@@ -151,8 +151,8 @@ fn only_long(alloc: Global, range: &Ends, values: &Values) -> Result<Option<Whol
     }
 }
 
-/// One more.
-fn successor(alloc: Global, value: &Whole) -> Result<Whole, Memory>
+/// The next value upwards: one more.
+pub fn successor(alloc: Global, value: &Whole) -> Result<Whole, Memory>
     ensures next { IfOk result (λ next. next ≡ value.now +ℤ pos 1) }
 {
     let one = Whole::small(alloc, 1);

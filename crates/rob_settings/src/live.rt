@@ -4,8 +4,8 @@ ghost use Rattle.std.specs.Prelude.{ℤ, pos, negsuc, ◌≡◌, ◌+ℤ◌, ◌
 ghost use Rattle.rob_settings.specs.Live.{lack_at, IsDead};
 
 use crate::divide::{small_steps, steps_to};
-use crate::setting::next;
 use rob_number::Memory;
+use rob_ranges::run::successor;
 use rob_ranges::small::{small_growth, small_inside, value_inside};
 use rob_ranges::{Ends, Whole};
 use std::alloc::Global;
@@ -156,7 +156,7 @@ fn fall(
     ensures fall { IfOk result (λ fall. fall ≡ lack_at range.now values.now value.now
         +ℤ (negsuc 0 *ℤ lack_at range.now values.now (value.now +ℤ pos 1))) }
 {
-    let after = next(alloc, value)?;
+    let after = successor(alloc, value)?;
     let behind = lack(alloc, range, &after, values)?;
     let minus_one = Whole::small(alloc, -1);
     here.plus_times(alloc, &minus_one, &behind)

@@ -1,6 +1,6 @@
 //! Settings: the values of the ranges around a place, the innermost first.
 
-ghost use Rattle.std.specs.Prelude.{◌≡◌, ◌∷◌, ◌+ℤ◌, pos, IfOk};
+ghost use Rattle.std.specs.Prelude.{◌≡◌, ◌∷◌, IfOk};
 
 use rob_number::{List, Memory};
 use rob_ranges::Whole;
@@ -21,12 +21,4 @@ pub fn copied(alloc: Global, values: &[Whole]) -> Result<List<Whole>, Memory>
 {
     let copied = copies(alloc, values)?;
     Ok(List::from(copied))
-}
-
-/// The next value upwards.
-pub fn next(alloc: Global, value: &Whole) -> Result<Whole, Memory>
-    ensures next { IfOk result (λ next. next ≡ value.now +ℤ pos 1) }
-{
-    let one = Whole::small(alloc, 1);
-    value.plus_times(alloc, &one, &one)
 }

@@ -7,9 +7,10 @@ ghost use Rattle.rob_settings.specs.Settings.{between};
 
 use crate::live::first_live;
 use crate::room::{Stop, spend};
-use crate::setting::{copied, next, with_value};
+use crate::setting::{copied, with_value};
 use rob_number::{List, Memory};
 use rob_ranges::reach::two_in_front;
+use rob_ranges::run::successor;
 use rob_ranges::small::value_inside;
 use rob_ranges::{Ends, Whole};
 use std::alloc::Global;
@@ -124,7 +125,7 @@ fn append_values(
             return Ok(left);
         }
         left = append_at(settings, alloc, &live, inner, values, left)?;
-        value = next(alloc, &live)?;
+        value = successor(alloc, &live)?;
     }
 }
 
@@ -195,6 +196,6 @@ fn append_run(
         }
         left = spend(1, left)?;
         settings.push(two_in_front(alloc, &value, around, values)?)?;
-        value = next(alloc, &value)?;
+        value = successor(alloc, &value)?;
     }
 }
