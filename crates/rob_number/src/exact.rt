@@ -1,12 +1,12 @@
 //! Exact numbers: fractions whose numerator and denominator are bounded, with every operation exact or refused.
 
-ghost use Rattle.std.specs.Prelude.{◌≡◌, ◌≢◌, ◌-◌, ◌^◌, ◌≤◌, ℕ, ℤ, pos, nat_abs, ◌<ℤ◌, ◌↔◌};
+ghost use Rattle.std.specs.Prelude.{◌≡◌, ◌≢◌, ◌-◌, ◌^◌, ◌<◌, ◌≤◌, ℕ, ℤ, pos, nat_abs, ◌<ℤ◌, ◌↔◌};
 ghost use Rattle.std.specs.Bool.{Decides};
 ghost use Rattle.std.specs.Ordering.{MatchOrdering};
 ghost use Rattle.rob_algebra.specs.Fraction.{Fraction, of_pair, of_int, ◌+ℚ◌, ◌-ℚ◌, ◌*ℚ◌, ◌/ℚ◌, neg_ℚ, sign_ℚ, ◌<ℚ◌};
 ghost use Rattle.rob_algebra.specs.Width.{Fits, kept};
 ghost use Rattle.rob_number.specs.Answer.{answer};
-ghost use Rattle.rob_number.specs.Counts.{CountsOne};
+ghost use Rattle.rob_number.specs.Counts.{CountsOne, NeverFell};
 
 use crate::ledger::Ledger;
 
@@ -96,4 +96,18 @@ pub trait Exact: Copy + Eq + Ord {
     ghost limit_high: { limit ≤ 2 ^ 62 - 1 };
 
     ghost limit_told: { LIMIT ≡ pos limit };
+}
+
+/// The fraction of two whole numbers. It fits, since they do.
+pub fn fraction<N: Exact, L: Ledger>(numerator: u64, denominator: u64, ledger: &mut L) -> N
+    requires numerator { numerator ≤ N.limit }
+    requires denominator { denominator ≤ N.limit }
+    requires positive { 0 < denominator }
+    ensures value { N.value result ≡ of_pair (pos numerator) denominator }
+    ensures counted { NeverFell L.ops L.wides ledger.old ledger.new }
+{
+    match N::from_parts(numerator as i64, denominator as i64, ledger) {
+        Ok(number) => number,
+        Err(_) => unreachable!(),
+    }
 }

@@ -1,10 +1,10 @@
 //! The number that a field is.
 
-ghost use Rattle.std.specs.Prelude.{◌≡◌, ◌≤◌, ◌<◌, ◌+◌, ◌*◌, ◌-◌, ◌^◌, take, drop, length, nat_le, Some, None, option_map, MatchOption, if◌then◌else◌, ◌&&◌, pos};
-ghost use Rattle.rob_algebra.specs.Fraction.{of_pair};
+ghost use Rattle.std.specs.Prelude.{◌≡◌, ◌≤◌, ◌<◌, ◌+◌, ◌*◌, ◌-◌, ◌^◌, take, drop, length, nat_le, Some, None, option_map, MatchOption, if◌then◌else◌, ◌&&◌};
 ghost use Rattle.rob_number.specs.Counts.{NeverFell};
 ghost use Rattle.rob_replay.specs.Fields.{is_blank, is_digit, behind_blanks as behind, before_blanks as before, whole_in, numerator_in, denominator_in, divisor_in, unsigned_in, signed_in, number_in};
 
+use rob_number::exact::fraction;
 use rob_number::{Exact, Ledger};
 
 /// Whether a byte is a space or a tab.
@@ -98,20 +98,6 @@ fn read_divisor<N: Exact>(digits: &[u8]) -> Option<u64>
     match read_whole::<N>(digits) {
         None => None,
         Some(divisor) => { if divisor == 0 { None } else { Some(divisor) } }
-    }
-}
-
-/// The fraction of two whole numbers. It fits, since they do.
-fn fraction<N: Exact, L: Ledger>(numerator: u64, divisor: u64, ledger: &mut L) -> N
-    requires numerator { numerator ≤ N.limit }
-    requires divisor { divisor ≤ N.limit }
-    requires positive { 0 < divisor }
-    ensures value { N.value result ≡ of_pair (pos numerator) divisor }
-    ensures counted { NeverFell L.ops L.wides ledger.old ledger.new }
-{
-    match N::from_parts(numerator as i64, divisor as i64, ledger) {
-        Ok(number) => number,
-        Err(_) => unreachable!(),
     }
 }
 

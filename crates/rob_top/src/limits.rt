@@ -1,11 +1,11 @@
 //! The limits of a budget among a command's own words.
 
-ghost use Rattle.std.specs.Prelude.{◌≡◌, ◌≤◌, ◌<◌, IfOk, MatchOption, length, map, pos};
-ghost use Rattle.rob_algebra.specs.Fraction.{of_pair};
+ghost use Rattle.std.specs.Prelude.{◌≡◌, ◌≤◌, ◌<◌, IfOk, MatchOption, length, map};
 ghost use Rattle.rob_top.specs.Swept.{limit_value};
 ghost use Rattle.rob_words.specs.Limits.{IsLimit, IsLimitList};
 ghost use Rattle.rob_words.specs.Names.{parts_of};
 
+use rob_number::exact::fraction;
 use rob_number::{Exact, Ledger, List, Memory};
 use rob_words::{MOST_IN_LIST, first_part, limit};
 use std::alloc::Global;
@@ -20,20 +20,6 @@ pub fn limit_of<N: Exact, L: Ledger>(word: &str, ledger: &mut L) -> Option<N>
     match limit(word, N::LIMIT as u64) {
         Some((numerator, denominator)) => Some(fraction(numerator, denominator, ledger)),
         None => None,
-    }
-}
-
-/// The fraction of two numbers. It fits, since they do.
-pub fn fraction<N: Exact, L: Ledger>(numerator: u64, denominator: u64, ledger: &mut L) -> N
-    requires numerator { numerator ≤ N.limit }
-    requires denominator { denominator ≤ N.limit }
-    requires positive { 0 < denominator }
-    ensures value { N.value result ≡ of_pair (pos numerator) denominator }
-    ensures counted { L.wides ledger.old ≤ L.wides ledger.new }
-{
-    match N::from_parts(numerator as i64, denominator as i64, ledger) {
-        Ok(number) => number,
-        Err(_) => unreachable!(),
     }
 }
 

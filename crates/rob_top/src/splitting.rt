@@ -17,7 +17,6 @@ ghost use Rattle.rob_top.specs.Work.{AnswersWords};
 ghost use Rattle.rob_words.specs.Cuts.{IsCut, IsCutList};
 ghost use Rattle.rob_words.specs.Names.{parts_of};
 
-use crate::limits::fraction;
 use crate::names::own_word;
 use crate::solving::stopped;
 use rob_cells::{CellsErr, Cut, cell_count, cut_model};
@@ -26,6 +25,7 @@ use rob_commands::certificates::with_cells;
 use rob_commands::reply::{Reply, broken_words, printed_model};
 use rob_dualize::solve_model;
 use rob_model::{Model, find_param};
+use rob_number::exact::fraction;
 use rob_number::{Exact, Ledger, List, Memory};
 use rob_words::{MOST_CUTS, Own, Route, Verb, cut, first_part};
 use std::alloc::Global;

@@ -1,5 +1,5 @@
-use Rattle.rob_parse.proofs.Degrees.NumberLemmas.{written_kept}
-use Rattle.rob_top.proofs.limits.fraction.Goals as goal
+use Rattle.rob_number.proofs.PairLemmas.{written_kept}
+use Rattle.rob_number.proofs.exact.fraction.Goals as goal
 
 pub unreachable-requires : goal.unreachable-requires
 unreachable-requires g c =
