@@ -1,14 +1,15 @@
 -- Entries of a dictionary's rows, as its code reads them, and the first negative one.
-use Rattle.std.proofs.Common.{◌≡◌, ◌≢◌, ℕ, ◌+◌, ◌*◌, ◌<◌, ◌≤◌, sym, ap, ◌∙◌, subst, arith, inl, inr, List, length, nat_abs}
+use Rattle.std.proofs.Common.{◌≡◌, ◌≢◌, ℕ, ◌+◌, ◌*◌, ◌<◌, ◌≤◌, sym, ap, ◌∙◌, subst, arith, inl, inr, List, length, get_or, nat_abs}
 use Rattle.std.proofs.lemmas.Bool.{cases_eq, cases_lt}
 use lib.IntN.{ℤ, pos}
 use lib.Signed.{◌<ℤ◌, ◌≤ℤ◌}
 use Rattle.rob_linear.specs.Vectors.{at}
 use Rattle.rob_linear.proofs.RowForms.CondensedSigns.{condensed_first, condensed_none}
 use Rattle.rob_table.specs.Tables.{row_at, bound_at}
-use Rattle.rob_table.proofs.Places.{row_within}
-use Rattle.rob_simplex.specs.Dictionaries.{Table, columns_of, basic_columns, right_column, read_row, rows_of, IsSound, FirstNegative}
+use Rattle.rob_table.proofs.Places.{read_at, row_within}
+use Rattle.rob_simplex.specs.Dictionaries.{Table, columns_of, basic_columns, positions, right_column, read_row, rows_of, width_of, IsSound, FirstNegative}
 use Rattle.rob_entries.specs.Choices.{IsLowest}
+use Rattle.rob_simplex.proofs.Rows.CopiedTables.{table_of}
 use Rattle.rob_simplex.proofs.Rows.ReadRows.{read_near, read_own, read_none, basic_low}
 
 module _ {limit n : ℕ} {basis places near : List ℕ} {table : List ℤ} {bounds : List ℕ} {workspace : ℕ}
@@ -28,7 +29,7 @@ module _ {limit n : ℕ} {basis places near : List ℕ} {table : List ℤ} {boun
       let low : bound_at bounds i ≤ limit = sound.bounded.low i bound_in in
       subst (λ t. nat_abs t ≤ limit) (sym e) (omega arith)
 
-  pub near_value : (column p : ℕ) → p ≡ columns_of places column → p < n + 3 → (x : ℤ) → x ≡ at table (i * (n + 4) + p)
+  near_value : (column p : ℕ) → p ≡ columns_of places column → p < n + 3 → (x : ℤ) → x ≡ at table (i * (n + 4) + p)
       → (x ≡ rows_of shown i column) × (nat_abs x ≤ limit)
   near_value column p ep l x e = (
     e ∙ ap (row_at table (n + 4) i) ep
@@ -36,7 +37,7 @@ module _ {limit n : ℕ} {basis places near : List ℕ} {table : List ℤ} {boun
     number p (omega arith) x e,
   )
 
-  pub own_value : (column p : ℕ) → p ≡ columns_of places column → p ≡ n + 3 + i → (x : ℤ)
+  own_value : (column p : ℕ) → p ≡ columns_of places column → p ≡ n + 3 + i → (x : ℤ)
       → x ≡ at table (i * (n + 4) + (n + 3)) → (x ≡ rows_of shown i column) × (nat_abs x ≤ limit)
   own_value column p ep l x e = (
     e ∙ sym (read_own (n + 3) (columns_of places) i (row_at table (n + 4) i) column (sym ep ∙ l)),
@@ -139,6 +140,38 @@ module _ {limit n : ℕ} {basis places near : List ℕ} {table : List ℤ} {boun
         (basic_columns n basis) (row_at table (n + 4)) (λ j. row_at table (n + 4) j (n + 3)) i (n + length basis)
         sound.placed
         (λ j jl jn. none_before (n + length basis) b low j jl jn) own_nonneg k (omega arith) l
+
+-- ---- an entry that is read by its column's place, where the dictionary is seen as a table
+module _ {limit n : ℕ} {basis places near : List ℕ} {table : List ℤ} {bounds : List ℕ} {workspace : ℕ}
+    (sound : IsSound limit n basis places near table bounds workspace) {seen : Table}
+    (seen_is : table_of limit n basis places table ≡ seen) (i column : ℕ) (row_in : i ≤ positions seen)
+    (column_in : column < width_of seen) (p : ℕ) (place : p ≡ get_or places column p) where
+  row_here : i ≤ length basis
+  row_here = subst (λ (t : Table). i ≤ positions t) (sym seen_is) row_in
+
+  place_is : p ≡ columns_of places column
+  place_is =
+      let inside : column < n + length basis + 4 =
+      subst (λ (t : Table). column < width_of t) (sym seen_is) column_in in
+      read_at places column p (omega (arith, sound.places_size)) place
+
+  as_seen : (x : ℤ) → (x ≡ rows_of (table_of limit n basis places table) i column) × (nat_abs x ≤ limit)
+      → (x ≡ rows_of seen i column) × (nat_abs x ≤ seen.limit) × (nat_abs x ≤ limit)
+  as_seen x v = (
+    v.0 ∙ ap (λ (t : Table). rows_of t i column) seen_is,
+    subst (λ (t : Table). nat_abs x ≤ t.limit) seen_is v.1,
+    v.1,
+  )
+
+  -- in a column that isn't basic
+  pub near_read : p < n + 3 → (x : ℤ) → x ≡ at table (i * (n + 4) + p)
+      → (x ≡ rows_of seen i column) × (nat_abs x ≤ seen.limit) × (nat_abs x ≤ limit)
+  near_read l x e = as_seen x (near_value sound i row_here column p place_is l x e)
+
+  -- in the row's own column
+  pub own_read : p ≡ n + 3 + i → (x : ℤ) → x ≡ at table (i * (n + 4) + (n + 3))
+      → (x ≡ rows_of seen i column) × (nat_abs x ≤ seen.limit) × (nat_abs x ≤ limit)
+  own_read l x e = as_seen x (own_value sound i row_here column p place_is l x e)
 
 -- ---- no entry is over the limit
 module _ {limit n : ℕ} {basis places near : List ℕ} {table : List ℤ} {bounds : List ℕ} {workspace : ℕ}
