@@ -1,6 +1,6 @@
 //! The limits of a budget among a command's own words.
 
-ghost use Rattle.std.specs.Prelude.{◌≡◌, ◌≤◌, ◌<◌, IfOk, MatchOption, length, map};
+ghost use Rattle.std.specs.Prelude.{◌≡◌, ◌≤◌, IfOk, MatchOption, length, map};
 ghost use Rattle.rob_top.specs.Swept.{limit_value};
 ghost use Rattle.rob_words.specs.Limits.{IsLimit, IsLimitList};
 ghost use Rattle.rob_words.specs.Names.{parts_of};

@@ -1,6 +1,7 @@
 -- A dictionary, and a solver, that are made like others.
 use Rattle.std.proofs.Common.{◌≡◌, ℕ, ◌+◌, ◌-◌, ◌<◌, ◌≤◌, ◌∙◌, sym, ap, subst, arith, List, length}
 use lib.IntN.{ℤ, nat_abs}
+use Rattle.rob_algebra.proofs.WholeNumbers.{at_block}
 use Rattle.rob_linear.specs.Vectors.{at}
 use Rattle.rob_table.specs.Tables.{HasBounds}
 use Rattle.rob_simplex.specs.declared.state.State.{State}
