@@ -1,10 +1,11 @@
 //! The answer of `replay`.
 
-ghost use Rattle.std.specs.Prelude.{◌≤◌, ◌^◌, length, map, IfOk};
+ghost use Rattle.std.specs.Prelude.{◌≡◌, ◌≤◌, ◌^◌, length, map, IfOk};
 ghost use Rattle.rob_cert.specs.View.{certificate_of};
+ghost use Rattle.rob_meaning.specs.Certificates.{Certificate};
 ghost use Rattle.rob_meaning.specs.Named.{IsNamed};
 ghost use Rattle.rob_model.specs.Valid.{IsValid};
-ghost use Rattle.rob_model.specs.View.{robust};
+ghost use Rattle.rob_model.specs.View.{plan_of, robust};
 ghost use Rattle.rob_replay.specs.View.{line_of};
 ghost use Rattle.rob_report.specs.Tables.{table_of};
 ghost use Rattle.rob_top.specs.Calls.{count};
@@ -58,32 +59,41 @@ fn replay_cert<N: Exact + Drop, L: Ledger>(
         (robust N.value model.now) (certificate_of N.value cert) text.now) }
     ensures counted { L.wides ledger.old ≤ L.wides ledger.new }
 {
-    match cert.status {
+    let status = cert.status;
+    let plan = take_plan(cert);
+    match status {
         Status::Infeasible => no_plan(alloc),
-        Status::Optimal => replay_plan(alloc, model, cert, text, ledger),
-        Status::Unbounded => replay_plan(alloc, model, cert, text, ledger),
+        Status::Optimal => replay_plan(alloc, model, &plan, text, ledger),
+        Status::Unbounded => replay_plan(alloc, model, &plan, text, ledger),
     }
 }
 
-/// The answer for a certificate that has a plan.
-fn replay_plan<N: Exact + Drop, L: Ledger>(
+/// The plan of a certificate, with its value as the bound. What else is in it is let go of here alone.
+pub fn take_plan<N: Exact + Drop>(cert: Cert<N>) -> Plan<N>
+    ensures plan { result ≡ record { columns = cert.plan; bound = cert.value } }
+{
+    Plan {
+        columns: cert.plan,
+        bound: cert.value,
+    }
+}
+
+/// The answer at a plan with its bound, for each certificate that has them.
+fn replay_plan<N: Exact, L: Ledger>(
     alloc: Global,
     model: &Model<N>,
-    cert: Cert<N>,
+    plan: &Plan<N>,
     text: &[u8],
     ledger: &mut L,
 ) -> Result<Reply, Memory>
     requires valid { IsValid N.value model.now }
-    ensures answers { IfOk result (AnswersScenarios N.limit
-        (count (L.wides ledger.old) (L.wides ledger.new))
-        (robust N.value model.now) (certificate_of N.value cert) text.now) }
+    ensures answers { IfOk result (λ reply. (c : Certificate)
+        → c.plan ≡ plan_of N.value plan.now → c.value ≡ N.value plan.now.bound
+        → AnswersScenarios N.limit (count (L.wides ledger.old) (L.wides ledger.new))
+        (robust N.value model.now) c text.now reply) }
     ensures counted { L.wides ledger.old ≤ L.wides ledger.new }
 {
-    let plan = Plan {
-        columns: cert.plan,
-        bound: cert.value,
-    };
-    match replay(alloc, model, &plan, text, ledger) {
+    match replay(alloc, model, plan, text, ledger) {
         Ok(table) => printed(alloc, model, &table),
         Err(ReplayErr::Rule(rule, number)) => {
             broken_rule(

@@ -18,6 +18,7 @@ ghost use Rattle.rob_top.specs.SearchWork.{AnswersPlanned, AnswersSearch, Answer
 ghost use Rattle.rob_worst.specs.Finding.{HasConstantWithin};
 ghost use Rattle.rob_worst.specs.Vectors.{plan_of};
 
+use crate::replaying::take_plan;
 use crate::solving::stopped;
 use crate::work::too_wide;
 use rob_cert::{Cert, CertErr, Status, Worst, read_cert};
@@ -77,39 +78,36 @@ fn search_cert<N: Exact + Drop, L: Ledger>(
         (robust N.value model.now) (certificate_of N.value cert) name.now) }
     ensures counted { L.wides ledger.old ≤ L.wides ledger.new }
 {
-    match cert.status {
+    let status = cert.status;
+    let plan = take_plan(cert);
+    match status {
         Status::Infeasible => no_plan(alloc),
-        Status::Optimal => search_plan(alloc, model, elaborated, cert, name, ledger),
-        Status::Unbounded => search_plan(alloc, model, elaborated, cert, name, ledger),
+        Status::Optimal => search_plan(alloc, model, elaborated, &plan, name, ledger),
+        Status::Unbounded => search_plan(alloc, model, elaborated, &plan, name, ledger),
     }
 }
 
-/// The answer for a certificate that has a plan.
+/// The answer at a plan with its bound, for each certificate that has them.
 fn search_plan<N: Exact + Drop, L: Ledger>(
     alloc: Global,
     model: &Model<N>,
     elaborated: Elaborated,
-    cert: Cert<N>,
+    plan: &Plan<N>,
     name: &[u8],
     ledger: &mut L,
 ) -> Result<Reply, Memory>
     requires valid { IsValid N.value model.now }
     requires elaborated { IsElaborated N.limit (robust N.value model.now)
         elaborated.forms.now elaborated.set.now }
-    requires size { length cert.plan ≡ column_count (robust N.value model.now) }
-    ensures answers { IfOk result (AnswersPlanned N.limit
-        (count (L.wides ledger.old) (L.wides ledger.new))
-        (robust N.value model.now) (certificate_of N.value cert) name.now) }
+    requires size { length plan.now.columns ≡ column_count (robust N.value model.now) }
+    ensures answers { IfOk result (λ reply. (c : Certificate) → plan_of N.value plan.now
+        ≡ certificate_vector c
+        → AnswersPlanned N.limit (count (L.wides ledger.old) (L.wides ledger.new))
+        (robust N.value model.now) c name.now reply) }
     ensures counted { L.wides ledger.old ≤ L.wides ledger.new }
 {
     match find_form(model, name) {
-        Some(form) => {
-            let plan = Plan {
-                columns: cert.plan,
-                bound: cert.value,
-            };
-            search_form(alloc, model, elaborated, form, &plan, ledger)
-        }
+        Some(form) => search_form(alloc, model, elaborated, form, plan, ledger),
         None => fault(alloc, Ended::NoRow, b"no row ", name),
     }
 }

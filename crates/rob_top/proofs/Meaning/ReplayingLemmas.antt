@@ -1,5 +1,6 @@
 -- The answers of `replay`, from what the reading of a certificate and the replaying of a scenario file answer.
 use Rattle.std.proofs.Common.{◌≡◌, ◌≢◌, ℕ, ◌≤◌, true, List, Result, Ok, Err, IfOk, refl, subst, sym, ap, ◌∙◌}
+use Rattle.rob_algebra.specs.Fraction.{Fraction}
 use Rattle.rob_cert.specs.Apart.{FitsLines}
 use Rattle.rob_cert.specs.Whole.{IsTextOf}
 use Rattle.rob_cert.specs.declared.certificate.Status.TheVariants as status
@@ -122,6 +123,50 @@ module _ (limit : ℕ) (m : RobustModel) where
     plan_answers wides (Ok reply) some h =
         λ call line at given.
         h call line at (record { plan = record { certificate = given.0; has_plan = some }; file = given.1 })
+
+  -- ---- a plan with its bound, and a scenario file: an answer for each certificate that has them
+  module _ (plan : List Fraction) (bound : Fraction) (text : List ℕ) where
+    abbrev AnswersAt : Count → Reply → Type 0
+    AnswersAt wides reply =
+        (c : Certificate) → c.plan ≡ plan → c.value ≡ bound → AnswersScenarios limit wides m c text reply
+
+    pub table_at : (wides : Count) (lines : List replay.Line) (r : Result Reply Want)
+        → (rows : List (List (List ℕ))) × IsFile text rows × IsTable limit m plan rows lines
+        → Gives (outcome limit m plan) text (Ok lines)
+        → (HasBound m plan bound → Each (ShowsBound m bound) lines)
+        → IfOk r (Replies Printed (table_of m lines)) → IfOk r (AnswersAt wides)
+    table_at wides lines (Err want) table gives bounded is = tt
+    table_at wides lines (Ok reply) table gives bounded is = λ c same alike.
+        table_answers c text wides lines (Ok reply)
+        (subst (λ (p : List Fraction). (rows : List (List (List ℕ))) × IsFile text rows × IsTable limit m p rows lines)
+        (sym same) table)
+        (subst (λ (p : List Fraction). Gives (outcome limit m p) text (Ok lines)) (sym same) gives)
+        (subst (λ (p : List Fraction). HasBound m p c.value → Each (ShowsBound m c.value) lines) (sym same)
+        (subst (λ (b : Fraction). HasBound m plan b → Each (ShowsBound m b) lines) (sym alike) bounded))
+        is
+
+    pub record_at : (wides : Count) (rule number : ℕ) (r : Result Reply Want)
+        → Gives (outcome limit m plan) text (Err (breaks rule number))
+        → IfOk r (Replies (Scenarios rule number) (scenarios_fault_text rule number)) → IfOk r (AnswersAt wides)
+    record_at wides rule number (Err want) gives is = tt
+    record_at wides rule number (Ok reply) gives is = λ c same alike.
+        record_answers c text wides rule number (Ok reply)
+        (subst (λ (p : List Fraction). Gives (outcome limit m p) text (Err (breaks rule number))) (sym same) gives) is
+
+    pub wide_at : (before now number : ℕ) (r : Result Reply Want)
+        → Gives (outcome limit m plan) text (Err (is_wide number)) → Rose before now
+        → IfOk r (Replies (TooWide (spot.Replay number)) (too_wide_line m (spot.Replay number)))
+        → IfOk r (AnswersAt (count before now))
+    wide_at before now number (Err want) gives rose is = tt
+    wide_at before now number (Ok reply) gives rose is = λ c same alike.
+        wide_answers c text before now number (Ok reply)
+        (subst (λ (p : List Fraction). Gives (outcome limit m p) text (Err (is_wide number))) (sym same) gives) rose is
+
+    -- for one of them
+    pub at_certificate : (wides : Count) (c : Certificate) (r : Result Reply Want) → c.plan ≡ plan → c.value ≡ bound
+        → IfOk r (AnswersAt wides) → IfOk r (AnswersScenarios limit wides m c text)
+    at_certificate wides c (Err want) same alike h = tt
+    at_certificate wides c (Ok reply) same alike h = h c same alike
 
   -- ---- a certificate's text
   pub unread_answers : (wides : Count) (certificate text : List ℕ) (rule number : ℕ) (r : Result Reply Want)

@@ -1,5 +1,5 @@
 -- The answers of `worst` where the search stops, and what the search asks for.
-use Rattle.std.proofs.Common.{◌≡◌, ◌≢◌, ℕ, ◌<◌, ◌≤◌, nat_abs, List, [], ◌∷◌, false, length, map, Result, Ok, Err, IfOk, inl, inr, refl, subst, sym, ap, ◌∙◌, arith, length-append}
+use Rattle.std.proofs.Common.{◌≡◌, ◌≢◌, ℕ, ◌<◌, ◌≤◌, nat_abs, List, [], ◌∷◌, false, length, map, None, Some, Result, Ok, Err, IfOk, inl, inr, refl, subst, sym, ap, ◌∙◌, arith, length-append}
 use Rattle.std.proofs.lemmas.List.{length-map}
 use Rattle.rob_algebra.specs.Fraction.{Fraction, of_int}
 use Rattle.rob_algebra.specs.Width.{Fits}
@@ -11,9 +11,11 @@ use Rattle.rob_dualize.specs.SetSolving.{IsWideInSet}
 use Rattle.rob_dualize.specs.Solving.{CountsStop}
 use Rattle.rob_meaning.specs.Certificates.{Certificate, Status, infeasible, optimal, unbounded}
 use Rattle.rob_meaning.specs.Forms.{form_columns, forms}
+use Rattle.rob_meaning.specs.Names.{form_names}
 use Rattle.rob_meaning.specs.Places.{Each}
 use Rattle.rob_meaning.specs.RobustModel.{RobustModel, column_count}
 use Rattle.rob_meaning.specs.WellFormed.{IsModel}
+use Rattle.rob_model.specs.Naming.{Finds}
 use Rattle.rob_model.specs.declared.place.Program.TheVariants as program
 use Rattle.rob_model.specs.declared.place.Spot.{Spot}
 use Rattle.rob_model.specs.declared.place.Spot.TheVariants as spot
@@ -25,18 +27,22 @@ use Rattle.rob_report.specs.Places.{IsSpotOf}
 use Rattle.rob_report.specs.Spots.{too_wide_line}
 use Rattle.rob_top.proofs.Meaning.DefaultRoutes.{told_alone}
 use Rattle.rob_words.specs.Verbs.{takes_route}
+use Rattle.rob_words.specs.Values.{Word}
+use Rattle.rob_commands.specs.Answers.{no_row_text}
+use Rattle.rob_commands.specs.Replies.{Replies}
 use Rattle.rob_worst.specs.Finding.{HasCause, IsWideAt, Tells}
 use Rattle.rob_worst.specs.Vectors.{plan_of}
 use Rattle.rob_top.proofs.Meaning.RouteLemmas.{no_rounds}
-use Rattle.rob_top.proofs.Meaning.SearchingLemmas.{found_answers_as, form_matrix}
-use Rattle.rob_top.specs.Calls.{count}
+use Rattle.rob_top.proofs.Meaning.SearchingLemmas.{found_answers_as, form_matrix, named_answers, no_row_answers}
+use Rattle.rob_top.specs.Calls.{Count, count}
 use Rattle.rob_top.specs.Headline.{Means}
 use Rattle.rob_top.specs.Refused.{searching}
 use Rattle.rob_top.specs.Searched.{IsWideSought, certificate_vector, in_search, in_set}
-use Rattle.rob_top.specs.SearchWork.{AnswersSought, RepliesWorst}
+use Rattle.rob_top.specs.SearchWork.{AnswersPlanned, AnswersSought, RepliesWorst}
 use Rattle.rob_top.specs.WorkStops.{IsStopOf, RepliesStop}
 use Rattle.rob_top.specs.Ways.{in_model, while_searching}
 use Rattle.rob_commands.specs.declared.ended.Ended.{Ended}
+use Rattle.rob_commands.specs.declared.ended.Ended.TheVariants.{NoRow}
 use Rattle.rob_commands.specs.declared.reply.Reply.{Reply}
 use Rattle.rob_words.specs.declared.route.Route.TheVariants.{Dual}
 
@@ -175,9 +181,27 @@ module _ {N : Type 0} (value : N → Fraction) (limit : ℕ) (m : RobustModel) (
       (subst (λ (z : List Fraction). Tells value m form z worst) same tells)
       (subst (λ n. RepliesWorst limit m form (count n now) value worst reply) kept is)
 
-  -- at the plan of a certificate
-  pub sought_answers : (before now : ℕ) (c : Certificate) (r : Result Reply Want)
-      → plan_of value plan ≡ certificate_vector c
-      → IfOk r (AnswersPlan before now) → IfOk r (AnswersSought limit (count before now) m c form)
-  sought_answers before now c (Err want) same h = tt
-  sought_answers before now c (Ok reply) same h = h c same
+-- ---- at the plan, with the name of a form: an answer for each certificate that has the plan
+module _ {N : Type 0} (value : N → Fraction) (limit : ℕ) (m : RobustModel) (plan : Plan N) (name : Word)
+    (wides : Count) where
+  abbrev AnswersNamed : Reply → Type 0
+  AnswersNamed reply =
+      (c : Certificate) → plan_of value plan ≡ certificate_vector c → AnswersPlanned limit wides m c name reply
+
+  pub no_row_at : (r : Result Reply Want) → Finds (form_names m) name None → IfOk r (Replies NoRow (no_row_text name))
+      → IfOk r AnswersNamed
+  no_row_at (Err want) finds is = tt
+  no_row_at (Ok reply) finds is = λ c same. no_row_answers limit m name c wides (Ok reply) finds is
+
+  pub named_at : (form : ℕ) (r : Result Reply Want) → Finds (form_names m) name (Some form)
+      → IfOk r (λ reply. (c : Certificate) → plan_of value plan ≡ certificate_vector c
+      → AnswersSought limit wides m c form reply)
+      → IfOk r AnswersNamed
+  named_at form (Err want) finds h = tt
+  named_at form (Ok reply) finds h = λ c same. named_answers limit m name c wides form (Ok reply) finds (h c same)
+
+  -- for one of them
+  pub at_certificate : (c : Certificate) (r : Result Reply Want) → plan_of value plan ≡ certificate_vector c
+      → IfOk r AnswersNamed → IfOk r (AnswersPlanned limit wides m c name)
+  at_certificate c (Err want) same h = tt
+  at_certificate c (Ok reply) same h = h c same

@@ -1,6 +1,7 @@
-use Rattle.std.proofs.Common.{ap}
+use Rattle.std.proofs.Common.{ap, sym}
 use Rattle.rob_cert.specs.View.{certificate_of, status_of}
-use Rattle.rob_top.proofs.Meaning.ReplayingLemmas.{plan_answers, planless_answers}
+use Rattle.rob_model.specs.View.{plan_of, robust}
+use Rattle.rob_top.proofs.Meaning.ReplayingLemmas.{at_certificate, plan_answers, planless_answers}
 use Rattle.rob_commands.proofs.PlanLemmas.{optimal_planned, unbounded_planned}
 use Rattle.rob_top.proofs.replaying.replay_cert.Goals as goal
 
@@ -12,9 +13,20 @@ returns-in-Infeasible-clause-answers g c =
 pub returns-in-Optimal-clause-answers : goal.returns-in-Optimal-clause-answers
 returns-in-Optimal-clause-answers g c =
     plan_answers _ _ (certificate_of g.N.Exact.value c.args.cert) c.args.text.now _ c.replay_plan.result
-    (optimal_planned c.args.cert.status c.in-Optimal.is) c.replay_plan.ensures.answers
+    (optimal_planned c.args.cert.status c.in-Optimal.is)
+    (at_certificate g.N.Exact.limit (robust g.N.Exact.value c.args.model.now)
+    (plan_of g.N.Exact.value c.take_plan-plan.result) (g.N.Exact.value c.take_plan-plan.result.bound) c.args.text.now _
+    (certificate_of g.N.Exact.value c.args.cert) c.replay_plan.result
+    (ap (plan_of g.N.Exact.value) (sym c.take_plan-plan.ensures.plan))
+    (ap (λ plan. g.N.Exact.value plan.bound) (sym c.take_plan-plan.ensures.plan)) c.replay_plan.ensures.answers)
 
-pub returns-in-Unbounded-clause-answers : goal.returns-in-Unbounded-clause-answers
-returns-in-Unbounded-clause-answers g c =
+pub returns-clause-answers : goal.returns-clause-answers
+returns-clause-answers g c =
     plan_answers _ _ (certificate_of g.N.Exact.value c.args.cert) c.args.text.now _ c.replay_plan-in-Unbounded.result
-    (unbounded_planned c.args.cert.status c.in-Unbounded.is) c.replay_plan-in-Unbounded.ensures.answers
+    (unbounded_planned c.args.cert.status c.in-Unbounded.is)
+    (at_certificate g.N.Exact.limit (robust g.N.Exact.value c.args.model.now)
+    (plan_of g.N.Exact.value c.take_plan-plan.result) (g.N.Exact.value c.take_plan-plan.result.bound) c.args.text.now _
+    (certificate_of g.N.Exact.value c.args.cert) c.replay_plan-in-Unbounded.result
+    (ap (plan_of g.N.Exact.value) (sym c.take_plan-plan.ensures.plan))
+    (ap (λ plan. g.N.Exact.value plan.bound) (sym c.take_plan-plan.ensures.plan))
+    c.replay_plan-in-Unbounded.ensures.answers)

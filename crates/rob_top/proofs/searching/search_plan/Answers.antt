@@ -1,10 +1,9 @@
-use Rattle.std.proofs.Common.{arith, refl}
-use Rattle.rob_cert.specs.View.{certificate_of}
+use Rattle.std.proofs.Common.{arith}
 use Rattle.rob_meaning.proofs.Naming.NameLemmas.{length-form_names}
 use Rattle.rob_meaning.specs.Names.{form_names}
 use Rattle.rob_model.specs.View.{robust}
-use Rattle.rob_top.proofs.Meaning.SearchStops.{sought_answers}
-use Rattle.rob_top.proofs.Meaning.SearchingLemmas.{name_found, named_answers, no_row_answers}
+use Rattle.rob_top.proofs.Meaning.SearchStops.{named_at, no_row_at}
+use Rattle.rob_top.proofs.Meaning.SearchingLemmas.{name_found}
 use Rattle.rob_top.proofs.searching.search_plan.Goals as goal
 
 pub search_form-requires-clause-form_in : goal.search_form-requires-clause-form_in
@@ -18,15 +17,10 @@ search_form-requires-clause-form_in g c =
 
 pub returns-in-Some-clause-answers : goal.returns-in-Some-clause-answers
 returns-in-Some-clause-answers g c =
-    let m = robust g.N.Exact.value c.args.model.now in
-    named_answers g.N.Exact.limit m c.args.name.now (certificate_of g.N.Exact.value c.args.cert) _
-    c.in-Some.form c.search_form.result
-    c.in-Some.ensures.found
-    (sought_answers g.N.Exact.value g.N.Exact.limit m c.in-Some.form _ _ _ (certificate_of g.N.Exact.value c.args.cert)
-    c.search_form.result refl
-    c.search_form.ensures.answers)
+    named_at g.N.Exact.value g.N.Exact.limit (robust g.N.Exact.value c.args.model.now) c.args.plan.now c.args.name.now _
+    c.in-Some.form c.search_form.result c.in-Some.ensures.found c.search_form.ensures.answers
 
 pub returns-in-None-clause-answers : goal.returns-in-None-clause-answers
 returns-in-None-clause-answers g c =
-    no_row_answers g.N.Exact.limit (robust g.N.Exact.value c.args.model.now) c.args.name.now
-    (certificate_of g.N.Exact.value c.args.cert) _ c.fault.result c.in-None.ensures.found c.fault.ensures.fault
+    no_row_at g.N.Exact.value g.N.Exact.limit (robust g.N.Exact.value c.args.model.now) c.args.plan.now c.args.name.now
+    _ c.fault.result c.in-None.ensures.found c.fault.ensures.fault
