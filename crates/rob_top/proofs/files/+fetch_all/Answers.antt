@@ -1,5 +1,5 @@
 use Rattle.std.proofs.Common.{◌∙◌, ap, refl, sym, string_bytes}
-use Rattle.rob_top.proofs.Fetching.FetchesLemmas.{words_asked}
+use Rattle.rob_top.proofs.Fetching.FetchesLemmas.{files_short, words_asked, words_later, words_once}
 use Rattle.rob_top.proofs.Fetching.FilesLemmas.{got_answer, got_bytes, none_of}
 use Rattle.rob_top.proofs.Fetching.FirstWordLemmas.{words_absent, words_fetched, words_passed}
 use Rattle.rob_top.specs.Calls.{count, source_of}
@@ -68,3 +68,32 @@ returns-in_default-clause-fetched g t c =
     (g.S.Shelf.log c.fetch_all.new.shelf))
     (count (g.S.Shelf.faults c.args.shelf.now) (g.S.Shelf.faults c.fetch_all.new.shelf)) c.fetch_all.result
     c.fetch_all.ensures.fetched
+
+pub returns-in_default-clause-asked : goal.returns-in_default-clause-asked
+returns-in_default-clause-asked g t c =
+    words_later string_bytes c.args.kinds.now c.args.names.now _ c.name-item.result _ c.in-len1-up.len_at_least
+    c.in-len1-up-names.len_at_least refl
+    (sym c.most_bytes.ensures.most ∙ none_of c.most_bytes.result c.in_default.not-Some)
+    (g.S.Shelf.log c.args.shelf.now) (g.S.Shelf.log c.fetch_all.new.shelf) c.fetch_all.ensures.asked
+
+pub returns-in_err-bytes-in-len1-up-names-clause-asked : goal.returns-in_err-bytes-in-len1-up-names-clause-asked
+returns-in_err-bytes-in-len1-up-names-clause-asked g t c =
+    words_once string_bytes c.args.kinds.now c.args.names.now _ c.name-item.result c.as_str.result.now
+    c.in-len1-up.len_at_least c.in-len1-up-names.len_at_least
+    (c.as_str.ensures.value ∙ ap string_bytes c.name-item.is) c.in-Some.most
+    (sym c.most_bytes.ensures.most ∙ c.in-Some.is) (g.S.Shelf.log c.args.shelf.now)
+    (g.S.Shelf.log c.get.new.shelf) c.get.ensures.asked
+
+pub returns-in-Answer-clause-asked : goal.returns-in-Answer-clause-asked
+returns-in-Answer-clause-asked g t c =
+    words_once string_bytes c.args.kinds.now c.args.names.now _ c.name-item.result c.as_str.result.now
+    c.in-len1-up.len_at_least c.in-len1-up-names.len_at_least
+    (c.as_str.ensures.value ∙ ap string_bytes c.name-item.is) c.in-Some.most
+    (sym c.most_bytes.ensures.most ∙ c.in-Some.is) (g.S.Shelf.log c.args.shelf.now)
+    (g.S.Shelf.log c.get.new.shelf) c.get.ensures.asked
+
+pub returns-in_ok-rest-in-Bytes-clause-short : goal.returns-in_ok-rest-in-Bytes-clause-short
+returns-in_ok-rest-in-Bytes-clause-short g t c =
+    files_short _ c.in-Some.most c.in-Bytes.bytes _ c.in_ok-rest-in-Bytes.rest c.with_bytes.result
+    (sym c.most_bytes.ensures.most ∙ c.in-Some.is) c.in-Bytes.is c.in_ok-bytes-in-len1-up-names.ensures.within
+    c.in_ok-rest-in-Bytes.ensures.short c.with_bytes.ensures.with
