@@ -2,7 +2,8 @@
 -- read up to some name, and that there is one list of numbers.
 use Rattle.std.proofs.Common.{◌≡◌, ◌≢◌, ℕ, suc, ◌<◌, ◌≤◌, List, [], ◌∷◌, ◌++◌, map, length, Option, Some, None, IfSome, refl, sym, ◌∙◌, ap, subst, inl, inr, arith, append_assoc}
 use Rattle.std.proofs.lemmas.List.{append-nil, append_cancel_left, map-append}
-use Rattle.std.specs.Prelude.{option_map}
+use Rattle.std.proofs.lemmas.Option.{get_or_from_slice_get, slice_get-get_or}
+use Rattle.std.specs.Prelude.{option_map, slice_get}
 use Rattle.rob_cert.proofs.Readers.CoverLemmas.{one_number}
 use Rattle.rob_cert.specs.Spelling.{name_at}
 use Rattle.rob_meaning.proofs.Lists.DistinctLemmas.{Apart, distinct_apart, distinct_append}
@@ -15,6 +16,7 @@ use Rattle.rob_meaning.specs.Places.{Each}
 use Rattle.rob_meaning.specs.RobustModel.{RobustModel, column_count}
 use Rattle.rob_meaning.specs.WellFormed.{IsModel}
 use Rattle.rob_model.proofs.OwnNames.{columns_distinct}
+use Rattle.rob_model.specs.Naming.{FindsOwn}
 use Rattle.rob_reach.specs.Ranges.{KeepsNames}
 use Rattle.rob_reach.specs.Trees.{IsIn}
 use Rattle.rob_top.specs.Inputs.{AreVariables}
@@ -40,6 +42,9 @@ pub some_mapped : {A : Type 0} (f : A → List ℕ) (P : List ℕ → Type 0) (o
 some_mapped f P None h = tt
 some_mapped f P (Some a) h = h
 
+one_some : {A : Type 0} (a b : A) → Some a ≡ Some b → a ≡ b
+one_some a b e = cc
+
 module _ (m : RobustModel) where
   abbrev name_of : ℕ → Name
   name_of k = name_at (column_names m) k
@@ -60,6 +65,33 @@ module _ (m : RobustModel) where
       → (j < length m.variables) × (name_of j ≡ name)
       × ((k : ℕ) → k < length m.variables → name_of k ≡ name → k ≡ j) → IsVariable name j
   variable_is name j h = record { inside = h.0; named = h.1; alone = h.2 }
+
+  -- ---- what is found of a name
+  module _ (name : Name) where
+    is_found : (found : Option ℕ) → FindsOwn (column_names m) name found → (k : ℕ) → k < length m.variables
+        → name_of k ≡ name → found ≡ Some k
+    is_found found own k h e = own k (slice_get-get_or (column_names m) k [] (column_in k h) ∙ ap Some e)
+
+    -- no number
+    pub none_found : FindsOwn (column_names m) name None → (k : ℕ) → k < length m.variables → name_of k ≡ name → ⊥
+    none_found own k h e = let no : None ≡ Some k = is_found None own k h e in cc
+
+    -- that of a column behind the variables
+    pub other_found : (j : ℕ) → FindsOwn (column_names m) name (Some j) → length m.variables ≤ j → (k : ℕ)
+        → k < length m.variables → name_of k ≡ name → ⊥
+    other_found j own behind k h e =
+        let same : j ≡ k = one_some j k (is_found (Some j) own k h e) in absurd (omega (arith, same, behind, h))
+
+    -- a variable's
+    pub variable_found : (j : ℕ) → FindsOwn (column_names m) name (Some j)
+        → slice_get (column_names m) j ≡ Some name → j < length m.variables
+        → (j < length m.variables) × (name_of j ≡ name)
+        × ((k : ℕ) → k < length m.variables → name_of k ≡ name → k ≡ j)
+    variable_found j own named inside = (
+      inside,
+      get_or_from_slice_get (column_names m) j name [] named,
+      λ k h e. sym (one_some j k (is_found (Some j) own k h e)),
+    )
 
   -- ---- names one by one
 
