@@ -139,7 +139,7 @@ module _ (m : RobustModel) where
 -- ---- what was found of a word of cuts
 pub not_three_told : {A B : Type 0} (f : A → B) (xs ys : List A) → xs ≡ ys → (length xs ≡ 3 → ⊥)
     → length (map f ys) ≡ 3 → ⊥
-not_three_told f xs ys same other full = other (ap (λ zs. length zs) same ∙ sym (length-map ys f) ∙ full)
+not_three_told f = lists.told_unfilled f 3
 
 pub told_count : {A B : Type 0} (f : A → B) (xs : List A) → (0 < length (map f xs)) × (length (map f xs) ≤ 3)
     → (0 < length xs) × (length xs ≤ 3)

@@ -1,12 +1,22 @@
 -- What the parts of a word's list tell, read from the left.
-use Rattle.std.proofs.Common.{◌≡◌, ◌≤◌, ◌+◌, ◌∙◌, ℕ, List, [], ◌∷◌, ◌++◌, length, Option, None, Some, sym, ap, subst, arith, append_assoc}
-use Rattle.std.proofs.lemmas.List.{append-nil, length-append}
+use Rattle.std.proofs.Common.{◌≡◌, ◌≤◌, ◌+◌, ◌∙◌, ℕ, List, [], ◌∷◌, ◌++◌, length, map, Option, None, Some, sym, ap, subst, arith, append_assoc}
+use Rattle.std.proofs.lemmas.List.{append-nil, length-append, length-map}
 use Rattle.rob_words.specs.Names.{AreAll, IsListOf, parts_behind, parts_of}
 use Rattle.rob_words.specs.Values.{Word}
 
 -- so many at most, where they weren't yet as many
 grown_within : (most a b : ℕ) → b ≡ a + 1 → a ≤ most → (a ≡ most → ⊥) → b ≤ most
 grown_within most a b e few more = grind arith
+
+-- what is told is so many, as what it was read from is
+pub told_filled : {A B : Type 0} (f : A → B) (most : ℕ) (xs ys : List A) → xs ≡ ys → length xs ≡ most
+    → length (map f ys) ≡ most
+told_filled f most xs ys same full = length-map ys f ∙ ap length (sym same) ∙ full
+
+-- and isn't where that isn't
+pub told_unfilled : {A B : Type 0} (f : A → B) (most : ℕ) (xs ys : List A) → xs ≡ ys → (length xs ≡ most → ⊥)
+    → length (map f ys) ≡ most → ⊥
+told_unfilled f most xs ys same other full = other (ap length same ∙ sym (length-map ys f) ∙ full)
 
 -- parts are of this kind; words tell things, of which so many may be told; what words tell has one thing more than what
 -- those behind the first one tell
