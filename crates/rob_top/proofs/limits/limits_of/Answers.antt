@@ -1,8 +1,8 @@
-use Rattle.std.proofs.Common.{◌<◌, ◌≤◌, ap, arith, length, map, refl, subst}
+use Rattle.std.proofs.Common.{◌<◌, ◌≤◌, ap, arith, length, map, refl, subst, sym}
 use Rattle.std.proofs.lemmas.List.{length-map}
 use Rattle.std.specs.Prelude.{option_map}
+use Rattle.rob_syntax.proofs.Fronts.PartLemmas.{pushed}
 use Rattle.rob_words.specs.Names.{most_in_list, parts_behind, parts_of}
-use Rattle.rob_top.proofs.Telling.CutTellingLemmas.{told_grown}
 use Rattle.rob_top.proofs.Telling.LimitLemmas.{HasTold, no_limit, told_all, told_more, told_part, too_many}
 use Rattle.rob_top.proofs.Telling.NumberingLemmas.{left_less, some_mapped}
 use Rattle.rob_top.proofs.Telling.ToldLemmas.{told_filled, told_unfilled}
@@ -47,7 +47,7 @@ loop-rest-preserved g c =
     let told = map value c.loop-rest.limits in
     let behind = option_map (λ word. word.now) c.first_part.result.1 in (
       subst (λ limits. HasTold g.N.Exact.limit all limits (parts_behind behind))
-          (told_grown value c.loop-rest.limits c.push.new.self c.in-Some-limit_of.limit c.in_ok-push.ensures.appended)
+          (sym (pushed value c.loop-rest.limits c.in-Some-limit_of.limit c.in_ok-push.ensures.appended))
           (told_more g.N.Exact.limit all told c.first_part.result.0.now (parts_behind behind)
           (told_part g.N.Exact.limit all told (option_map (λ word. word.now) c.loop-rest.rest) c.in-Some.word.now
           c.first_part.result.0.now behind c.loop-rest.invariant.0 (ap (option_map (λ word. word.now)) c.in-Some.is)
